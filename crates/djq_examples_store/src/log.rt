@@ -8,9 +8,9 @@ use std::test::Fail;
 
 /// The file after two rounds: the lines in the order in which they were run.
 const ROUNDS_FILE: &[u8] =
-    b"DJQLOG1\n\x01\0\x09rel r int\x01\0\x07add r 3\x01\0\x07add r 1\x01\0\x07add r 4\x01\0\x07add r 2\x01\0\x07add r 5\0";
+    b"DJQLOG2\n\xff\0\0\0\0\0\0//\x15\xabD\x95\xe3\xd1\x15\xd3\0\x09rel r int\0\x07add r 3\0\x07add r 1\0\x07add r 4\0\x07add r 2\xff\0\0\0\0\0\0\x09\x09{\xcaF}G\xdbc\xab\0\x07add r 5\0";
 
-/// Three lines that are kept, and one that isn't.
+/// Three lines that are logged, and one that isn't.
 const ROW: &[u8] = b"open 1\nsay 1 rel r int\nsay 1 add r 7\nsay 1 add r 7\nsay 1 del r 9\n";
 
 /// What they are answered.
@@ -18,6 +18,9 @@ const ROW_LINES: &[u8] = b"1< ok\n1< ok added 1 1\n1< ok added 1 2\n1< ok absent
 
 /// Lines whose answers tell how many lines of the row were found.
 const PROBE: &[u8] = b"open 1\nsay 1 del r 7\nsay 1 del r 7\nsay 1 del r 7\n";
+
+/// The file of a log of the first format, with one line.
+const FIRST_FORMAT: &[u8] = b"DJQLOG1\n\x01\0\x09rel r int\0";
 
 /// These answers, by that number.
 const PROBED: [&[u8]; 4] = [
@@ -27,16 +30,16 @@ const PROBED: [&[u8]; 4] = [
     b"1< ok removed 1 1\n1< ok removed 2 0\n1< ok absent 2\n",
 ];
 
-/// A line that is kept, and a batch of two rows.
+/// A line that is logged, and a batch of two rows.
 const BATCH: &[u8] =
     b"open 1\nsay 1 rel r int\nsay 1 batch\nsay 1 add r 7\nsay 1 add r 8\nsay 1 done\n";
 
 /// What they are answered.
 const BATCH_LINES: &[u8] = b"1< ok\n1< ok batch\n1< ok held 1\n1< ok held 2\n1< ok done 1 2\n";
 
-/// The file behind them.
+/// The file after them.
 const BATCH_FILE: &[u8] =
-    b"DJQLOG1\n\x01\0\x09rel r int\x01\0\x05batch\x01\0\x07add r 7\x01\0\x07add r 8\x01\0\x04done\0";
+    b"DJQLOG2\n\xff\0\0\0\0\0\0\x0b\x0bW\x81\x8a\xec\xb0\xaa\x03\x87\0\x09rel r int\xff\0\0\0\0\0\0\x1f\x1fA\xceh<Y&\xc7\xa6\0\x05batch\0\x07add r 7\0\x07add r 8\0\x04done\0";
 
 /// Lines whose answers tell which of them were found: none, the first, or all.
 const BATCH_PROBE: &[u8] = b"open 1\nsay 1 del r 7\nsay 1 del r 8\n";
@@ -64,7 +67,7 @@ fn replay_logged(
 }
 
 /// How many groups of lines were found on a disk with these bytes, by what it answers to a probe; or
-/// `None` where it is none of these answers.
+/// `None` if it is none of these answers.
 fn groups_found(
     rt: &HostRuntime,
     bytes: &[u8],
@@ -94,7 +97,7 @@ fn syncs(calls: &[DiskCall]) -> u64 {
     done
 }
 
-/// The bytes behind these calls, with what was written since the last sync or without it.
+/// The bytes after these calls, with what was written since the last sync or without it.
 fn image(rt: &HostRuntime, calls: &[DiskCall], unsynced: bool) -> Result<Vec<u8>, Fail> {
     let all = syncs(calls);
     let mut done = 0u64;
@@ -113,7 +116,7 @@ fn image(rt: &HostRuntime, calls: &[DiskCall], unsynced: bool) -> Result<Vec<u8>
     Ok(bytes)
 }
 
-/// Writes a piece into bytes, behind zeros where they ended earlier.
+/// Writes a piece into bytes, after zeros if they ended earlier.
 fn put(bytes: &mut Vec<u8>, at: usize, piece: &[u8]) -> Result<(), Fail> {
     for (i, byte) in piece.iter().enumerate() {
         let place = at.saturating_add(i);
@@ -127,8 +130,8 @@ fn put(bytes: &mut Vec<u8>, at: usize, piece: &[u8]) -> Result<(), Fail> {
     Ok(())
 }
 
-/// The first call at which a stop leaves other than the groups that were answered and at most one more.
-/// Two syncs make and open the journal, and two more keep each group, behind which it is answered.
+/// The first call at which a crash leaves other than the groups that were answered and at most one more.
+/// Two syncs open and make the log, and two more append each group, after which it is answered.
 fn first_loss(
     rt: &HostRuntime,
     calls: &[DiskCall],
@@ -148,9 +151,9 @@ fn first_loss(
     Ok(None)
 }
 
-/// A stop leaves both rows of a batch or none.
+/// A crash leaves both rows of a batch or none.
 #[test]
-fn a_stop_at_each_call_leaves_whole_batches(rt: HostRuntime) -> Result<(), Fail> {
+fn a_crash_at_each_call_leaves_whole_batches(rt: HostRuntime) -> Result<(), Fail> {
     let mut disk = MemDisk::of(rt.alloc(), b"")?;
     let (status, lines) = replay_logged(&rt, &mut disk, BATCH)?;
     assert_eq!(rt; status, Status::Done);
@@ -162,7 +165,7 @@ fn a_stop_at_each_call_leaves_whole_batches(rt: HostRuntime) -> Result<(), Fail>
     Ok(())
 }
 
-/// Where a call fails nothing is answered that isn't kept, and all that was answered is found.
+/// If a call fails nothing is answered that isn't in the log, and all that was answered is found.
 #[test]
 fn a_call_that_fails_ends_the_program(rt: HostRuntime) -> Result<(), Fail> {
     for n in 1..40 {
@@ -187,7 +190,7 @@ fn serve_rounds(rt: &HostRuntime, disk: &mut MemDisk) -> Result<(Status, Vec<u8>
 }
 
 /// The five lines of two sessions in the first round are one commit, of two syncs; and so is the line of the
-/// second. Two syncs more make and open the journal.
+/// second. Two syncs more open and make the log.
 #[test]
 fn a_round_is_one_commit_for_all_sessions(rt: HostRuntime) -> Result<(), Fail> {
     let mut disk = MemDisk::of(rt.alloc(), b"")?;
@@ -200,7 +203,7 @@ fn a_round_is_one_commit_for_all_sessions(rt: HostRuntime) -> Result<(), Fail> {
     Ok(())
 }
 
-/// Where a call of a commit fails nothing of the commit is sent, to any session; and what an earlier one sent
+/// If a call of a commit fails nothing of the commit is sent, to any session; and what an earlier one sent
 /// stays sent.
 #[test]
 fn nothing_of_a_failed_commit_is_sent(rt: HostRuntime) -> Result<(), Fail> {
@@ -218,6 +221,37 @@ fn nothing_of_a_failed_commit_is_sent(rt: HostRuntime) -> Result<(), Fail> {
             FIRST_ROUND
         };
         assert_eq!(rt; lines.as_slice(), sent, "at {n}");
+    }
+    Ok(())
+}
+
+/// A log of the first format is read, and goes on as it is.
+#[test]
+fn a_log_of_the_first_format_goes_on(rt: HostRuntime) -> Result<(), Fail> {
+    let mut disk = MemDisk::of(rt.alloc(), FIRST_FORMAT)?;
+    let (status, lines) = replay_logged(&rt, &mut disk, b"open 1\nsay 1 add r 7\n")?;
+    assert_eq!(rt; status, Status::Done);
+    assert_eq!(rt; lines.as_slice(), b"1< ok added 1 1\n");
+    assert_eq!(rt; disk.bytes(), b"DJQLOG1\n\x01\0\x09rel r int\x01\0\x07add r 7\0");
+    Ok(())
+}
+
+/// A byte of the second record that changed is seen, at the record's gate; and its gate, once closed, ends the log.
+#[test]
+fn a_changed_byte_is_seen(rt: HostRuntime) -> Result<(), Fail> {
+    for place in 36..BATCH_FILE.len().saturating_sub(1) {
+        let mut bytes = BATCH_FILE.to_vec(rt.alloc())?;
+        if let Some(byte) = bytes.get_mut(place) {
+            *byte ^= 255;
+        }
+        let mut disk = MemDisk::of(rt.alloc(), &bytes)?;
+        let (status, _) = replay_logged(&rt, &mut disk, BATCH_PROBE)?;
+        let seen = if place == 36 {
+            Status::Done
+        } else {
+            Status::BadLog(36)
+        };
+        assert!(rt; status == seen, "at {place}");
     }
     Ok(())
 }

@@ -2,8 +2,11 @@ ghost use Rattle.std.specs.Prelude.{◌≡◌, ◌≤◌, length, slice_get};
 ghost use Rattle.std.specs.Option.{option_copied};
 
 use djq_disk::{DiskCall, DiskDid, MemDisk};
-use djq_journal::{Appended, Group, Journal, LINE_BYTES, Line, Made, Opened, create};
+use djq_journal::{Appended, Group, Journal, LINE_BYTES, Line, OneLine};
 use std::test::Fail;
+
+/// A journal without lines.
+const EMPTY: &[u8] = b"DJQLOG1\n\0";
 
 /// Lines that are kept one by one.
 const ROW: [&[u8]; 3] = [b"rel r int", b"add r 7", b"add r 7"];
@@ -56,17 +59,12 @@ impl<'a> Group for Many<'a> {
     }
 }
 
-/// A journal that was made and read to its end.
+/// A journal without lines that was read to its end.
 fn idle(disk: &mut MemDisk) -> Option<Journal> {
-    if create(disk) != Made::Done {
-        return None;
-    }
-    match Journal::open(disk) {
-        Opened::Ready(mut journal) => match journal.next_line(disk, &mut [0; 4096]) {
-            Line::End => Some(journal),
-            Line::Got(_) | Line::BadLog(_) | Line::Failed => None,
-        },
-        Opened::BadLog(_) | Opened::Failed => None,
+    let mut journal = Journal::first();
+    match journal.next_line(disk, &mut [0; 4096]) {
+        Line::End => Some(journal),
+        Line::Got(_) | Line::BadLog(_) | Line::Failed => None,
     }
 }
 
@@ -77,7 +75,7 @@ fn keep_row(disk: &mut MemDisk) -> Option<Journal> {
         if line.is_empty() || line.len() > LINE_BYTES {
             return None;
         }
-        match journal.append(disk, line) {
+        match journal.append_all(disk, &OneLine { line }) {
             Appended::Done(next) => journal = next,
             Appended::Failed | Appended::Full => return None,
         }
@@ -113,10 +111,7 @@ fn keep_many(disk: &mut MemDisk, line: &[u8], count: usize) -> bool
 /// What a file opens to, each line behind a bar, or `None` where it is bad.
 fn opened(rt: &HostRuntime, bytes: &[u8]) -> Result<Option<Vec<u8>>, Fail> {
     let mut disk = MemDisk::of(rt.alloc(), bytes)?;
-    let mut journal = match Journal::open(&mut disk) {
-        Opened::Ready(journal) => journal,
-        Opened::BadLog(_) | Opened::Failed => return Ok(None),
-    };
+    let mut journal = Journal::first();
     let mut text = Vec::new(rt.alloc());
     let mut buf = [0; 4096];
     for _ in 0..100 {
@@ -178,7 +173,7 @@ fn image(
     let all = syncs(calls);
     let mut done = 0u64;
     let mut since = 0usize;
-    let mut bytes = Vec::new(rt.alloc());
+    let mut bytes = EMPTY.to_vec(rt.alloc())?;
     for call in calls {
         match call {
             DiskCall::Writing(at, piece, _) => {
@@ -204,7 +199,7 @@ fn image(
 /// Whether each image behind these calls opens to whole groups, all that were acknowledged and at most
 /// one more.
 fn leaves_groups(rt: &HostRuntime, calls: &[DiskCall]) -> Result<bool, Fail> {
-    let acknowledged = syncs(calls).saturating_sub(2) / 2;
+    let acknowledged = syncs(calls) / 2;
     for other in [None, Some(0), Some(1), Some(255)] {
         for kept in 0..30 {
             let bytes = image(rt, calls, kept, other)?;
@@ -225,7 +220,7 @@ fn leaves_groups(rt: &HostRuntime, calls: &[DiskCall]) -> Result<bool, Fail> {
 
 #[test]
 fn a_row_takes_41_bytes(rt: HostRuntime) -> Result<(), Fail> {
-    let mut disk = MemDisk::of(rt.alloc(), b"")?;
+    let mut disk = MemDisk::of(rt.alloc(), EMPTY)?;
     assert!(rt; keep_row(&mut disk).is_some());
     let file = b"DJQLOG1\n\x01\0\x09rel r int\x01\0\x07add r 7\x01\0\x07add r 7\0";
     assert!(rt; disk.bytes() == file.as_slice());
@@ -238,13 +233,12 @@ fn a_row_takes_41_bytes(rt: HostRuntime) -> Result<(), Fail> {
     Ok(())
 }
 
-/// The calls of making and opening come first, in which nothing is kept yet.
 #[test]
 fn a_stop_at_each_call_leaves_whole_groups(rt: HostRuntime) -> Result<(), Fail> {
-    let mut disk = MemDisk::of(rt.alloc(), b"")?;
+    let mut disk = MemDisk::of(rt.alloc(), EMPTY)?;
     assert!(rt; keep_all(&mut disk));
     let calls = disk.calls().ok_or("the record is lost")?;
-    for n in 4..calls.len() {
+    for n in 0..calls.len() {
         assert!(rt; leaves_groups(&rt, &calls[..n])?);
     }
     assert!(rt; groups_of(&rt, disk.bytes())? == Some(4));
@@ -254,14 +248,12 @@ fn a_stop_at_each_call_leaves_whole_groups(rt: HostRuntime) -> Result<(), Fail> 
 #[test]
 fn a_call_that_fails_leaves_whole_groups(rt: HostRuntime) -> Result<(), Fail> {
     for n in 1..30 {
-        let mut disk = MemDisk::of(rt.alloc(), b"")?;
+        let mut disk = MemDisk::of(rt.alloc(), EMPTY)?;
         disk.fail_at(n)?;
         let well = keep_all(&mut disk);
         let calls = disk.calls().ok_or("the record is lost")?;
         assert!(rt; well == (calls.len() < n as usize));
-        if 2 < n {
-            assert!(rt; leaves_groups(&rt, calls)?);
-        }
+        assert!(rt; leaves_groups(&rt, calls)?);
     }
     Ok(())
 }
@@ -269,7 +261,7 @@ fn a_call_that_fails_leaves_whole_groups(rt: HostRuntime) -> Result<(), Fail> {
 /// A thousand records of 20 bytes are two pieces, and so five calls with the syncs and the gate.
 #[test]
 fn a_thousand_lines_are_written_in_two_pieces(rt: HostRuntime) -> Result<(), Fail> {
-    let mut disk = MemDisk::of(rt.alloc(), b"")?;
+    let mut disk = MemDisk::of(rt.alloc(), EMPTY)?;
     assert!(rt; keep_many(&mut disk, b"add r 123456 7890", 1000));
     let mut sizes = Vec::new(rt.alloc());
     for call in disk.calls().ok_or("the record is lost")? {
@@ -277,7 +269,7 @@ fn a_thousand_lines_are_written_in_two_pieces(rt: HostRuntime) -> Result<(), Fai
             sizes.push(piece.as_slice().len())?;
         }
     }
-    assert!(rt; sizes.as_slice() == [9, 16_380, 3_620, 1].as_slice());
+    assert!(rt; sizes.as_slice() == [16_380, 3_620, 1].as_slice());
     Ok(())
 }
 
@@ -285,11 +277,11 @@ fn a_thousand_lines_are_written_in_two_pieces(rt: HostRuntime) -> Result<(), Fai
 /// that weren't synced, leaves all of them or none.
 #[test]
 fn a_stop_between_pieces_leaves_all_or_none(rt: HostRuntime) -> Result<(), Fail> {
-    let mut disk = MemDisk::of(rt.alloc(), b"")?;
+    let mut disk = MemDisk::of(rt.alloc(), EMPTY)?;
     assert!(rt; keep_many(&mut disk, &[b'a'; 4096], 7));
     let calls = disk.calls().ok_or("the record is lost")?;
     let whole = 7 * 4097;
-    for n in 4..calls.len() {
+    for n in 0..calls.len() {
         for kept in [0, 1, 12_296, 12_297, 12_298, 24_594, 28_693] {
             for other in [None, Some(1), Some(255)] {
                 let bytes = image(&rt, &calls[..n], kept, other)?;

@@ -16,7 +16,8 @@
 //! schedule   djq_schedule   schedules of a hub, and what a hub sent
 //! load       djq_load        the lines of a generated load
 //! io         djq_io         sources, sinks and hubs in memory
-//! journal    djq_journal    files of lines, and what a crash leaves of them
+//! journal    djq_journal    logs of the first format, and what a crash leaves of them
+//! log        djq_log        logs that are made, read and appended to, of either format
 //! log_file   djq_log_file    logs of the second format: read, damaged, appended, after a crash
 //! file       djq_system       a file as a disk
 //! net        djq_system        a hub over TCP
@@ -33,6 +34,8 @@ mod io;
 mod journal;
 #[cfg(test)]
 mod load;
+#[cfg(test)]
+mod log;
 #[cfg(test)]
 mod log_file;
 #[cfg(test)]

@@ -4,25 +4,19 @@ use Rattle.std.proofs.Common.{◌∙◌, arith, append_assoc, length-append, len
 use Rattle.std.specs.List.{AllByRecursion, flat_map}
 use Rattle.std.proofs.Math.Seq.{take-append-add, take-append_seam, drop-append_seam}
 use Rattle.std.proofs.lemmas.List.{take-append-drop}
-use Rattle.std.proofs.lemmas.Grind.{flat_map-append}
-use Rattle.std.specs.Prelude.{Option, None, Some, slice_get}
 use Rattle.djq_disk.specs.declared.disk.DiskDid.{DiskDid}
 use Rattle.djq_disk.specs.declared.disk.DiskDid.TheVariants.{Done, Failed}
 use Rattle.djq_disk.specs.File.{Span, File, IsImage, IsOutsideSpan, IsSettled, settled, with_written, KeepsOutside}
 use Rattle.djq_disk.specs.File.{piece_put}
 use Rattle.djq_disk.specs.Leaving.{LeavesOnly, LeavesSince}
-use Rattle.djq_disk.specs.History.{History, moved_to, DiskWrites, Syncs, WhereHistoryTold}
+use Rattle.djq_disk.specs.History.{History, moved_to, DiskWrites, Syncs}
 use Rattle.djq_disk.specs.WritingDown.{WritesDown}
 use Rattle.djq_disk.proofs.Files.{all_append, all_so, leaves_none, leaves_move, leaves_more, leaves_so, write_keeps}
-use Rattle.djq_journal.specs.declared.journal.Appended.TheVariants.{Done as AppendedDone, Failed as Unappended}
-use Rattle.djq_journal.specs.declared.journal.Appended.TheVariants.{Full as Overflows}
-use Rattle.djq_journal.specs.declared.log.Kept.TheVariants.{All, Failed as KeptFailed, Full}
 use Rattle.djq_journal.specs.Format.{front, FileOpensTo, IsJournalLine, record_of}
 use Rattle.djq_journal.specs.Staging.{IsFirm, behind_gate, Stages, IsStaged, AppendsAt}
 use Rattle.djq_journal.specs.Standing.{IsIdle}
-use Rattle.djq_journal.specs.Appending.{gate_after, IsBeforeOrAfter, Appends}
-use Rattle.djq_journal.specs.Keeping.{whole_lines, OpensWithin, IsKeeping, KeepsOn}
-use Rattle.djq_journal.specs.Logging.{grouped, Keeps, HasPassed}
+use Rattle.djq_journal.specs.Appending.{gate_after, IsBeforeOrAfter}
+use Rattle.djq_journal.specs.Passing.{HasPassed}
 use Rattle.djq_journal.proofs.Records.{same_start, put_there, put_one, kept_around, front_more, opened_gate}
 
 -- ---- The part of a file that no write since the last sync was in.
@@ -332,126 +326,6 @@ gate_opened did lines group gate old mid synced new are_group some idle stages s
           leaves Done w,
         )
 
--- ---- Groups that are kept one after another.
-
--- the lines of some groups and one more
-lines_more : (found : List (List ℕ)) (groups : List (List (List ℕ))) (group : List (List ℕ))
-    → (found ++ whole_lines groups) ++ group ≡ found ++ whole_lines (groups ++ group ∷ [])
-lines_more found groups group =
-    append_assoc found (whole_lines groups) group
-    ∙ ap (λ (xs : List (List ℕ)). found ++ xs)
-    (sym (flat_map-append (λ (g : List (List ℕ)). g) groups (group ∷ [])
-    ∙ ap (λ (xs : List (List ℕ)). whole_lines groups ++ xs) (append-nil group)))
-
--- the lines of all groups
-opens_all : (found : List (List ℕ)) (groups : List (List (List ℕ))) (file : List ℕ)
-    → FileOpensTo (found ++ whole_lines groups) file → OpensWithin found groups (length groups) file
-opens_all found groups file opens = record
-    { whole = groups; later = []; cut = sym (append-nil groups); acknowledged = omega arith; opens = opens }
-
--- what opens within some groups does within more of them
-more_groups : (found : List (List ℕ)) (groups : List (List (List ℕ))) (group : List (List ℕ)) (file : List ℕ)
-    → OpensWithin found groups 0 file → OpensWithin found (groups ++ group ∷ []) 0 file
-more_groups found groups group file o = record {
-  whole = o.whole;
-  later = o.later ++ group ∷ [];
-  cut = ap (λ (gs : List (List (List ℕ))). gs ++ group ∷ []) o.cut ∙ append_assoc o.whole o.later (group ∷ []);
-  acknowledged = omega arith;
-  opens = o.opens;
-}
-
--- the lines before an append, or those and the group: at least all groups before it
-before_or_after : (found : List (List ℕ)) (groups : List (List (List ℕ))) (group : List (List ℕ)) (least : ℕ)
-    (file : List ℕ) → least ≤ length groups
-    → IsBeforeOrAfter (found ++ whole_lines groups) group file → OpensWithin found (groups ++ group ∷ []) least file
-before_or_after found groups group least file few (inl before) = record
-    { whole = groups; later = group ∷ []; cut = refl; acknowledged = few; opens = before }
-before_or_after found groups group least file few (inr after) = record {
-  whole = groups ++ group ∷ [];
-  later = [];
-  cut = sym (append-nil (groups ++ group ∷ []));
-  acknowledged = omega (arith, few, length-append groups (group ∷ []));
-  opens = subst (λ (ls : List (List ℕ)). FileOpensTo ls file) (lines_more found groups group) after;
-}
-
-keeping_now : (found : List (List ℕ)) (groups : List (List (List ℕ))) (gate : ℕ) (file : File)
-    → IsIdle (found ++ whole_lines groups) gate file
-    → LeavesOnly (OpensWithin found groups (length groups)) file
-keeping_now found groups gate file idle image is = opens_all found groups image
-    (idle_lasts (found ++ whole_lines groups) gate file image idle is)
-
--- an append leaves whole groups at each moment
-append_leaves : (found : List (List ℕ)) (groups : List (List (List ℕ))) (group : List (List ℕ)) (gate : ℕ)
-    (start old new : History) → IsKeeping found groups gate start old
-    → LeavesSince (IsBeforeOrAfter (found ++ whole_lines groups) group) old new
-    → LeavesSince (OpensWithin found (groups ++ group ∷ []) 0) start new
-append_leaves found groups group gate start old new keeping leaves =
-    leaves_more (OpensWithin found (groups ++ group ∷ []) 0) start old new
-    (leaves_so (OpensWithin found groups 0) (OpensWithin found (groups ++ group ∷ []) 0) start old
-    (more_groups found groups group) keeping.leaves)
-    (leaves_so (IsBeforeOrAfter (found ++ whole_lines groups) group) (OpensWithin found (groups ++ group ∷ []) 0) old
-    new
-    (λ image. before_or_after found groups group 0 image (omega arith)) leaves)
-
-pub keeps_on : KeepsOn
-keeps_on = record {
-  none = λ found gate h idle.
-      let same : IsIdle (found ++ whole_lines []) gate h.file = subst (λ (ls : List (List ℕ)). IsIdle ls gate h.file)
-      (sym (append-nil found)) idle in
-      record { idle = same; leaves = leaves_none (OpensWithin found [] 0) h (keeping_now found [] gate h.file same) };
-  more = λ found groups gate start old keeping. record {
-    now = keeping_now found groups gate old.file keeping.idle;
-    done = λ group gate' new appends. record {
-      idle = subst (λ (ls : List (List ℕ)). IsIdle ls gate' new.file) (lines_more found groups group) appends.0;
-      leaves = append_leaves found groups group gate start old new keeping appends.1;
-    };
-    failed = λ group new leaves. record {
-      leaves = append_leaves found groups group gate start old new keeping leaves;
-      now = λ image is. before_or_after found groups group (length groups) image (omega arith) (leaves.now image is);
-    };
-    full = λ group new same. subst (λ (h : History). IsKeeping found groups gate start h) (sym same) keeping;
-  };
-}
-
--- ---- Lines that a log keeps.
-
-pub with_lines : (lines : List (List ℕ)) (line : List ℕ) → Some line ≡ slice_get lines 0 → 1 ≤ length lines
-with_lines [] line is = cc
-with_lines (l ∷ ls) line is = omega arith
-
-group_one : (lines : List (List ℕ)) → 1 ≤ length lines → grouped lines ≡ lines ∷ []
-group_one [] some = let wrong : ⊥ = omega arith in absurd wrong
-group_one (line ∷ lines) some = refl
-
--- what is told of each is told of all
-pub told_all : {X : Type 0} (x : X) (old new : Option History) (P : X → History → History → Type 0)
-    → ((y : X) → WhereHistoryTold old new (P y))
-    → WhereHistoryTold old new (λ o n. (y : X) → P y o n)
-told_all x old None P each = tt
-told_all x None (Some n) P each = absurd (each x)
-told_all x (Some o) (Some n) P each = each
-
--- what an append to an idle journal does is done to whatever was kept before
-pub keeps_all : (gate next : ℕ) (group : List (List ℕ)) (old new : History) → 1 ≤ length group
-    → ((lines : List (List ℕ)) → IsIdle lines gate old.file → Appends (AppendedDone next) lines group old new)
-    → Keeps All (Some gate) (Some next) group old new
-keeps_all gate next group old new some appends found groups start kept =
-    subst (λ (gs : List (List (List ℕ))). IsKeeping found (groups ++ gs) next start new) (sym (group_one group some))
-    ((keeps_on.more found groups gate start old kept).done group next new
-    (appends (found ++ whole_lines groups) kept.idle))
-
-pub keeps_failed : (gate : ℕ) (gate' : Option ℕ) (group : List (List ℕ)) (old new : History)
-    → ((lines : List (List ℕ)) → IsIdle lines gate old.file → Appends Unappended lines group old new)
-    → Keeps KeptFailed (Some gate) gate' group old new
-keeps_failed gate gate' group old new appends found groups start kept =
-    (keeps_on.more found groups gate start old kept).failed group new (appends (found ++ whole_lines groups) kept.idle)
-
-pub keeps_full : (gate : ℕ) (gate' : Option ℕ) (group : List (List ℕ)) (old new : History)
-    → ((lines : List (List ℕ)) → IsIdle lines gate old.file → Appends Overflows lines group old new)
-    → Keeps Full (Some gate) gate' group old new
-keeps_full gate gate' group old new appends found groups start kept =
-    (keeps_on.more found groups gate start old kept).full group new (appends (found ++ whole_lines groups) kept.idle)
-
 -- ---- A disk goes on by moments, whatever is written.
 
 pub goes_none : (h : History) → HasPassed h h
@@ -487,8 +361,3 @@ goes_down did at piece old mid new syncs writes =
     let settles : IsSettled mid.file = subst (λ (h : History). IsSettled h.file) (sym syncs) refl in
     goes_both old mid new (goes_sync Done old mid syncs)
     ((writes.leaves settles).more, record { past = (writes.leaves settles).past; paths = writes.paths })
-
--- a group with a first line has one
-pub no_line : (group : List (List ℕ)) (line : List ℕ) → Some line ≡ slice_get group 0 → group ≡ [] → ⊥
-no_line [] line is none = cc
-no_line (l ∷ ls) line is none = cc

@@ -10,21 +10,14 @@ use Rattle.std.proofs.lemmas.Grind.{flat_map-append}
 use Rattle.std.proofs.Math.Nat.{div-add-mod}
 use Rattle.std.specs.Prelude.{Some, None, slice_get}
 use Rattle.std.proofs.lemmas.Option.{slice_get_within, get_or_from_slice_get}
-use Rattle.djq_disk.specs.declared.disk.DiskDid.TheVariants.{Done}
-use Rattle.djq_disk.specs.declared.filling.Filled.TheVariants.{Whole}
-use Rattle.djq_disk.specs.File.{KeepsOutside, piece_put, File, IsSettled, settled}
-use Rattle.djq_disk.specs.History.{History, moved_to, Syncs}
-use Rattle.djq_disk.specs.Filling.{FillsBuffer}
-use Rattle.djq_disk.specs.WritingDown.{WritesDown}
+use Rattle.djq_disk.specs.File.{KeepsOutside, piece_put, File}
 use Rattle.djq_disk.proofs.Files.{all_append}
-use Rattle.djq_journal.specs.declared.journal.Opened.TheVariants.{Ready, BadLog, Failed as Unopened}
 use Rattle.djq_journal.specs.declared.line.Line.TheVariants.{Got, End, BadLog as BadLine, Failed as Unread}
-use Rattle.djq_journal.specs.declared.journal.Made.TheVariants.{Done as Made}
 use Rattle.djq_journal.specs.Format.{header, body_of, record_of, front, IsJournalLine, FileOpensTo, IsEnd, IsBad}
 use Rattle.djq_journal.specs.Format.{OneOfThree, IsRecord}
 use Rattle.djq_journal.specs.Staging.{behind_gate, gate_before, StagesLines}
 use Rattle.djq_journal.specs.Standing.{IsAtGate, IsIdle}
-use Rattle.djq_journal.specs.Calls.{OpensExactly, ReadsExactly, MakesJournal, JournalOpens}
+use Rattle.djq_journal.specs.Calls.{ReadsExactly}
 use Rattle.djq_journal.specs.Appending.{gate_after}
 
 -- ---- Lists of bytes that begin alike, and the records of lines.
@@ -203,13 +196,6 @@ one_of_three rest = record {
 
 -- ---- Each answer comes exactly where its cause holds.
 
-pub opens_exactly : OpensExactly
-opens_exactly (Ready gate) old new opens failed =
-    let same : old.file.bytes ≡ new.file.bytes = sym (ap (λ (h : History). h.file.bytes) opens.0) in
-    ((λ _. (gate, refl)), (λ _. (opens.1.rest, same ∙ opens.1.is)))
-opens_exactly (BadLog at) old new opens failed = ((λ starts. absurd (opens.2 starts.0 starts.1)), (λ wrong. cc))
-opens_exactly Unopened old new opens failed = absurd (failed refl)
-
 last_of : (lines : List (List ℕ)) (line : List ℕ) → AllByRecursion IsJournalLine (lines ++ line ∷ [])
     → IsJournalLine line
 last_of [] line all = all.0
@@ -255,44 +241,7 @@ reads_exactly (BadLine place) lines gate gate' buf file at reads failed = (
 )
 reads_exactly Unread lines gate gate' buf file at reads failed = absurd (failed refl)
 
--- ---- What is found in a file: a journal that was made, one that is opened, its next line.
-
--- the header and a closed gate were written and synced
-pub made : (old new : History) → WritesDown Done 0 (header ++ 0 ∷ []) old new → MakesJournal Made old new
-made old new writes =
-    let is : new.file ≡ settled (piece_put 0 (header ++ 0 ∷ []) old.file.bytes) = writes.done refl in (
-      writes.paths,
-      record {
-        opens = record {
-          are_lines = tt;
-          gate = 0;
-          behind = drop 9 old.file.bytes;
-          is = ap (λ (f : File). f.bytes) is ∙ put_there [] (header ++ 0 ∷ []) old.file.bytes;
-          shut = λ wrong. cc;
-        };
-        place = refl;
-        still = subst (λ (f : File). IsSettled f) (sym is) refl;
-      },
-    )
-
--- behind a sync the header is read
-pub opened_ready : (buf : List ℕ) (old mid new : History) → buf ≡ header → Syncs Done old mid
-    → FillsBuffer Whole 0 buf mid new → JournalOpens (Ready 8) old new
-opened_ready buf old mid new is syncs fills =
-    let same : new ≡ moved_to (settled old.file.bytes) old = fills.1 ∙ syncs in
-    let bytes : mid.file.bytes ≡ old.file.bytes = ap (λ (h : History). h.file.bytes) syncs in
-    let start : header ≡ take 8 old.file.bytes = sym is ∙ fills.0
-    ∙ ap₂ (λ (xs ys : List ℕ). take (length xs) ys) is bytes in (
-      same,
-      record {
-        are_lines = tt;
-        rest = drop 8 old.file.bytes;
-        is = ap (λ (h : History). h.file.bytes) same ∙ sym (take-append-drop 8 old.file.bytes)
-            ∙ ap (λ (xs : List ℕ). xs ++ drop 8 old.file.bytes) (sym start);
-        place = refl;
-        still = subst (λ (h : History). IsSettled h.file) (sym same) refl;
-      },
-    )
+-- ---- The next line of a journal.
 
 -- behind a head the line is read
 pub line_read : (lines : List (List ℕ)) (gate n : ℕ) (got : List ℕ) (file : File) → IsAtGate lines gate file

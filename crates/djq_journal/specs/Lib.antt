@@ -4,5 +4,4 @@ pub mod Calls
 pub mod Appending
 pub mod Staging
 pub mod Reading
-pub mod Keeping
-pub mod Logging
+pub mod Passing

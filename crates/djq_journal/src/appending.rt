@@ -4,7 +4,7 @@ ghost use Rattle.djq_disk.specs.History.{WhereHistoryTold};
 ghost use Rattle.djq_disk.specs.DiskFaults.{CountsDid};
 ghost use Rattle.djq_journal.specs.Format.{IsJournalLine, body_of};
 ghost use Rattle.djq_journal.specs.Standing.{IsIdle};
-ghost use Rattle.djq_journal.specs.Logging.{HasPassed};
+ghost use Rattle.djq_journal.specs.Passing.{HasPassed};
 ghost use Rattle.djq_journal.specs.Appending.{gate_after};
 ghost use Rattle.djq_journal.specs.Staging.{gate_before, IsStaged, AppendsAt};
 ghost use Rattle.djq_journal.specs.declared.limits.TheConstants.{LINE_BYTES};

@@ -1,11 +1,10 @@
-ghost use Rattle.std.specs.Prelude.{◌≡◌, ◌+◌, ◌≤◌, ℕ, List, length, [], ◌∷◌, true};
+ghost use Rattle.std.specs.Prelude.{◌≡◌, ◌≤◌, ℕ, List, length, true};
 ghost use Rattle.std.specs.List.{AllByRecursion};
 ghost use Rattle.djq_disk.specs.History.{WhereHistoryTold};
 ghost use Rattle.djq_journal.specs.Format.{IsJournalLine};
 ghost use Rattle.djq_journal.specs.Standing.{IsAtGate, IsIdle};
-ghost use Rattle.djq_journal.specs.Calls.{MakesJournal, JournalOpens, JournalReads, LineFits, CountsMade, CountsOpened};
-ghost use Rattle.djq_journal.specs.Calls.{CountsLine};
-ghost use Rattle.djq_journal.specs.Logging.{HasPassed};
+ghost use Rattle.djq_journal.specs.Calls.{JournalReads, LineFits, CountsLine};
+ghost use Rattle.djq_journal.specs.Passing.{HasPassed};
 ghost use Rattle.djq_journal.specs.Appending.{Appends, HasGroupRoom, CountsAppended};
 ghost use Rattle.djq_journal.specs.Reading.{place_after, EndsWithin};
 ghost use Rattle.djq_journal.specs.declared.limits.TheConstants.{LINE_BYTES};
@@ -13,27 +12,9 @@ ghost use Rattle.djq_journal.specs.declared.limits.TheConstants.{LINE_BYTES};
 use crate::appending::{append_at, end_of};
 use crate::group::Group;
 use crate::line::Line;
-use crate::one_line::OneLine;
 use crate::reading::{place_after, read_line};
-use djq_disk::{Disk, DiskDid, Filled, fill, write_down};
+use djq_disk::{Disk, DiskDid};
 use std::marker::Model;
-
-/// Whether a journal was made.
-#[derive(Clone, Copy, Debug, PartialEq, Eq)]
-pub enum Made {
-    Done,
-    Failed,
-}
-
-/// The answer to an opening.
-#[derive(Debug, Drop)]
-pub enum Opened {
-    /// The journal is at its first gate.
-    Ready(Journal),
-    /// The file doesn't begin with a journal's header. The place is 0.
-    BadLog(u64),
-    Failed,
-}
 
 /// The answer to an append.
 #[derive(Debug, Drop)]
@@ -60,43 +41,12 @@ impl Model for Journal {
     ghost view = { λ j. j.gate };
 }
 
-/// Makes a journal without lines at the start of the file, which has to be empty: bytes that follow it
-/// don't count.
-pub fn create<D: Disk>(disk: &mut D) -> Made
-    requires { D.is_open disk.old ≡ true }
-    ensures is_open { D.is_open disk.new ≡ true }
-    ensures told { WhereHistoryTold (D.told disk.old) (D.told disk.new) (MakesJournal result) }
-    ensures faults { CountsMade result (D.faults disk.old) (D.faults disk.new) }
-{
-    match write_down(disk, 0, b"DJQLOG1\n\0") {
-        DiskDid::Done => Made::Done,
-        DiskDid::Failed => Made::Failed,
-    }
-}
-
 impl Journal {
-    /// Opens the journal that the file is, after a sync.
-    pub fn open<D: Disk>(disk: &mut D) -> Opened
-        requires { D.is_open disk.old ≡ true }
-        ensures is_open { D.is_open disk.new ≡ true }
-        ensures told { WhereHistoryTold (D.told disk.old) (D.told disk.new) (JournalOpens result) }
-        ensures faults { CountsOpened result (D.faults disk.old) (D.faults disk.new) }
+    /// A journal at its first gate, before its first line. The file begins with a journal's header.
+    pub fn first() -> Self
+        ensures { result ≡ 8 }
     {
-        match disk.sync() {
-            DiskDid::Done => {}
-            DiskDid::Failed => return Opened::Failed,
-        }
-        let mut found = [0; 8];
-        match fill(disk, 0, &mut found) {
-            Filled::Whole => {}
-            Filled::Short => return Opened::BadLog(0),
-            Filled::Failed => return Opened::Failed,
-        }
-        if found == *b"DJQLOG1\n" {
-            Opened::Ready(Journal { gate: 8 })
-        } else {
-            Opened::BadLog(0)
-        }
+        Journal { gate: 8 }
     }
 
     /// The place of its current gate.
@@ -106,9 +56,10 @@ impl Journal {
         self.gate
     }
 
-    /// Reads the next line into the start of the buffer, and moves to the gate after it.
-    pub fn next_line<D: Disk>(&mut self, disk: &mut D, buf: &mut [u8; 4096]) -> Line
-        requires { D.is_open disk.old ≡ true }
+    /// Reads the next line into the start of the buffer, which has room for any, and moves to the gate after it.
+    pub fn next_line<D: Disk>(&mut self, disk: &mut D, buf: &mut [u8]) -> Line
+        requires is_open { D.is_open disk.old ≡ true }
+        requires room { LINE_BYTES ≤ length buf.old }
         ensures is_open { D.is_open disk.new ≡ true }
         ensures told { (lines : List (List ℕ)) → WhereHistoryTold (D.told disk.old) (D.told disk.new)
             (λ o n. (n ≡ o)
@@ -145,19 +96,5 @@ impl Journal {
                 DiskDid::Failed => Appended::Failed,
             },
         }
-    }
-
-    /// Appends a line, as a group of one.
-    pub fn append<D: Disk>(self, disk: &mut D, line: &[u8]) -> Appended
-        requires is_open { D.is_open disk.old ≡ true }
-        requires some { 1 ≤ length line.now }
-        requires short { length line.now ≤ LINE_BYTES }
-        ensures is_open { D.is_open disk.new ≡ true }
-        ensures room { HasGroupRoom result self (line.now ∷ []) }
-        ensures told { (lines : List (List ℕ)) → WhereHistoryTold (D.told disk.old) (D.told disk.new)
-            (λ o n. IsIdle lines self o.file → Appends result lines (line.now ∷ []) o n) }
-        ensures faults { CountsAppended result (D.faults disk.old) (D.faults disk.new) }
-    {
-        self.append_all(disk, &OneLine { line })
     }
 }

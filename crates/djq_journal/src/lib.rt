@@ -1,10 +1,12 @@
-//! A journal: lines in a file, stored in groups that are whole at every moment.
+//! A journal, which is a log of the first format: lines in a file, stored in groups that are whole at every moment.
 //!
 //! A file begins with a header of 8 bytes, followed by a gate, which is one byte. An open gate is followed by
 //! a line's length in two bytes, the line and the next gate; any other gate ends the
-//! list. [`create`] makes a journal in an empty file, [`Journal::open`] opens one, and [`Journal::next_line`]
-//! reads line after line. Once that answered `End` the journal is idle: [`Journal::append`] appends one
-//! line, and [`Journal::append_all`] a group of them.
+//! list. [`Journal::first`] is a journal before its first line, and [`Journal::next_line`] reads line after line.
+//! Once that answered `End` the journal is idle, and [`Journal::append_all`] appends a group of lines.
+//!
+//! No journal is made any more: a new log is of the second format. `djq_log` reads and appends both, and
+//! `djq_log_file` tells which of the two a file is.
 //!
 //! ```text
 //! place  0        8  9    11         20  21   23       30
@@ -21,11 +23,10 @@
 //! What it isn't for: it never shortens a file, deletes no line, and knows nothing of what a line means.
 //!
 //! What surprises: after a failed append the journal is lost, since nobody knows whether the group is
-//! there. The next opening shows it. What follows the gate that ends the list doesn't count.
+//! there. The next start shows it. What follows the gate that ends the list doesn't count.
 //!
 //! To read first: `specs/Format.antt`, what file opens to which lines, and `specs/Appending.antt`. The
-//! laws below state that a file opens to one list of lines, and what is left by groups that are appended one
-//! after another.
+//! laws below state that a file opens to one list of lines, and that an idle journal outlives a crash.
 //!
 //! How it works inside: `reading` reads the place of a gate, `appending` writes a group there, and a
 //! journal is the place alone.
@@ -36,21 +37,19 @@ mod group;
 mod journal;
 mod limits;
 mod line;
-mod log;
 mod one_line;
 mod reading;
 
 ghost use Rattle.std.specs.Prelude.{ℕ, List};
 ghost use Rattle.djq_journal.specs.Format.{FileOpensOnce, OneOfThree};
 ghost use Rattle.djq_journal.specs.Standing.{IdleLasts};
-ghost use Rattle.djq_journal.specs.Calls.{OpensExactly, ReadsExactly};
-ghost use Rattle.djq_journal.specs.Keeping.{KeepsOn};
+ghost use Rattle.djq_journal.specs.Calls.{ReadsExactly};
 
 pub use group::Group;
-pub use journal::{Appended, Journal, Made, Opened, create};
+pub use journal::{Appended, Journal};
 pub use limits::{LAST_GATE, LINE_BYTES};
 pub use line::Line;
-pub use log::{Kept, Log};
+pub use one_line::OneLine;
 
 /// A file opens to one list of lines.
 pub fn a_file_opens_once()
@@ -67,13 +66,7 @@ pub fn an_idle_journal_lasts()
     ensures { IdleLasts }
 {}
 
-/// A journal is ready, ends and is bad if and only if the bytes of the file mean so, unless the disk fails.
+/// A journal ends and is bad if and only if the bytes of the file mean so, unless the disk fails.
 pub fn answers_are_exact()
-    ensures opening { OpensExactly }
-    ensures reading { ReadsExactly }
-{}
-
-/// Groups are stored whole, one after another.
-pub fn groups_are_kept_in_order()
-    ensures { KeepsOn }
+    ensures { ReadsExactly }
 {}

@@ -5,8 +5,9 @@ use crate::group::Group;
 
 /// A group of one line.
 #[derive(Clone, Copy, Debug)]
-pub(crate) struct OneLine<'a> {
-    pub(crate) line: &'a [u8],
+pub struct OneLine<'a> {
+    /// The line.
+    pub line: &'a [u8],
 }
 
 impl<'a> Group for OneLine<'a> {

@@ -60,10 +60,10 @@ pub(crate) fn read_head<D: Disk>(disk: &mut D, at: u64) -> Head
     }
 }
 
-/// Reads the line at a gate's place into the start of the buffer.
+/// Reads the line at a gate's place into the start of the buffer, which has room for any.
 pub(crate) fn read_line<D: Disk>(disk: &mut D, gate: u64, buf: &mut [u8]) -> Line
     requires is_open { D.is_open disk.old ≡ true }
-    requires room { length buf.old ≡ LINE_BYTES }
+    requires room { LINE_BYTES ≤ length buf.old }
     ensures is_open { D.is_open disk.new ≡ true }
     ensures told { (lines : List (List ℕ)) → WhereHistoryTold (D.told disk.old) (D.told disk.new)
         (λ o n. (n ≡ o)

@@ -93,7 +93,7 @@ begins_with file header_of same long =
     }
 
 -- at the first gate nothing is read
-first_gate : (file rest : List ℕ) → file ≡ log_header ++ rest → HasRead [] (record { at = 8; left = 0; digest = seed }) file
+first_gate : (file rest : List ℕ) → file ≡ log_header ++ rest → HasRead [] (record { at = 8; left = 0; digest = seed; gate = 8 }) file
 unfolding records digest_after
 first_gate file rest is = record {
   stored = [];
@@ -107,10 +107,11 @@ first_gate file rest is = record {
   is_at = refl;
   is_left = refl;
   is_digest = refl;
+  within = λ some. absurd (omega (arith, some));
 }
 
 pub long_second : (buf : List ℕ) (o n : History) → 8 < length o.file.bytes → length buf ≡ 8 → buf ≡ log_header
-    → FillsBuffer Whole 0 buf o n → Identifies (Second (record { at = 8; left = 0; digest = seed })) o n
+    → FillsBuffer Whole 0 buf o n → Identifies (Second (record { at = 8; left = 0; digest = seed; gate = 8 })) o n
 long_second buf o n long size same fills =
     let begins = begins_with o.file.bytes log_header
     (ap (λ k. take k o.file.bytes) (sym size) ∙ sym fills.0 ∙ same) long in

@@ -12,7 +12,8 @@ use Rattle.djq_log_file.specs.declared.entry.Entry.TheVariants.{Line, NoLine, Sh
 use Rattle.djq_log_file.specs.Damaged.{HasDamage}
 use Rattle.djq_log_file.specs.Entries.{IsEntry}
 use Rattle.djq_log_file.specs.Places.{ReadingPlace, LogEndPlace}
-use Rattle.djq_log_file.specs.Standing.{HasRead, EndsRead, IsDamagedAt, stored_lines, stored_groups}
+use Rattle.djq_log_file.specs.Standing.{HasRead, EndsRead, IsDamagedAt, IsWithinRecord, IsLastInRecord, stored_lines}
+use Rattle.djq_log_file.specs.Standing.{stored_groups}
 use Rattle.djq_log_file.proofs.Bodies.{all_behind, no_entry}
 
 -- ---- Records, with one more.
@@ -94,7 +95,7 @@ at_gate lines place file read none = record {
 pub record_entered : (lines group : List (List ℕ)) (size after : ℕ) (place : ReadingPlace) (file : List ℕ)
     → HasRead lines place file → place.left ≡ 0 → IsLogRecord place.digest group (drop place.at file)
     → size ≡ length (record_body group) → after ≡ digest_behind place.digest group
-    → HasRead lines (record { at = place.at + 17; left = size; digest = after }) file
+    → HasRead lines (record { at = place.at + 17; left = size; digest = after; gate = place.at }) file
 record_entered lines group size after place file read none r is_size is_after = record {
   stored = stored ++ s ∷ [];
   are_stored = all_append IsRecordStored stored (s ∷ []) read.are_stored
@@ -110,6 +111,15 @@ record_entered lines group size after place file read none r is_size is_after = 
   is_at = omega (arith, gate.is_at, length-append (log_front stored) head);
   is_left = is_size;
   is_digest = is_after ∙ ap (λ d. digest_behind d group) read.is_digest ∙ sym (after_next seed stored s);
+  within = λ some. record {
+    earlier = stored;
+    current = s;
+    part = [];
+    are_records = refl;
+    are_lines = refl;
+    are_read = gate.are ∙ sym (append-nil (stored_lines stored));
+    is_gate = gate.is_at;
+  };
 }
   where
     stored : List RecordStored
@@ -194,30 +204,74 @@ first_line (l ∷ ls) rest there line more some e f =
     (sym (append_assoc (line_entry l) (record_body ls) rest) ∙ sym e ∙ f) in
     (ls, ap (λ (x : List ℕ). x ∷ ls) same)
 
+-- the line that is read next is the next one of its record
+within_next : (stored : List RecordStored) (lines to_come later : List (List ℕ)) (line : List ℕ) (gate : ℕ)
+    → to_come ≡ line ∷ later → IsWithinRecord stored lines to_come gate
+    → IsWithinRecord stored (lines ++ line ∷ []) later gate
+within_next stored lines to_come later line gate next w = record {
+  earlier = w.earlier;
+  current = w.current;
+  part = w.part ++ line ∷ [];
+  are_records = w.are_records;
+  are_lines = w.are_lines ∙ ap (λ (ls : List (List ℕ)). w.part ++ ls) next ∙ sym (append_assoc w.part (line ∷ []) later);
+  are_read = ap (λ (ls : List (List ℕ)). ls ++ line ∷ []) w.are_read
+      ∙ append_assoc (stored_lines w.earlier) w.part (line ∷ []);
+  is_gate = w.is_gate;
+}
+
+stored_before : (earlier : List RecordStored) (current : RecordStored)
+    → AllByRecursion IsRecordStored (earlier ++ current ∷ [])
+    → AllByRecursion IsRecordStored earlier × IsRecordStored current
+stored_before [] current all = (tt, all.0)
+stored_before (s ∷ earlier) current all =
+    let later = stored_before earlier current all.1 in
+    ((all.0, later.0), later.1)
+
+-- the record of the line stands at its gate
+last_in_record : (stored : List RecordStored) (lines to_come later : List (List ℕ)) (line : List ℕ) (gate : ℕ)
+    (rest file : List ℕ) → AllByRecursion IsRecordStored stored → file ≡ log_front stored ++ rest
+    → to_come ≡ line ∷ later → IsWithinRecord stored lines to_come gate → IsLastInRecord (lines ++ line ∷ []) gate file
+last_in_record stored lines to_come later line gate rest file all is next w = record {
+  stored = w.earlier;
+  are_stored = both.0;
+  rest = content ++ rest;
+  is = is ∙ ap (λ (records_of : List RecordStored). log_front records_of ++ rest) w.are_records
+      ∙ ap (λ (xs : List ℕ). xs ++ rest) (front_next w.earlier w.current)
+      ∙ append_assoc (log_front w.earlier) content rest;
+  is_at = w.is_gate;
+  group = w.current.lines;
+  stands = record {
+    is_group = both.1.is_group;
+    gate = w.current.gate;
+    gate_open = both.1.gate_open;
+    behind = rest;
+    is = refl;
+  };
+  part = w.part;
+  line = line;
+  later = later;
+  cut = w.are_lines ∙ ap (λ (ls : List (List ℕ)). w.part ++ ls) next;
+  are = ap (λ (ls : List (List ℕ)). ls ++ line ∷ []) w.are_read
+      ∙ append_assoc (stored_lines w.earlier) w.part (line ∷ []);
+}
+  where
+    both : AllByRecursion IsRecordStored w.earlier × IsRecordStored w.current
+    both = stored_before w.earlier w.current
+        (subst (λ (records_of : List RecordStored). AllByRecursion IsRecordStored records_of) w.are_records all)
+
+    content : List ℕ
+    content = w.current.gate ∷ content_of (digest_after seed w.earlier) w.current.lines
+
 pub line_read : (lines : List (List ℕ)) (n : ℕ) (place : ReadingPlace) (buf file : List ℕ) → HasRead lines place file
     → 1 ≤ place.left → length (take n buf) ≡ n → IsEntry (Line n) place.left buf (drop place.at file)
     → HasRead (lines ++ take n buf ∷ [])
-    (record { at = place.at + (2 + n); left = place.left - (2 + n); digest = place.digest }) file
-line_read lines n place buf file read some size entry = record {
-  stored = read.stored;
-  are_stored = read.are_stored;
-  rest = read.rest;
-  is = read.is;
-  before = read.before ++ line_entry line;
-  to_come = next.0;
-  front = read.front ∙ ap (λ (ls : List (List ℕ)). read.before ++ record_body ls) next.1
-      ∙ sym (append_assoc read.before (line_entry line) (record_body next.0));
-  are = read.are ∙ ap (λ (ls : List (List ℕ)). lines ++ ls) next.1 ∙ sym (append_assoc lines (line ∷ []) next.0);
-  is_at = omega (arith, read.is_at, size, length-append read.before (line_entry line));
-  is_left = omega (
-    arith,
-    read.is_left,
-    size,
-    ap (λ (ls : List (List ℕ)). length (record_body ls)) next.1,
-    length-append (line_entry line) (record_body next.0),
-  );
-  is_digest = read.is_digest;
-}
+    (record { at = place.at + (2 + n); left = place.left - (2 + n); digest = place.digest; gate = place.gate }) file
+    × IsLastInRecord (lines ++ take n buf ∷ []) place.gate file
+line_read lines n place buf file read some size entry = (
+  has_read,
+  last_in_record read.stored lines read.to_come next.0 line
+      place.gate read.rest file read.are_stored read.is next.1 (read.within some),
+)
   where
     line : List ℕ
     line = take n buf
@@ -225,6 +279,30 @@ line_read lines n place buf file read some size entry = record {
     next : (later : List (List ℕ)) × (read.to_come ≡ line ∷ later)
     next = first_line read.to_come read.rest (drop place.at file) line (drop (2 + n) (drop place.at file))
         (omega (arith, some, read.is_left)) (to_come_there lines place file read) entry
+
+    has_read : HasRead (lines ++ line ∷ [])
+        (record { at = place.at + (2 + n); left = place.left - (2 + n); digest = place.digest; gate = place.gate }) file
+    has_read = record {
+      stored = read.stored;
+      are_stored = read.are_stored;
+      rest = read.rest;
+      is = read.is;
+      before = read.before ++ line_entry line;
+      to_come = next.0;
+      front = read.front ∙ ap (λ (ls : List (List ℕ)). read.before ++ record_body ls) next.1
+          ∙ sym (append_assoc read.before (line_entry line) (record_body next.0));
+      are = read.are ∙ ap (λ (ls : List (List ℕ)). lines ++ ls) next.1 ∙ sym (append_assoc lines (line ∷ []) next.0);
+      is_at = omega (arith, read.is_at, size, length-append read.before (line_entry line));
+      is_left = omega (
+        arith,
+        read.is_left,
+        size,
+        ap (λ (ls : List (List ℕ)). length (record_body ls)) next.1,
+        length-append (line_entry line) (record_body next.0),
+      );
+      is_digest = read.is_digest;
+      within = λ _. within_next read.stored lines read.to_come next.0 line place.gate next.1 (read.within some);
+    }
 
 -- A line does stand there.
 pub line_stands : (lines : List (List ℕ)) (place : ReadingPlace) (buf file : List ℕ) → HasRead lines place file

@@ -1,8 +1,9 @@
 -- Where a reader is in a log and what it has read, and where a log ends.
-use Rattle.std.specs.Prelude.{◌≡◌, ℕ, ◌≤◌, List, [], ◌∷◌, ◌++◌, length, take, map}
+use Rattle.std.specs.Prelude.{◌≡◌, ℕ, ◌<◌, ◌≤◌, List, [], ◌∷◌, ◌++◌, length, take, map}
 use Rattle.std.specs.List.{flat_map, AllByRecursion}
 use Rattle.djq_io.specs.Faults.{Counted}
-use Rattle.djq_log_format.specs.Format.{RecordStored, IsRecordStored, IsLogLine, LogOpensTo, IsBadLog, log_front, record_body}
+use Rattle.djq_log_format.specs.Format.{RecordStored, IsRecordStored, IsLogLine, LogOpensTo, IsLogRecord, IsBadLog, log_front}
+use Rattle.djq_log_format.specs.Format.{record_body}
 use Rattle.djq_log_format.specs.Format.{seed, digest_after}
 use Rattle.djq_log_file.specs.Damaged.{HasDamage}
 use Rattle.djq_log_file.specs.Places.{ReadingPlace, LogEndPlace}
@@ -34,6 +35,16 @@ pub record IsLogEndAt (groups : List (List (List ℕ))) (place : LogEndPlace) (f
   pub is_at : place.at ≡ length (log_front stored)
   pub is_digest : place.digest ≡ digest_after seed stored
 
+-- These lines are those of all records before the last one, whose gate is at a place, and the first of that one.
+pub record IsWithinRecord (stored : List RecordStored) (lines to_come : List (List ℕ)) (gate : ℕ) : Type 0 where
+  pub earlier : List RecordStored
+  pub current : RecordStored
+  pub part : List (List ℕ)
+  pub are_records : stored ≡ earlier ++ current ∷ []
+  pub are_lines : current.lines ≡ part ++ to_come
+  pub are_read : lines ≡ stored_lines earlier ++ part
+  pub is_gate : gate ≡ length (log_front earlier)
+
 -- A reader has read these lines of a log: those of whole records, but for the last lines of the last record, which
 -- are still to come.
 pub record HasRead (lines : List (List ℕ)) (place : ReadingPlace) (file : List ℕ) : Type 0 where
@@ -48,6 +59,23 @@ pub record HasRead (lines : List (List ℕ)) (place : ReadingPlace) (file : List
   pub is_at : place.at ≡ length before
   pub is_left : place.left ≡ length (record_body to_come)
   pub is_digest : place.digest ≡ digest_after seed stored
+  pub within : 1 ≤ place.left → IsWithinRecord stored lines to_come place.gate
+
+-- The last of these lines stands in the record whose gate is at a place, and those before it are those of the records
+-- before, and the first of this one.
+pub record IsLastInRecord (lines : List (List ℕ)) (at : ℕ) (file : List ℕ) : Type 0 where
+  pub stored : List RecordStored
+  pub are_stored : AllByRecursion IsRecordStored stored
+  pub rest : List ℕ
+  pub is : file ≡ log_front stored ++ rest
+  pub is_at : at ≡ length (log_front stored)
+  pub group : List (List ℕ)
+  pub stands : IsLogRecord (digest_after seed stored) group rest
+  pub part : List (List ℕ)
+  pub line : List ℕ
+  pub later : List (List ℕ)
+  pub cut : group ≡ part ++ line ∷ later
+  pub are : lines ≡ stored_lines stored ++ (part ++ line ∷ [])
 
 -- The log ends here, and these lines are all of its groups.
 pub record EndsRead (lines : List (List ℕ)) (place : LogEndPlace) (file : List ℕ) : Type 0 where
@@ -66,9 +94,11 @@ pub record IsDamagedAt (lines : List (List ℕ)) (at : ℕ) (reason : Damage) (f
   pub bad : IsBadLog (digest_after seed stored) rest
   pub damage : HasDamage reason (digest_after seed stored) rest
 
--- What comes after these lines: the next one, which is read then; or the end of the log; or a gate at which it is bad.
+-- What comes after these lines: the next one, which is read then, and the reader knows the gate of its record; or the
+-- end of the log; or a gate at which it is bad.
 abbrev pub ReadsLine : LogLine → List (List ℕ) → ReadingPlace → List ℕ → List ℕ → Type 0
 ReadsLine (Got n) lines place buf file = HasRead (lines ++ take n buf ∷ []) place file
+    × IsLastInRecord (lines ++ take n buf ∷ []) place.gate file
 ReadsLine (End end) lines place buf file = HasRead lines place file × EndsRead lines end file
 ReadsLine (Damaged at reason) lines place buf file = HasRead lines place file × IsDamagedAt lines at reason file
 ReadsLine Failed lines place buf file = HasRead lines place file
@@ -94,6 +124,13 @@ LogLineFits (Got n) buf = IsLogLine (take n buf) × (n ≤ length buf)
 LogLineFits (End end) buf = Unit {0}
 LogLineFits (Damaged at reason) buf = Unit {0}
 LogLineFits Failed buf = Unit {0}
+
+-- A line that was read ends after the place of the reader, at a place that a number names.
+abbrev pub ReadsOnward : LogLine → ℕ → ℕ → Type 0
+ReadsOnward (Got n) old new = (old < new) × (new ≤ 18446744073709551615)
+ReadsOnward (End end) old new = Unit {0}
+ReadsOnward (Damaged at reason) old new = Unit {0}
+ReadsOnward Failed old new = Unit {0}
 
 -- The disk's count of faults rises where a line can't be read, and stays elsewhere.
 abbrev pub CountsLogLine : LogLine → ℕ → ℕ → Type 0

@@ -20,7 +20,8 @@
 //! finished, and has exactly the groups that were put then. [`create_log`] makes one without groups in an unbegun file,
 //! which has at most 8 bytes, with which a header begins.
 //!
-//! What it isn't for: it knows nothing of what a line means, and reads no log of the first format.
+//! What it isn't for: it knows nothing of what a line means, and reads no log of the first format. `djq_log` reads and
+//! appends both.
 //!
 //! What surprises: what follows the closed gate doesn't count, whatever it is. After an append that failed the end is
 //! lost, since nobody knows whether the group is there: the next start tells. A record is read twice. While a log is
@@ -29,8 +30,6 @@
 //!
 //! To read first: `specs/Standing.antt`, what was read and where a log ends, `specs/Damaged.antt`, why a log is bad,
 //! `specs/Appending.antt`, and `specs/Making.antt`.
-//!
-//! This crate is being built; the program doesn't use it yet.
 #![tactic(auto)]
 
 mod appending;

@@ -4,6 +4,7 @@ ghost use Rattle.djq_log_format.specs.Format.{seed};
 ghost use Rattle.djq_log_file.specs.Window.{ReadsThrough};
 ghost use Rattle.djq_log_file.specs.Entries.{CountsFound};
 ghost use Rattle.djq_log_file.specs.Standing.{HasRead, ReadsLine, EntersRecord, EntersFits, LogLineFits, CountsLogLine};
+ghost use Rattle.djq_log_file.specs.Standing.{ReadsOnward};
 
 use crate::damage::Damage;
 use crate::entry::{Entry, read_entry};
@@ -34,6 +35,7 @@ pub struct LogReader {
     at: u64,
     left: u64,
     digest: u64,
+    gate: u64,
 }
 
 impl Model for LogReader {
@@ -41,19 +43,27 @@ impl Model for LogReader {
 
     ghost Value = { ReadingPlace };
 
-    ghost view = { λ r. record { at = r.at; left = r.left; digest = r.digest } };
+    ghost view = { λ r. record { at = r.at; left = r.left; digest = r.digest; gate = r.gate } };
 }
 
 impl LogReader {
     /// At the first gate.
     pub(crate) fn first() -> Self
-        ensures { result ≡ record { at = 8; left = 0; digest = seed } }
+        ensures { result ≡ record { at = 8; left = 0; digest = seed; gate = 8 } }
     {
         LogReader {
             at: 8,
             left: 0,
             digest: SEED,
+            gate: 8,
         }
+    }
+
+    /// The place of the gate of the record that the last line was read from, in bytes.
+    pub fn gate(&self) -> u64
+        ensures { result ≡ self.now.gate }
+    {
+        self.gate
     }
 
     /// Goes to the next line of the record, or into the record at the gate, all of which is read before its first line.
@@ -65,6 +75,7 @@ impl LogReader {
             (ReadsThrough (λ file. (lines : List (List ℕ)) → HasRead lines self.old file → EntersRecord result lines self.new file)
             window.old window.new) }
         ensures fits { EntersFits result self.new }
+        ensures onward { self.old.at ≤ self.new.at }
         ensures faults { CountsFound result (D.faults disk.old) (D.faults disk.new) }
     {
         if self.left != 0 {
@@ -72,6 +83,7 @@ impl LogReader {
         }
         match read_record(disk, window, self.at, self.digest, buf) {
             Found::Group(size, digest) => {
+                self.gate = self.at;
                 self.at += 17;
                 self.left = size;
                 self.digest = digest;
@@ -93,6 +105,7 @@ impl LogReader {
             (ReadsThrough (λ file. (lines : List (List ℕ)) → HasRead lines self.old file
             → ReadsLine result lines self.new buf.new file) window.old window.new) }
         ensures fits { LogLineFits result buf.new }
+        ensures onward { ReadsOnward result self.old.at self.new.at }
         ensures faults { CountsLogLine result (D.faults disk.old) (D.faults disk.new) }
     {
         match read_entry(disk, window, self.at, self.left, buf) {
@@ -124,6 +137,7 @@ impl LogReader {
             (ReadsThrough (λ file. (lines : List (List ℕ)) → HasRead lines self.old file
             → ReadsLine result lines self.new buf.new file) window.old window.new) }
         ensures fits { LogLineFits result buf.new }
+        ensures onward { ReadsOnward result self.old.at self.new.at }
         ensures faults { CountsLogLine result (D.faults disk.old) (D.faults disk.new) }
     {
         match self.enter(disk, window, buf) {

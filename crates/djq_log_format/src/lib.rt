@@ -20,8 +20,8 @@
 //! [`Measure`] measures the lines of a group and encodes the head of its record, [`encode_line`] encodes a line,
 //! and [`Digest`] is the digest over pieces. [`decode_length`] and [`decode_digest`] read what a head stores. None of them allocates.
 //!
-//! This crate is being built; the program doesn't use it yet. `djq_log_file` reads and appends the records over a
-//! disk. It is to replace the format of `djq_journal`.
+//! `djq_log_file` reads and appends the records over a disk. A log of the first format, which `djq_journal` reads and
+//! appends, has no digests.
 //!
 //! What it isn't for: it doesn't say what a line means. A digest is no protection against somebody who writes the
 //! log on purpose.

@@ -136,7 +136,7 @@ fn serve_hub<H: Hub, D: Disk, L: Ledgers>(
     let Ok(mut buffer) = vec![in alloc; 0; READ_BYTES] else {
         return Status::NoMemory;
     };
-    let mut log = match open_log(&mut machine, disk, path, steps) {
+    let mut log = match open_log(alloc, &mut machine, disk, path, steps) {
         Ok(log) => log,
         Err(status) => return status,
     };

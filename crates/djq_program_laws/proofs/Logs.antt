@@ -1,4 +1,4 @@
--- How a log is loaded and written behind, and what a stop leaves of it.
+-- How a log is loaded and appended to, and what a crash leaves of it.
 use Rattle.std.specs.Prelude.{ℕ, List, [], ◌∷◌, ◌++◌, ◌≡◌, Option, None, Some, length, ◌<◌, IsSome}
 use Rattle.std.specs.Prelude.{codes, ◌≤◌, ◌+◌, ◌-◌}
 use Rattle.std.proofs.Common.{sym, ap, ◌∙◌, subst, inl, inr, refl, arith, append-nil, ap₂, append_assoc, length-append}
@@ -11,19 +11,18 @@ use Rattle.std.proofs.lemmas.List.Elements.{All-nil, All-cons, All-append, All-h
 use Rattle.djq_io.specs.Faults.{Counted}
 use Rattle.djq_model.specs.Data.{Bytes}
 use Rattle.djq_disk.specs.File.{File, settled}
-use Rattle.djq_disk.specs.History.{History, WhereHistoryTold}
+use Rattle.djq_disk.specs.History.{History, WhereHistoryTold, OpensPath}
 use Rattle.djq_disk.specs.Leaving.{LeavesOnly}
 use Rattle.djq_disk.proofs.Files.{told_both, told_so, told_none}
-use Rattle.djq_journal.specs.declared.limits.TheConstants.{LAST_GATE}
-use Rattle.djq_journal.specs.declared.journal.Appended.{Appended}
-use Rattle.djq_journal.specs.declared.journal.Appended.TheVariants.{Done, Failed, Full}
-use Rattle.djq_journal.specs.Format.{FileOpensTo}
-use Rattle.djq_journal.specs.Standing.{IsIdle}
-use Rattle.djq_journal.specs.Keeping.{OpensWithin, IsKeeping, whole_lines, WasKeeping}
-use Rattle.djq_journal.specs.Appending.{Appends, gate_after}
-use Rattle.djq_journal.specs.Logging.{HasKeptGroups, Overfull, grouped}
-use Rattle.djq_journal.proofs.Appends.{keeps_on}
-use Rattle.djq_journal.proofs.Records.{opens_once}
+use Rattle.djq_log.specs.Lines.{LogOpensToLines, IsIdleAt, whole_lines}
+use Rattle.djq_log.specs.Reading.{OpensLogLines}
+use Rattle.djq_log.specs.Keeping.{OpensWithin, IsKeeping, WasKeeping}
+use Rattle.djq_log.specs.Logging.{HasKeptGroups, Keeps, FullChangesNothing, Overfull, grouped}
+use Rattle.djq_log.specs.declared.end.LogEnd.{LogEnd}
+use Rattle.djq_log.specs.declared.log.Kept.TheVariants.{All as Stored, Failed as Unstored}
+use Rattle.djq_log.specs.declared.source.LogSource.{LogSource}
+use Rattle.djq_log.specs.declared.opening.LogFound.TheVariants.{Made, Ready, Unknown, Failed as Unopened}
+use Rattle.djq_log.proofs.Keeps.{keeps_on}
 use Rattle.djq_protocol.specs.declared.held.HeldRow.{HeldRow}
 use Rattle.djq_store_spec.specs.Store.{Store}
 use Rattle.djq_machine.specs.declared.machine.Loaded.{Loaded}
@@ -51,92 +50,84 @@ use Rattle.djq_serve.specs.Logged.{AllKept, LastLost, LastLeft, KeepsBy, DiskCou
 use Rattle.djq_serve.specs.Server.{Move, all_done, all_logged}
 use Rattle.djq_serve.specs.Ends.{IsCommitted}
 use Rattle.djq_serve.proofs.Commits.{commits_first}
-use Rattle.djq_program_laws.specs.Logged.{FindsLines, LeavesUnloaded, DiskSeen, abandoning}
+use Rattle.djq_program_laws.specs.Logged.{LogIsMade, IsOlder, FindsLines, LeavesUnloaded, DiskSeen, abandoning}
 use Rattle.djq_program_laws.specs.Logged.{first_kept, LogSeen, log_seen_at, log_seen, SinceOpened, KeptAs, Logs}
 use Rattle.djq_serve.specs.Goes.{log_place, LogsMove}
 use Rattle.djq_program_laws.specs.Logged.{IsStored}
 use Rattle.djq_program_laws.specs.Logged.{FoundIn, Begins, IsOnlyRead, UnloadedFor, Unloaded, NeverBegins}
-use Rattle.djq_program_laws.specs.Parts.{IsOpened, EndsBatch, CantEnd, OpensJournal}
+use Rattle.djq_program_laws.specs.Parts.{FindsAll, ReadsOlder, EndsBatch, CantEnd}
 use Rattle.djq_program_laws.specs.Parts.{LoadsLines, StopsLoading, ReadsLog}
 use Rattle.djq_program_laws.specs.Reopened.{answered, Reopens, LogsReopen}
 use Rattle.djq_program_laws.proofs.ProgramRuns.{starts}
-use Rattle.djq_program_laws.proofs.Openings.{told_end, opened_leaves, opened_finds}
+use Rattle.djq_program_laws.proofs.Openings.{told_end, made_finds, ready_read, older_finds, opened_leaves}
+use Rattle.djq_program_laws.proofs.Openings.{unasked_leaves, unopened_leaves, unknown_leaves, unknown_from}
 
 -- ---- How a batch that lines left open is ended, or isn't.
 
--- what an append of `abandon` came to, behind whatever lines
-abbrev pub Kept : Appended → ℕ → DiskSeen → DiskSeen → Type 0
-Kept answer gate before now = (lines : List Bytes) → WhereHistoryTold before.told now.told
-    (λ o n. IsIdle lines gate o.file → Appends answer lines abandoning o n)
-
--- A batch was left open: it is ended by the line that was loaded and kept.
-pub batch_ended : (gate behind : ℕ) (log : Option ℕ) (old new : Loading) (how : Loaded) (before now : DiskSeen)
-    → IsSome old.batch → LoadStep old (codes "abandon") how new → log ≡ Some behind → now.faults ≡ before.faults
-    → Kept (Done behind) gate before now → EndsBatch gate log old new before now
-batch_ended gate behind log old new how before now is_open step at faults appended = by old.batch refl is_open
+-- A batch was left open: it is ended by the line that was loaded and appended.
+pub batch_ended : (ends : LogEnd) (log : Option LogEnd) (old new : Loading) (how : Loaded) (before now : DiskSeen)
+    → IsSome old.batch → LoadStep old (codes "abandon") how new → IsSome log → now.faults ≡ before.faults
+    → WhereHistoryTold before.told now.told (Keeps Stored (Some ends) log abandoning)
+    → EndsBatch ends log old new before now
+batch_ended ends None old new how before now is_open step some faults appended = absurd cc
+batch_ended ends (Some after) old new how before now is_open step some faults appended = by old.batch refl is_open
   where
     ran : (how ≡ Ran) × (new.batch ≡ None)
     ran = abandon_runs old how new step is_open
 
-    by : (o : Option (List HeldRow)) → old.batch ≡ o → IsSome o → EndsBatch gate log old new before now
+    by : (o : Option (List HeldRow)) → old.batch ≡ o → IsSome o → EndsBatch ends (Some after) old new before now
     by None e some = absurd cc
     by (Some held) e some = record {
       loads = subst (λ (b : Option (List HeldRow)). Loads old (lines_in (first_kept b)) new) (sym e)
           (new, subst (λ (h : Loaded). LoadStep old (codes "abandon") h new) ran.0 step, refl);
       closed = ran.1;
-      behind = behind;
-      at = at;
+      after = after;
+      at = refl;
       kept = λ found. subst
           (λ (b : Option (List HeldRow)). WhereHistoryTold before.told now.told (λ o n. (start : History)
-          → IsKeeping found [] gate start o → IsKeeping found (first_kept b) behind start n)) (sym e)
-          (told_so before.told now.told
-          (λ o n. IsIdle (found ++ whole_lines []) gate o.file
-          → Appends (Done behind) (found ++ whole_lines []) abandoning o n)
-          (λ o n. (start : History) → IsKeeping found [] gate start o
-          → IsKeeping found (abandoning ∷ []) behind start n)
-          (λ o n p start keeping. ((keeps_on.more) found [] gate start o keeping).done abandoning behind n
-          (p keeping.idle))
-          (appended (found ++ whole_lines [])));
+          → IsKeeping found [] ends start o → IsKeeping found (first_kept b) after start n)) (sym e)
+          (told_so before.told now.told (Keeps Stored (Some ends) (Some after) abandoning)
+          (λ o n. (start : History) → IsKeeping found [] ends start o
+          → IsKeeping found (abandoning ∷ []) after start n)
+          (λ o n p start keeping. p found [] start keeping) appended);
       faults = faults;
     }
 
--- The disk failed as it was to be kept.
-pub fails_to_end : (gate : ℕ) (old : Loading) (before now : DiskSeen) → IsSome old.batch
+-- The disk failed as it was to be appended.
+pub fails_to_end : (ends : LogEnd) (log : Option LogEnd) (old : Loading) (before now : DiskSeen) → IsSome old.batch
     → Counted before.faults now.faults
-    → Kept Failed gate before now → CantEnd StatusDiskFault gate old before now
-fails_to_end gate old before now is_open counted appended = (
+    → WhereHistoryTold before.told now.told (Keeps Unstored (Some ends) log abandoning)
+    → CantEnd StatusDiskFault ends old before now
+fails_to_end ends log old before now is_open counted appended = (
   is_open,
   counted,
-  λ found. told_so before.told now.told
-      (λ o n. IsIdle (found ++ whole_lines []) gate o.file → Appends Failed (found ++ whole_lines []) abandoning o n)
-      (λ o n. (start : History) → IsKeeping found [] gate start o → WasKeeping found [] abandoning start n)
-      (λ o n p start keeping. ((keeps_on.more) found [] gate start o keeping).failed abandoning n (p keeping.idle))
-      (appended (found ++ whole_lines [])),
+  λ found. told_so before.told now.told (Keeps Unstored (Some ends) log abandoning)
+      (λ o n. (start : History) → IsKeeping found [] ends start o → WasKeeping found [] abandoning start n)
+      (λ o n p start keeping. p found [] start keeping) appended,
 )
 
 -- There was no room for it.
-pub has_no_room : (gate : ℕ) (old : Loading) (before now : DiskSeen) → IsSome old.batch → now.faults ≡ before.faults
-    → LAST_GATE < gate_after gate abandoning → Kept Full gate before now → CantEnd StatusLogFull gate old before now
-has_no_room gate old before now is_open same full appended = (
+pub has_no_room : (ends : LogEnd) (old : Loading) (before now : DiskSeen) → IsSome old.batch
+    → now.faults ≡ before.faults → Overfull (Some ends) abandoning
+    → WhereHistoryTold before.told now.told (FullChangesNothing (Some ends)) → CantEnd StatusLogFull ends old before now
+has_no_room ends old before now is_open same full stays = (
   is_open,
   same,
   full,
-  λ found. told_so before.told now.told
-      (λ o n. IsIdle (found ++ whole_lines []) gate o.file → Appends Full (found ++ whole_lines []) abandoning o n)
-      (λ o n. (start : History) → IsKeeping found [] gate start o → n ≡ o)
-      (λ o n p start keeping. p keeping.idle)
-      (appended (found ++ whole_lines [])),
+  λ found. told_so before.told now.told (FullChangesNothing (Some ends))
+      (λ o n. (start : History) → IsKeeping found [] ends start o → n ≡ o)
+      (λ o n p start keeping. p found [] start keeping) stays,
 )
 
--- ---- What is kept behind the lines found in a log.
+-- ---- What the log has after the lines found.
 
--- A journal that keeps on, whatever it began with, is there.
-still_there : (gate' : Option ℕ) (found : List Bytes) (first all : List Group) (gate : ℕ) (since m n : History)
-    → IsKeeping found first gate since m
-    → ((start : History) → IsKeeping found first gate start m → HasKeptGroups gate' found all start n)
-    → (g : ℕ) × IsKeeping found all g since n
-still_there (Some g) found first all gate since m n keeping kept = (g, kept since keeping)
-still_there None found first all gate since m n keeping kept =
+-- A log that goes on, whatever it began with, still ends in the file.
+still_there : (end' : Option LogEnd) (found : List Bytes) (first all : List Group) (end : LogEnd) (since m n : History)
+    → IsKeeping found first end since m
+    → ((start : History) → IsKeeping found first end start m → HasKeptGroups end' found all start n)
+    → (g : LogEnd) × IsKeeping found all g since n
+still_there (Some g) found first all end since m n keeping kept = (g, kept since keeping)
+still_there None found first all end since m n keeping kept =
     let empty = kept (from (settled [])) (begun (settled [])) in
     let other = kept (from (settled (0 ∷ []))) (begun (settled (0 ∷ []))) in
     let sizes : 0 ≡ 1 = ap (λ (h : History). length h.file.bytes) (sym empty ∙ other) in
@@ -145,7 +136,7 @@ still_there None found first all gate since m n keeping kept =
     from : File → History
     from file = record { paths = m.paths; past = m.past; file = file }
 
-    begun : (file : File) → IsKeeping found first gate (from file) m
+    begun : (file : File) → IsKeeping found first end (from file) m
     begun file = record {
       idle = keeping.idle;
       leaves = record {
@@ -157,29 +148,29 @@ still_there None found first all gate since m n keeping kept =
       };
     }
 
--- All groups are kept behind the lines found and what was kept first.
-all_kept : (path : Bytes) (found : List Bytes) (first groups : List Group) (gate : ℕ) (gate' : Option ℕ)
+-- All groups are in the log after the lines found and what was appended first.
+all_kept : (path : Bytes) (found : List Bytes) (first groups : List Group) (end : LogEnd) (end' : Option LogEnd)
     (old mid new : Option History)
-    → WhereHistoryTold old mid (FindsLines path found first gate) → AllKept (Some gate) gate' groups mid new
+    → WhereHistoryTold old mid (FindsLines path found first end) → AllKept (Some end) end' groups mid new
     → WhereHistoryTold old new
-    (λ o n. SinceOpened path found (λ since. (g : ℕ) × IsKeeping found (first ++ groups) g since n) o)
-all_kept path found first groups gate gate' old mid new finds kept =
-    told_both old mid new (FindsLines path found first gate)
+    (λ o n. SinceOpened path found (λ since. (g : LogEnd) × IsKeeping found (first ++ groups) g since n) o)
+all_kept path found first groups end end' old mid new finds kept =
+    told_both old mid new (FindsLines path found first end)
     (λ a b. (lines : List Bytes) (had : List Group) (start : History)
-    → HasKeptGroups (Some gate) lines had start a → HasKeptGroups gate' lines (had ++ groups) start b)
-    (λ o n. SinceOpened path found (λ since. (g : ℕ) × IsKeeping found (first ++ groups) g since n) o)
+    → HasKeptGroups (Some end) lines had start a → HasKeptGroups end' lines (had ++ groups) start b)
+    (λ o n. SinceOpened path found (λ since. (g : LogEnd) × IsKeeping found (first ++ groups) g since n) o)
     (λ o m n p q. record {
       since = p.since;
       begins = p.begins;
-      holds = still_there gate' found first (first ++ groups) gate p.since m n p.holds
+      holds = still_there end' found first (first ++ groups) end p.since m n p.holds
           (λ start keeping. q found first start keeping);
     }) finds kept
 
-lost_kept : (path : Bytes) (found : List Bytes) (first groups : List Group) (gate : ℕ) (old mid new : Option History)
-    → WhereHistoryTold old mid (FindsLines path found first gate) → LastLost (Some gate) groups mid new
+lost_kept : (path : Bytes) (found : List Bytes) (first groups : List Group) (end : LogEnd) (old mid new : Option History)
+    → WhereHistoryTold old mid (FindsLines path found first end) → LastLost (Some end) groups mid new
     → WhereHistoryTold old new (λ o n. SinceOpened path found (λ since. KeptAs DiskFault found first groups since n) o)
-lost_kept path found first groups gate old mid new finds lost =
-    told_both old mid new (FindsLines path found first gate) _
+lost_kept path found first groups end old mid new finds lost =
+    told_both old mid new (FindsLines path found first end) _
     (λ o n. SinceOpened path found (λ since. KeptAs DiskFault found first groups since n) o)
     (λ o m n p q. record {
       since = p.since;
@@ -187,17 +178,17 @@ lost_kept path found first groups gate old mid new finds lost =
       holds = record { whole = lost.whole; last = lost.last; cut = lost.cut; kept = q found first p.since p.holds };
     }) finds lost.kept
 
-left_kept : (path : Bytes) (found : List Bytes) (first groups : List Group) (gate : ℕ) (old mid new : Option History)
-    → WhereHistoryTold old mid (FindsLines path found first gate) → LastLeft (Some gate) groups mid new
+left_kept : (path : Bytes) (found : List Bytes) (first groups : List Group) (end : LogEnd) (old mid new : Option History)
+    → WhereHistoryTold old mid (FindsLines path found first end) → LastLeft (Some end) groups mid new
     → WhereHistoryTold old new (λ o n. SinceOpened path found (λ since. KeptAs LogFull found first groups since n) o)
-left_kept path found first groups gate old mid new finds left = by_gate left.gate' left.full left.kept
+left_kept path found first groups end old mid new finds left = by_end left.end' left.full left.kept
   where
-    by_gate : (gate' : Option ℕ) → Overfull gate' left.last → AllKept (Some gate) gate' left.whole mid new
+    by_end : (end' : Option LogEnd) → Overfull end' left.last → AllKept (Some end) end' left.whole mid new
         → WhereHistoryTold old new
         (λ o n. SinceOpened path found (λ since. KeptAs LogFull found first groups since n) o)
-    by_gate None full kept = absurd full
-    by_gate (Some g) full kept =
-        told_both old mid new (FindsLines path found first gate) _
+    by_end None full kept = absurd full
+    by_end (Some g) full kept =
+        told_both old mid new (FindsLines path found first end) _
         (λ o n. SinceOpened path found (λ since. KeptAs LogFull found first groups since n) o)
         (λ o m n p q. record {
           since = p.since;
@@ -206,52 +197,52 @@ left_kept path found first groups gate old mid new finds left = by_gate left.gat
             whole = left.whole;
             last = left.last;
             cut = left.cut;
-            gate = g;
+            end = g;
             full = full;
             kept = q found first p.since p.holds;
           };
         }) finds kept
 
-kept_as : (answer : Served) (path : Bytes) (found : List Bytes) (first groups : List Group) (gate : ℕ)
-    (gate' : Option ℕ) (old mid new : Option History)
-    → WhereHistoryTold old mid (FindsLines path found first gate)
-    → KeepsBy (Some answer) (Some gate) gate' groups mid new
+kept_as : (answer : Served) (path : Bytes) (found : List Bytes) (first groups : List Group) (end : LogEnd)
+    (end' : Option LogEnd) (old mid new : Option History)
+    → WhereHistoryTold old mid (FindsLines path found first end)
+    → KeepsBy (Some answer) (Some end) end' groups mid new
     → WhereHistoryTold old new (λ o n. SinceOpened path found (λ since. KeptAs answer found first groups since n) o)
-kept_as Stopped path found first groups gate gate' old mid new finds kept =
-    all_kept path found first groups gate gate' old mid new finds kept
-kept_as Over path found first groups gate gate' old mid new finds kept =
-    all_kept path found first groups gate gate' old mid new finds kept
-kept_as TurnsUsed path found first groups gate gate' old mid new finds kept =
-    all_kept path found first groups gate gate' old mid new finds kept
-kept_as HubFault path found first groups gate gate' old mid new finds kept =
-    all_kept path found first groups gate gate' old mid new finds kept
-kept_as DiskFault path found first groups gate gate' old mid new finds kept =
-    lost_kept path found first groups gate old mid new finds kept
-kept_as LogFull path found first groups gate gate' old mid new finds kept =
-    left_kept path found first groups gate old mid new finds kept
+kept_as Stopped path found first groups end end' old mid new finds kept =
+    all_kept path found first groups end end' old mid new finds kept
+kept_as Over path found first groups end end' old mid new finds kept =
+    all_kept path found first groups end end' old mid new finds kept
+kept_as TurnsUsed path found first groups end end' old mid new finds kept =
+    all_kept path found first groups end end' old mid new finds kept
+kept_as HubFault path found first groups end end' old mid new finds kept =
+    all_kept path found first groups end end' old mid new finds kept
+kept_as DiskFault path found first groups end end' old mid new finds kept =
+    lost_kept path found first groups end old mid new finds kept
+kept_as LogFull path found first groups end end' old mid new finds kept =
+    left_kept path found first groups end old mid new finds kept
 
--- What was served is kept in the log that was loaded, if one was asked for.
+-- What was served is in the log that was loaded, if one was asked for.
 pub logs_kept : (path : Option (Bor Bytes)) (found : List Bytes) (first : List Group) (answer : Served)
-    (groups : List Group) (gate gate' : Option ℕ) (before mid now : DiskSeen)
-    → FoundIn (log_seen path before mid) found first gate → KeepsBy (Some answer) gate gate' groups mid.told now.told
-    → DiskCounts (Some answer) mid.faults now.faults → (gate ≡ None → IsNotOfDisk answer)
+    (groups : List Group) (end end' : Option LogEnd) (before mid now : DiskSeen)
+    → FoundIn (log_seen path before mid) found first end → KeepsBy (Some answer) end end' groups mid.told now.told
+    → DiskCounts (Some answer) mid.faults now.faults → (end ≡ None → IsNotOfDisk answer)
     → Logs (log_seen path before now) found first answer groups
-logs_kept None found first answer groups gate gate' before mid now lines kept counted plain = plain lines
-logs_kept (Some path) found first answer groups None gate' before mid now lines kept counted plain = absurd lines
-logs_kept (Some path) found first answer groups (Some gate) gate' before mid now lines kept counted plain = (
+logs_kept None found first answer groups end end' before mid now lines kept counted plain = plain lines
+logs_kept (Some path) found first answer groups None end' before mid now lines kept counted plain = absurd lines
+logs_kept (Some path) found first answer groups (Some end) end' before mid now lines kept counted plain = (
   subst (λ (n : ℕ). DiskCounts (Some answer) n now.faults) lines.0 counted,
-  kept_as answer path.now found first groups gate gate' before.told mid.told now.told lines.1 kept,
+  kept_as answer path.now found first groups end end' before.told mid.told now.told lines.1 kept,
 )
 
 -- Each move did to the log that was loaded what it says.
-pub is_stored : (path : Option (Bor Bytes)) (found : List Bytes) (first : List Group) (gate gate' : Option ℕ)
-    (before mid now : DiskSeen) (moves : List Move) → FoundIn (log_seen path before mid) found first gate
-    → Walk LogsMove (log_place gate mid.told) moves (log_place gate' now.told)
+pub is_stored : (path : Option (Bor Bytes)) (found : List Bytes) (first : List Group) (end end' : Option LogEnd)
+    (before mid now : DiskSeen) (moves : List Move) → FoundIn (log_seen path before mid) found first end
+    → Walk LogsMove (log_place end mid.told) moves (log_place end' now.told)
     → IsStored (log_seen path before now) found first moves
-is_stored None found first gate gate' before mid now moves lines walk = tt
-is_stored (Some path) found first None gate' before mid now moves lines walk = absurd lines
-is_stored (Some path) found first (Some gate) gate' before mid now moves lines walk =
-    (gate, gate', mid.told, lines.1, walk)
+is_stored None found first end end' before mid now moves lines walk = tt
+is_stored (Some path) found first None end' before mid now moves lines walk = absurd lines
+is_stored (Some path) found first (Some end) end' before mid now moves lines walk =
+    (end, end', mid.told, lines.1, walk)
 
 -- Out of memory before anything was done.
 pub never_began : (path : Option (Bor Bytes)) (disk : DiskSeen) (counted : Counts)
@@ -272,38 +263,95 @@ begins_empty counted start is = record {
   counts = (refl, refl);
 }
 
--- A log was opened, and its lines were loaded.
-pub read_whole : (log : LogSeen) (first : ℕ) (mid : DiskSeen) (gate : ℕ) (end : Loading) (state : State)
-    (listing listing' : ℕ) → OpensJournal log.path first log.before mid
-    → LoadsLines gate end state mid log.now listing listing' → ReadsLog log gate end state listing listing'
-read_whole log first mid gate end state listing listing' opens l = record {
+-- A log was made.
+pub made_reads : (path : Bytes) (before mid now : DiskSeen) (ends : LogEnd) (end : Loading) (state : State)
+    (listing : ℕ) → end ≡ loading opening.store → state ≡ opening → mid.faults ≡ before.faults
+    → now.faults ≡ mid.faults → WhereHistoryTold before.told mid.told (OpensPath path)
+    → WhereHistoryTold mid.told now.told (OpensLogLines (Made ends))
+    → ReadsLog (log_seen_at path before now) ends end state listing listing
+made_reads path before mid now ends end state listing none fresh opened made opens makes = record {
+  found = [];
+  loads = none;
+  fresh = fresh ∙ sym (ap (λ (st : State). record opening { store = st.store }) fresh);
+  faults = made ∙ opened;
+  finds = made_finds path ends before.told mid.told now.told opens makes;
+  unlisted = refl;
+}
+
+-- An older log was opened, and its lines were loaded.
+pub read_whole : (path : Bytes) (before mid then now : DiskSeen) (source : LogSource) (ends : LogEnd) (end : Loading)
+    (state : State) (listing listing' : ℕ) → mid.faults ≡ before.faults → then.faults ≡ mid.faults
+    → WhereHistoryTold before.told mid.told (OpensPath path)
+    → WhereHistoryTold mid.told then.told (OpensLogLines (Ready source))
+    → LoadsLines ends end state then now listing listing'
+    → ReadsLog (log_seen_at path before now) ends end state listing listing'
+read_whole path before mid then now source ends end state listing listing' opened found opens ready l = record {
   found = l.found;
   loads = l.loads;
   fresh = l.fresh;
-  faults = l.faults ∙ opens.faults;
-  finds = opened_finds log.path l.found gate log.before.told mid.told log.now.told opens.opened l.idle l.same;
+  faults = l.faults ∙ found ∙ opened;
+  finds = older_finds path l.found ends before.told then.told now.told
+      (ready_read path source before.told mid.told then.told opens ready) l.idle l.same;
   unlisted = l.unlisted;
 }
 
 -- It was opened, and they weren't.
-pub unloaded_begins : (log : LogSeen) (first : ℕ) (mid : DiskSeen) (status : Status) (counted counted' : Counts)
-    → OpensJournal log.path first log.before mid
-    → StopsLoading status mid log.now counted.listing counted'.listing → Unloaded log status counted counted'
-unloaded_begins log first mid status counted counted' opens stops = record {
-  caused = subst (λ (n : ℕ). UnloadedFor status n log.now) opens.faults stops.caused;
-  leaves = opened_leaves status log.path log.before.told mid.told log.now.told opens.opened stops.same stops.lines;
+pub unloaded_begins : (path : Bytes) (before mid then now : DiskSeen) (source : LogSource) (status : Status)
+    (counted counted' : Counts) → mid.faults ≡ before.faults → then.faults ≡ mid.faults
+    → WhereHistoryTold before.told mid.told (OpensPath path)
+    → WhereHistoryTold mid.told then.told (OpensLogLines (Ready source))
+    → StopsLoading status then now counted.listing counted'.listing
+    → Unloaded (log_seen_at path before now) status counted counted'
+unloaded_begins path before mid then now source status counted counted' opened found opens ready stops = record {
+  caused = subst (λ (n : ℕ). UnloadedFor status n now) (found ∙ opened) stops.caused;
+  leaves = opened_leaves status path before.told then.told now.told
+      (ready_read path source before.told mid.told then.told opens ready) stops.same;
   unlisted = stops.unlisted;
 }
 
+-- The file couldn't be opened,
+pub unasked_begins : (path : Bytes) (before now : DiskSeen) (counted : Counts) → Counted before.faults now.faults
+    → WhereHistoryTold before.told now.told (OpensPath path)
+    → Unloaded (log_seen_at path before now) StatusDiskFault counted counted
+unasked_begins path before now counted failed opens =
+    record { caused = failed; leaves = unasked_leaves path before.told now.told opens; unlisted = refl }
+
+-- or the log in it couldn't,
+pub unopened_begins : (path : Bytes) (before mid now : DiskSeen) (counted : Counts) → mid.faults ≡ before.faults
+    → Counted mid.faults now.faults → WhereHistoryTold before.told mid.told (OpensPath path)
+    → WhereHistoryTold mid.told now.told (OpensLogLines Unopened)
+    → Unloaded (log_seen_at path before now) StatusDiskFault counted counted
+unopened_begins path before mid now counted opened failed opens unopened = record {
+  caused = subst (λ (n : ℕ). Counted n now.faults) opened failed;
+  leaves = unopened_leaves path before.told mid.told now.told opens unopened;
+  unlisted = refl;
+}
+
+-- or it is none.
+pub unknown_begins : (path : Bytes) (before mid now : DiskSeen) (counted : Counts) → mid.faults ≡ before.faults
+    → now.faults ≡ mid.faults → WhereHistoryTold before.told mid.told (OpensPath path)
+    → WhereHistoryTold mid.told now.told (OpensLogLines Unknown)
+    → Unloaded (log_seen_at path before now) (BadLog 0) counted counted
+unknown_begins path before mid now counted opened found opens unknown = record {
+  caused = (found ∙ opened, inl (unknown_from mid.told now.told unknown));
+  leaves = unknown_leaves path before.told mid.told now.told opens unknown;
+  unlisted = refl;
+}
+
+-- What was opened and read to its end is a log that goes on from here.
+goes_on : (path : Bytes) (found : List Bytes) (ends : LogEnd) (o n : History) → FindsAll path found ends o n
+    → IsKeeping found [] ends n n
+goes_on path found ends o n finds = (keeps_on.none) found ends n finds.1
+
 -- The batch that its lines leave open is ended, if they do.
-pub ended_begins : (path : Bytes) (before mid now : DiskSeen) (gate : ℕ) (log : Option ℕ) (end new : Loading)
+pub ended_begins : (path : Bytes) (before mid now : DiskSeen) (ends : LogEnd) (log : Option LogEnd) (end new : Loading)
     (state start : State) (counted loaded : Counts) (listing : ℕ)
-    → ReadsLog (log_seen_at path before mid) gate end state counted.listing listing → EndsBatch gate log end new mid now
+    → ReadsLog (log_seen_at path before mid) ends end state counted.listing listing → EndsBatch ends log end new mid now
     → new.store ≡ start.store → start ≡ record state { store = start.store } → loaded.listing ≡ listing
     → (found : List Bytes) × (first : List Group)
     × Begins (Some (log_seen_at path before now)) found first counted start loaded
     × FoundIn (Some (log_seen_at path before now)) found first log
-ended_begins path before mid now gate log end new state start counted loaded listing r e same rest unlisted = (
+ended_begins path before mid now ends log end new state start counted loaded listing r e same rest unlisted = (
   r.found,
   first_kept end.batch,
   record {
@@ -314,12 +362,13 @@ ended_begins path before mid now gate log end new state start counted loaded lis
     fresh = rest ∙ ap (λ (st : State). record st { store = start.store }) r.fresh;
     counts = unlisted ∙ r.unlisted;
   },
-  subst (λ (k : Option ℕ). FoundIn (Some (log_seen_at path before now)) r.found (first_kept end.batch) k) (sym e.at) (
+  subst (λ (k : Option LogEnd). FoundIn (Some (log_seen_at path before now)) r.found (first_kept end.batch) k)
+      (sym e.at) (
     e.faults ∙ r.faults,
-    told_both before.told mid.told now.told (λ o n. IsOpened path o n × FindsLines path r.found [] gate o n) _
-        (FindsLines path r.found (first_kept end.batch) e.behind)
-        (λ o m n p q. record { since = p.1.since; begins = p.1.begins; holds = q p.1.since p.1.holds }) r.finds
-        (e.kept r.found),
+    told_both before.told mid.told now.told (FindsAll path r.found ends) _
+        (FindsLines path r.found (first_kept end.batch) e.after)
+        (λ o m n p q. record { since = m; begins = begun o m p.0; holds = q m (goes_on path r.found ends o m p) })
+        r.finds (e.kept r.found),
   ),
 )
   where
@@ -327,73 +376,75 @@ ended_begins path before mid now gate log end new state start counted loaded lis
     closed = ap (λ (b : Option (List HeldRow)). record { store = new.store; batch = b }) e.closed
         ∙ ap (λ (st : Store). loading st) same
 
--- A journal with lines that leave a batch open is no new one.
-open_older : (path : Bytes) (found : List Bytes) (gate : ℕ) (end : Loading) (o n : History)
-    → Loads (loading opening.store) found end → IsSome end.batch
-    → IsOpened path o n × FindsLines path found [] gate o n → IsOnlyRead path o n
-open_older path found gate end o n loads some (inl read, finds) = read
-open_older path [] gate end o n loads some (inr made, finds) =
-    absurd (none (subst (λ (l : Loading). IsSome l.batch) loads some))
+    begun : (o m : History) → LogIsMade path r.found o m ⊎ ReadsOlder path r.found o m
+        → LogIsMade path r.found o m ⊎ IsOlder path r.found o m
+    begun o m (inl made) = inl made
+    begun o m (inr older) = inr older.0
+
+-- A log with lines that leave a batch open is no new one.
+open_older : (path : Bytes) (found : List Bytes) (ends : LogEnd) (end : Loading) (o n : History)
+    → Loads (loading opening.store) found end → IsSome end.batch → FindsAll path found ends o n → IsOnlyRead path o n
+open_older path found ends end o n loads some (inr older, idle) = record { some = older.1; is = older.0.is }
+open_older path found ends end o n loads some (inl made, idle) =
+    let none : end ≡ loading opening.store = subst (λ (ls : List Bytes). Loads (loading opening.store) ls end) made.none
+    loads in
+    absurd (closed (subst (λ (l : Loading). IsSome l.batch) none some))
   where
-    none : IsSome (loading opening.store).batch → ⊥
-    none w = cc
-open_older path (line ∷ found) gate end o n loads some (inr (since, made, keeping), finds) =
-    absurd (differ (opens_once [] ((line ∷ found) ++ whole_lines []) n.file.bytes (keeping.idle).opens
-    ((finds.holds).idle).opens))
-  where
-    differ : [] ≡ (line ∷ found) ++ whole_lines [] → ⊥
-    differ e = cc
+    closed : IsSome (loading opening.store).batch → ⊥
+    closed w = cc
 
 -- It isn't.
-pub unended_begins : (path : Bytes) (before mid now : DiskSeen) (gate : ℕ) (status : Status) (end : Loading)
+pub unended_begins : (path : Bytes) (before mid now : DiskSeen) (ends : LogEnd) (status : Status) (end : Loading)
     (state : State) (counted counted' : Counts) (listing : ℕ)
-    → ReadsLog (log_seen_at path before mid) gate end state counted.listing listing → CantEnd status gate end mid now
+    → ReadsLog (log_seen_at path before mid) ends end state counted.listing listing → CantEnd status ends end mid now
     → counted'.listing ≡ listing → Unloaded (log_seen_at path before now) status counted counted'
-unended_begins path before mid now gate DiskFailed end state counted counted' listing r c unlisted = record {
+unended_begins path before mid now ends DiskFailed end state counted counted' listing r c unlisted = record {
   caused = subst (λ (n : ℕ). Counted n now.faults) r.faults c.1;
-  leaves = told_both before.told mid.told now.told (λ o n. IsOpened path o n × FindsLines path r.found [] gate o n) _
-      (LeavesUnloaded StatusDiskFault path)
+  leaves = told_both before.told mid.told now.told (FindsAll path r.found ends) _ (LeavesUnloaded StatusDiskFault path)
       (λ o m n p q. inr (inr (record {
         found = r.found;
         leaves = record { end = end; loads = r.loads; is_open = c.0 };
-        lost = record { since = p.1.since; begins = p.1.begins; holds = q p.1.since p.1.holds };
+        lost = record { since = m; begins = begun o m p.0; holds = q m (goes_on path r.found ends o m p) };
       }))) r.finds (c.2 r.found);
   unlisted = unlisted ∙ r.unlisted;
 }
-unended_begins path before mid now gate Filled end state counted counted' listing r c unlisted = record {
+  where
+    begun : (o m : History) → LogIsMade path r.found o m ⊎ ReadsOlder path r.found o m
+        → LogIsMade path r.found o m ⊎ IsOlder path r.found o m
+    begun o m (inl made) = inl made
+    begun o m (inr older) = inr older.0
+unended_begins path before mid now ends Filled end state counted counted' listing r c unlisted = record {
   caused = (
     c.1 ∙ r.faults,
     record {
       found = r.found;
       leaves = record { end = end; loads = r.loads; is_open = c.0 };
-      gate = gate;
+      end = ends;
       full = c.2;
-      idle = told_end before.told now.told Read (λ h. IsIdle r.found gate h.file)
-          (λ o n p. subst (λ (ls : List Bytes). IsIdle ls gate n.file) (append-nil r.found) (((p.1).holds).idle)) still;
+      idle = told_end before.told now.told (FindsAll path r.found ends) (λ h. IsIdleAt r.found ends h.file)
+          (λ o n p. p.1) still;
     },
   );
-  leaves = told_so before.told now.told Read (LeavesUnloaded StatusLogFull path)
-      (λ o n p. open_older path r.found gate end o n r.loads c.0 p) still;
+  leaves = told_so before.told now.told (FindsAll path r.found ends) (LeavesUnloaded StatusLogFull path)
+      (λ o n p. open_older path r.found ends end o n r.loads c.0 p) still;
   unlisted = unlisted ∙ r.unlisted;
 }
   where
-    Read : History → History → Type 0
-    Read o n = IsOpened path o n × FindsLines path r.found [] gate o n
-
-    still : WhereHistoryTold before.told now.told Read
-    still = told_both before.told mid.told now.told Read _ Read
-        (λ o m n p q. subst (λ (h : History). Read o h) (sym (q p.1.since p.1.holds)) p) r.finds (c.3 r.found)
-unended_begins path before mid now gate StatusDone end state counted counted' listing r c unlisted = absurd c
-unended_begins path before mid now gate Usage end state counted counted' listing r c unlisted = absurd c
-unended_begins path before mid now gate ReadFault end state counted counted' listing r c unlisted = absurd c
-unended_begins path before mid now gate WriteFault end state counted counted' listing r c unlisted = absurd c
-unended_begins path before mid now gate HubFailed end state counted counted' listing r c unlisted = absurd c
-unended_begins path before mid now gate AllTaken end state counted counted' listing r c unlisted = absurd c
-unended_begins path before mid now gate NoMemory end state counted counted' listing r c unlisted = absurd c
-unended_begins path before mid now gate (Schedule n) end state counted counted' listing r c unlisted = absurd c
-unended_begins path before mid now gate SessionEnded end state counted counted' listing r c unlisted = absurd c
-unended_begins path before mid now gate (BadLog at) end state counted counted' listing r c unlisted = absurd c
-unended_begins path before mid now gate (Mirror n) end state counted counted' listing r c unlisted = absurd c
+    still : WhereHistoryTold before.told now.told (FindsAll path r.found ends)
+    still = told_both before.told mid.told now.told (FindsAll path r.found ends) _ (FindsAll path r.found ends)
+        (λ o m n p q. subst (λ (h : History). FindsAll path r.found ends o h)
+        (sym (q m (goes_on path r.found ends o m p))) p) r.finds (c.3 r.found)
+unended_begins path before mid now ends StatusDone end state counted counted' listing r c unlisted = absurd c
+unended_begins path before mid now ends Usage end state counted counted' listing r c unlisted = absurd c
+unended_begins path before mid now ends ReadFault end state counted counted' listing r c unlisted = absurd c
+unended_begins path before mid now ends WriteFault end state counted counted' listing r c unlisted = absurd c
+unended_begins path before mid now ends HubFailed end state counted counted' listing r c unlisted = absurd c
+unended_begins path before mid now ends AllTaken end state counted counted' listing r c unlisted = absurd c
+unended_begins path before mid now ends NoMemory end state counted counted' listing r c unlisted = absurd c
+unended_begins path before mid now ends (Schedule n) end state counted counted' listing r c unlisted = absurd c
+unended_begins path before mid now ends SessionEnded end state counted counted' listing r c unlisted = absurd c
+unended_begins path before mid now ends (BadLog at) end state counted counted' listing r c unlisted = absurd c
+unended_begins path before mid now ends (Mirror n) end state counted counted' listing r c unlisted = absurd c
 
 -- What was loaded is so whatever the disk does afterwards.
 pub begins_still : (path : Option (Bor Bytes)) (before mid last : DiskSeen) (found : List Bytes) (first : List Group)
@@ -404,9 +455,9 @@ begins_still None before mid last found first counted start loaded b = b
 begins_still (Some path) before mid last found first counted start loaded b =
     record { keeps = b.keeps; loads = b.loads; fresh = b.fresh; counts = b.counts }
 
--- ---- What a stop leaves of a log opens to whole groups, and these are loaded.
+-- ---- What a crash leaves of a log opens to whole groups, and these are loaded.
 
--- What opens within some groups does within more behind them.
+-- What opens within some groups does within more after them.
 within_more : (found : List Bytes) (whole : List Group) (last : Group) (groups : List Group) (least : ℕ)
     (image : List ℕ) → groups ≡ whole ++ last ∷ []
     → OpensWithin found whole least image → OpensWithin found groups least image
@@ -453,11 +504,11 @@ behind_first : (first whole : List Group) (last : Group) (groups : List Group) �
 behind_first first whole last groups cut =
     ap (λ (gs : List Group). first ++ gs) cut ∙ sym (append_assoc first whole (last ∷ []))
 
-kept_now : (found : List Bytes) (groups : List Group) (gate : ℕ) (since n : History)
-    → IsKeeping found groups gate since n → LeavesOnly (OpensWithin found groups (length groups)) n.file
-kept_now found groups gate since n keeping = ((keeps_on.more) found groups gate since n keeping).now
+kept_now : (found : List Bytes) (groups : List Group) (end : LogEnd) (since n : History)
+    → IsKeeping found groups end since n → LeavesOnly (OpensWithin found groups (length groups)) n.file
+kept_now found groups end since n keeping = ((keeps_on.more) found groups end since n keeping).now
 
--- What a stop leaves in the end: what was kept first, and of the groups behind it as many as were answered.
+-- What a crash leaves in the end: what was appended first, and of the groups after it as many as were answered.
 leaves_groups : (answer : Served) (found : List Bytes) (first groups : List Group) (since n : History)
     → KeptAs answer found first groups since n
     → LeavesOnly (OpensWithin found (first ++ groups) (length first + answered answer groups)) n.file
@@ -477,9 +528,9 @@ leaves_groups LogFull found first groups since n kept image is =
     one_less found first kept.whole kept.last groups image kept.cut
     (within_more found (first ++ kept.whole) kept.last (first ++ groups) (length (first ++ kept.whole)) image
     (behind_first first kept.whole kept.last groups kept.cut)
-    (kept_now found (first ++ kept.whole) kept.gate since n kept.kept image is))
+    (kept_now found (first ++ kept.whole) kept.end since n kept.kept image is))
 
--- What was kept first is whole, and the others are the first of those behind it.
+-- What was appended first is whole, and the others are the first of those after it.
 record Behind (first groups whole later : List Group) : Type 0 where
   pub rest : List Group
   pub is : whole ≡ first ++ rest
@@ -602,7 +653,7 @@ reopens found first start moves state least image loads runs sound committed o =
       cut = f.cut;
       of_commits = f.lines;
       all = all_groups moves committed b.rest o.later f.first f.later b.cut f.cut f.lines;
-      opens = subst (λ (ls : List Bytes). FileOpensTo ls image) same o.opens;
+      opens = subst (λ (ls : List Bytes). LogOpensToLines ls image) same o.opens;
       at = stood.0;
       loads = stood.1;
     }

@@ -1,4 +1,4 @@
--- At each moment of serving a stop leaves the lines of all commits before, and of the one that is appended all or none.
+-- At each moment of serving a crash leaves the lines of all commits before, and of the one that is appended all or none.
 use Rattle.std.specs.Prelude.{ℕ, List, [], ◌∷◌, ◌++◌, ◌≡◌, ◌+◌, ◌⊎◌, Option, None, Some, IsSome, IfSome, length}
 use Rattle.std.specs.List.{AllByRecursion}
 use Rattle.std.proofs.Common.{refl, sym, ap, ◌∙◌, subst, inl, inr, arith, append-nil, append_assoc, length-append}
@@ -7,13 +7,14 @@ use Rattle.std.proofs.lemmas.List.{append_cancel_left}
 use Rattle.djq_disk.specs.File.{File, settled}
 use Rattle.djq_disk.specs.History.{History, WhereHistoryTold}
 use Rattle.djq_disk.specs.Leaving.{LeavesOnly, LeavesSince}
-use Rattle.djq_journal.specs.Format.{FileOpensTo}
-use Rattle.djq_journal.specs.Standing.{IsIdle}
-use Rattle.djq_journal.specs.Keeping.{OpensWithin, IsKeeping, whole_lines}
-use Rattle.djq_journal.specs.Logging.{HasKeptGroups, Keeps, PassesMoments, grouped}
-use Rattle.djq_journal.specs.declared.log.Kept.{Kept}
-use Rattle.djq_journal.specs.declared.log.Kept.TheVariants.{All as Stored, Failed as Unstored, Full as NoRoom}
-use Rattle.djq_journal.proofs.Appends.{keeps_on}
+use Rattle.djq_journal.specs.Passing.{PassesMoments}
+use Rattle.djq_log.specs.Lines.{LogOpensToLines, IsIdleAt, whole_lines}
+use Rattle.djq_log.specs.Keeping.{OpensWithin, IsKeeping}
+use Rattle.djq_log.specs.Logging.{HasKeptGroups, Keeps, grouped}
+use Rattle.djq_log.specs.declared.end.LogEnd.{LogEnd}
+use Rattle.djq_log.specs.declared.log.Kept.{Kept}
+use Rattle.djq_log.specs.declared.log.Kept.TheVariants.{All as Stored, Failed as Unstored, Full as NoRoom}
+use Rattle.djq_log.proofs.Keeps.{keeps_on}
 use Rattle.djq_model.specs.Data.{Bytes}
 use Rattle.djq_machine.specs.State.{State}
 use Rattle.djq_machine.specs.Run.{Walk, Group, lines_in}
@@ -87,18 +88,18 @@ closing_on most old m new h (answer, is) =
 
 -- ---- What the moments of one commit leave.
 
--- the journal is idle with these groups, where its history is told
+-- the log ends after these groups, if the disk records a history
 Idle : List Bytes → List Group → LogPlace → Type 0
 Idle found groups l = (h : History) → l.history ≡ Some h
-    → (g : ℕ) × (l.gate ≡ Some g) × IsIdle (found ++ whole_lines groups) g h.file
+    → (g : LogEnd) × (l.end ≡ Some g) × IsIdleAt (found ++ whole_lines groups) g h.file
 
--- a journal that keeps on is there, whatever it began with
-stays_there : (gate' : Option ℕ) (found : List Bytes) (all : List Group) (gate : ℕ) (h h' : History)
-    → IsKeeping found [] gate h h
-    → ((start : History) → IsKeeping found [] gate start h → HasKeptGroups gate' found all start h')
-    → (g : ℕ) × (gate' ≡ Some g) × IsKeeping found all g h h'
-stays_there (Some g) found all gate h h' base kept = (g, refl, kept h base)
-stays_there None found all gate h h' base kept =
+-- a log that goes on still ends in the file, whatever it began with
+stays_there : (end' : Option LogEnd) (found : List Bytes) (all : List Group) (end : LogEnd) (h h' : History)
+    → IsKeeping found [] end h h
+    → ((start : History) → IsKeeping found [] end start h → HasKeptGroups end' found all start h')
+    → (g : LogEnd) × (end' ≡ Some g) × IsKeeping found all g h h'
+stays_there (Some g) found all end h h' base kept = (g, refl, kept h base)
+stays_there None found all end h h' base kept =
     let empty = kept (from (settled [])) (begun (settled [])) in
     let other = kept (from (settled (0 ∷ []))) (begun (settled (0 ∷ []))) in
     let sizes : 0 ≡ 1 = ap (λ (k : History). length k.file.bytes) (sym empty ∙ other) in
@@ -107,7 +108,7 @@ stays_there None found all gate h h' base kept =
     from : File → History
     from file = record { paths = h.paths; past = h.past; file = file }
 
-    begun : (file : File) → IsKeeping found [] gate (from file) h
+    begun : (file : File) → IsKeeping found [] end (from file) h
     begun file = record {
       idle = base.idle;
       leaves = record {
@@ -156,29 +157,29 @@ of_none found group image o = record {
   opens = o.opens;
 }
 
-moments_leave : (answer : Kept) (gate' : Option ℕ) (found : List Bytes) (group : Group) (gate : ℕ) (h h' : History)
-    (moments : List File) → IsKeeping found [] gate h h → Keeps answer (Some gate) gate' group h h'
+moments_leave : (answer : Kept) (end' : Option LogEnd) (found : List Bytes) (group : Group) (end : LogEnd) (h h' : History)
+    (moments : List File) → IsKeeping found [] end h h → Keeps answer (Some end) end' group h h'
     → PassesMoments moments h h' → AllByRecursion (LeavesOnly (OpensWithin found (group ∷ []) 0)) moments
-moments_leave Stored gate' found group gate h h' moments base keeps passes =
-    let k = stays_there gate' found ([] ++ grouped group) gate h h' base (λ start b. keeps found [] start b) in
+moments_leave Stored end' found group end h h' moments base keeps passes =
+    let k = stays_there end' found ([] ++ grouped group) end h h' base (λ start b. keeps found [] start b) in
     all_weaker (LeavesOnly (OpensWithin found (grouped group) 0)) (LeavesOnly (OpensWithin found (group ∷ []) 0))
     (λ f p image is. of_group found group image (p image is)) moments
     (since_moments (OpensWithin found (grouped group) 0) h h' moments k.2.leaves passes)
-moments_leave Unstored gate' found group gate h h' moments base keeps passes =
+moments_leave Unstored end' found group end h h' moments base keeps passes =
     since_moments (OpensWithin found (group ∷ []) 0) h h' moments (keeps found [] h base).leaves passes
-moments_leave NoRoom gate' found group gate h h' moments base keeps passes =
+moments_leave NoRoom end' found group end h h' moments base keeps passes =
     all_weaker (LeavesOnly (OpensWithin found [] 0)) (LeavesOnly (OpensWithin found (group ∷ []) 0))
     (λ f p image is. of_none found group image (p image is)) moments
     (since_moments (OpensWithin found [] 0) h h' moments (keeps found [] h base).leaves passes)
 
 -- ---- The walk to a move.
 
--- the journal is idle with all commits, or nothing more is logged
+-- the log ends after all commits, or nothing more is logged
 data Stands (found : List Bytes) (groups : List Group) (p : Phase) (l : LogPlace) : Type 0 where
   idles : Idle found groups l → Stands found groups p l
   closes : IsClosing p → Stands found groups p l
 
--- what a stop leaves at the moments of a move: all before it, and its group or not
+-- what a crash leaves at the moments of a move: all before it, and its group or not
 AtMove : List Bytes → List Group → Move → Type 0
 AtMove found groups m = (m.moments ≡ []) ⊎ ((group : Group) × (m.logged ≡ group ∷ [])
     × AllByRecursion (LeavesOnly (OpensWithin (found ++ whole_lines groups) (group ∷ []) 0)) m.moments)
@@ -187,7 +188,7 @@ told_before : (groups : List Group) (answer : Kept) (moments : List File) (l l' 
     → LogsGroups groups answer moments l l' → IsSome l'.history → IsSome l.history
 told_before [] answer moments l l' h told = subst (λ (k : LogPlace). IsSome k.history) h.0 told
 told_before (group ∷ []) answer moments l l' h told =
-    by (λ a b. Keeps answer l.gate l'.gate group a b × PassesMoments moments a b) l.history l'.history h.1 told
+    by (λ a b. Keeps answer l.end l'.end group a b × PassesMoments moments a b) l.history l'.history h.1 told
   where
     by : (P : History → History → Type 0) → (o o' : Option History) → WhereHistoryTold o o' P → IsSome o' → IsSome o
     by P None None k some = cc
@@ -213,15 +214,15 @@ at_idle found groups (group ∷ []) answer moments l l' h idle told =
     lines = found ++ whole_lines groups
 
     by : (o o' : Option History) → l.history ≡ o → l'.history ≡ o' → WhereHistoryTold o o'
-        (λ h0 h1. Keeps answer l.gate l'.gate group h0 h1 × PassesMoments moments h0 h1) → IsSome o'
+        (λ h0 h1. Keeps answer l.end l'.end group h0 h1 × PassesMoments moments h0 h1) → IsSome o'
         → AllByRecursion (LeavesOnly (OpensWithin lines (group ∷ []) 0)) moments
     by None None e e' k some = cc
     by (Some h0) None e e' k some = cc
     by None (Some h1) e e' k some = absurd k
     by (Some h0) (Some h1) e e' k some =
         let i = idle h0 e in
-        moments_leave answer l'.gate lines group i.0 h0 h1 moments ((keeps_on.none) lines i.0 h0 i.2)
-        (subst (λ (gate : Option ℕ). Keeps answer gate l'.gate group h0 h1) i.1 k.0) k.1
+        moments_leave answer l'.end lines group i.0 h0 h1 moments ((keeps_on.none) lines i.0 h0 i.2)
+        (subst (λ (end : Option LogEnd). Keeps answer end l'.end group h0 h1) i.1 k.0) k.1
 at_idle found groups (group ∷ other ∷ more) answer moments l l' h idle told = absurd h
 
 -- the lines of one group more
@@ -242,25 +243,25 @@ idle_on found groups [] answer moments l l' h idle stored =
 idle_on found groups (group ∷ []) answer moments l l' h idle (inr none) = absurd cc
 idle_on found groups (group ∷ []) answer moments l l' h idle (inl stored) = λ h1 e'.
     by h1 l.history refl (subst (λ (o : Option History). WhereHistoryTold l.history o
-    (λ a b. Keeps answer l.gate l'.gate group a b × PassesMoments moments a b)) e' h.1)
+    (λ a b. Keeps answer l.end l'.end group a b × PassesMoments moments a b)) e' h.1)
   where
     lines : List Bytes
     lines = found ++ whole_lines groups
 
     by : (h1 : History) (o : Option History) → l.history ≡ o → WhereHistoryTold o (Some h1)
-        (λ a b. Keeps answer l.gate l'.gate group a b × PassesMoments moments a b)
-        → (g : ℕ) × (l'.gate ≡ Some g) × IsIdle (found ++ whole_lines (groups ++ group ∷ [])) g h1.file
+        (λ a b. Keeps answer l.end l'.end group a b × PassesMoments moments a b)
+        → (g : LogEnd) × (l'.end ≡ Some g) × IsIdleAt (found ++ whole_lines (groups ++ group ∷ [])) g h1.file
     by h1 None e k = absurd k
     by h1 (Some h0) e k =
         let i = idle h0 e in
-        let keeps : Keeps Stored (Some i.0) l'.gate group h0 h1 =
-        subst (λ (a : Kept). Keeps a (Some i.0) l'.gate group h0 h1) stored
-        (subst (λ (gate : Option ℕ). Keeps answer gate l'.gate group h0 h1) i.1 k.0) in
-        let there = stays_there l'.gate lines ([] ++ grouped group) i.0 h0 h1 ((keeps_on.none) lines i.0 h0 i.2)
+        let keeps : Keeps Stored (Some i.0) l'.end group h0 h1 =
+        subst (λ (a : Kept). Keeps a (Some i.0) l'.end group h0 h1) stored
+        (subst (λ (end : Option LogEnd). Keeps answer end l'.end group h0 h1) i.1 k.0) in
+        let there = stays_there l'.end lines ([] ++ grouped group) i.0 h0 h1 ((keeps_on.none) lines i.0 h0 i.2)
         (λ start b. keeps lines [] start b) in (
           there.0,
           there.1,
-          subst (λ (ls : List Bytes). IsIdle ls there.0 h1.file) (one_more found groups group)
+          subst (λ (ls : List Bytes). IsIdleAt ls there.0 h1.file) (one_more found groups group)
               (there.2).idle,
         )
 idle_on found groups (group ∷ other ∷ more) answer moments l l' h idle stored = absurd h
@@ -321,27 +322,27 @@ widen found first earlier group rest all image is o = record {
       ∙ ap (λ (gs : List Group). (first ++ earlier) ++ gs) (append_assoc o.whole o.later rest)
       ∙ sym (append_assoc (first ++ earlier) o.whole (o.later ++ rest));
   acknowledged = omega (arith, length-append (first ++ earlier) o.whole, length-append first earlier);
-  opens = subst (λ (ls : List Bytes). FileOpensTo ls image)
+  opens = subst (λ (ls : List Bytes). LogOpensToLines ls image)
       (append_assoc found (whole_lines (first ++ earlier)) (whole_lines o.whole)
       ∙ ap (λ (ls : List Bytes). found ++ ls) (sym (flat_map-append (λ (g : Group). g) (first ++ earlier) o.whole)))
       o.opens;
 }
 
-begun : (path : Bytes) (found : List Bytes) (first : List Group) (gate : ℕ) (o o' : Option History)
-    → WhereHistoryTold o o' (FindsLines path found first gate) → Idle found first (log_place (Some gate) o')
+begun : (path : Bytes) (found : List Bytes) (first : List Group) (end : LogEnd) (o o' : Option History)
+    → WhereHistoryTold o o' (FindsLines path found first end) → Idle found first (log_place (Some end) o')
 unfolding Idle
-begun path found first gate None (Some h1) k h e = absurd k
-begun path found first gate (Some h0) (Some h1) k h e =
-    (gate, refl, subst (λ (x : History). IsIdle (found ++ whole_lines first) gate x.file) (same e) (k.holds).idle)
+begun path found first end None (Some h1) k h e = absurd k
+begun path found first end (Some h0) (Some h1) k h e =
+    (end, refl, subst (λ (x : History). IsIdleAt (found ++ whole_lines first) end x.file) (same e) (k.holds).idle)
   where
     same : Some h1 ≡ Some h → h1 ≡ h
     same e = cc
-begun path found first gate o None k h e = cc
+begun path found first end o None k h e = cc
 
 pub moments_reopen : MomentsReopen
 unfolding AtMove
 moments_reopen log found first counted start loaded begins answer turns most hub hub' counted' state ends
-    (gate, gate', mid, finds, walk) before m later cut = by log.now.told refl
+    (end, end', mid, finds, walk) before m later cut = by log.now.told refl
   where
     moves : List Move
     moves = ends.goes.moves
@@ -368,10 +369,10 @@ moments_reopen log found first counted start loaded begins answer turns most hub
     by : (o : Option History) → log.now.told ≡ o → IfSome o (λ _. Leaves)
     by None e = tt
     by (Some h) e =
-        leaves (walks most found before first (server start waiting) (log_place (Some gate) mid) m later
-        (server state (closing answer)) (log_place gate' log.now.told)
+        leaves (walks most found before first (server start waiting) (log_place (Some end) mid) m later
+        (server state (closing answer)) (log_place end' log.now.told)
         (subst (λ (ms : List Move). Walk (MakesMove most) (server start waiting) ms (server state (closing answer))) cut
         ends.goes.walk)
-        (subst (λ (ms : List Move). Walk LogsMove (log_place (Some gate) mid) ms (log_place gate' log.now.told)) cut walk)
-        (idles (begun log.path found first gate log.before.told mid finds))
+        (subst (λ (ms : List Move). Walk LogsMove (log_place (Some end) mid) ms (log_place end' log.now.told)) cut walk)
+        (idles (begun log.path found first end log.before.told mid finds))
         (subst (λ (o : Option History). IsSome o) (sym e) refl))

@@ -1,30 +1,29 @@
--- How a log is opened and its lines are read, and what is left of its file where nothing begins.
-use Rattle.std.specs.Prelude.{ℕ, List, [], ◌∷◌, ◌++◌, ◌≡◌, ◌⊎◌, Option, None, Some, IfSome, length, take, drop}
-use Rattle.std.specs.Prelude.{slice_index_or}
-use Rattle.std.proofs.Common.{sym, ap, ◌∙◌, subst, inl, inr}
+-- How a log is opened and its lines are read, and what is left of its file if nothing begins.
+use Rattle.std.specs.Prelude.{ℕ, List, [], ◌∷◌, ◌++◌, ◌≡◌, ◌⊎◌, Option, None, Some, IfSome, take}
+use Rattle.std.proofs.Common.{refl, sym, ap, ◌∙◌, subst, inl, inr}
 use Rattle.djq_model.specs.Data.{Bytes}
-use Rattle.djq_disk.specs.File.{File, settled}
-use Rattle.djq_disk.specs.History.{History, WhereHistoryTold}
-use Rattle.djq_disk.specs.Leaving.{LeavesOnly}
-use Rattle.djq_disk.proofs.Files.{told_both, told_so, leaves_move}
-use Rattle.djq_journal.specs.declared.journal.Opened.TheVariants.{Ready, BadLog as BadFile, Failed as Unopened}
-use Rattle.djq_journal.specs.declared.line.Line.TheVariants.{Got, End, BadLog as BadLine}
-use Rattle.djq_journal.specs.Format.{FileOpensTo, IsBad, front}
-use Rattle.djq_journal.specs.Standing.{IsAtGate, IsIdle}
-use Rattle.djq_journal.specs.Calls.{after_sync, JournalOpens, JournalReads}
-use Rattle.djq_journal.specs.Keeping.{OpensWithin, IsKeeping}
-use Rattle.djq_journal.proofs.Appends.{keeps_on}
-use Rattle.djq_journal.proofs.Records.{opens_once, one_of_three}
+use Rattle.djq_disk.specs.File.{File}
+use Rattle.djq_disk.specs.History.{History, WhereHistoryTold, OpensPath}
+use Rattle.djq_disk.proofs.Files.{told_both, told_so}
+use Rattle.djq_log_file.specs.Opening.{IsUnbegun, synced_history}
+use Rattle.djq_log.specs.Lines.{LogOpensToLines, IsIdleAt}
+use Rattle.djq_log.specs.Reading.{HasReadLines, IsBadAt, IsNextAt, ReadsNext, OpensLogLines}
+use Rattle.djq_log.specs.declared.end.LogEnd.{LogEnd}
+use Rattle.djq_log.specs.declared.end.LogEnd.TheVariants.{First, Second}
+use Rattle.djq_log.specs.declared.source.LogSource.{LogSource}
+use Rattle.djq_log.specs.declared.source.NextLine.{NextLine}
+use Rattle.djq_log.specs.declared.source.NextLine.TheVariants.{Got, End, Bad}
+use Rattle.djq_log.specs.declared.opening.LogFound.TheVariants.{Made, Ready, Unknown, Failed as Unopened}
 use Rattle.djq_run.specs.declared.status.Status.{Status}
 use Rattle.djq_run.specs.declared.status.Status.TheVariants.{Done, Usage, ReadFault, WriteFault, HubFault, TurnsUsed}
 use Rattle.djq_run.specs.declared.status.Status.TheVariants.{NoMemory, Schedule, SessionEnded, DiskFault, LogFull}
 use Rattle.djq_run.specs.declared.status.Status.TheVariants.{BadLog, Mirror}
-use Rattle.djq_program_laws.specs.Logged.{asked_for, FindsLines, IsOnlyRead, LeavesUnloaded, HasNoHeader}
-use Rattle.djq_program_laws.specs.Parts.{HasFile, LacksFile, HasMade, IsOpened}
+use Rattle.djq_program_laws.specs.Logged.{asked_for, IsOnlyRead, LeavesUnloaded, IsNoLogFrom}
+use Rattle.djq_program_laws.specs.Parts.{FindsAll}
 
 -- ---- How a log is opened.
 
--- What is told in the end, by what was told before, if it matters.
+-- What holds of the history in the end, by what held of the disk before, if it matters.
 pub told_end : (old new : Option History) (P : History → History → Type 0) (Q : History → Type 0)
     → ((o n : History) → P o n → Q n) → WhereHistoryTold old new P → IfSome new Q
 told_end old None P Q so told = tt
@@ -48,117 +47,117 @@ told_then old None (Some n) P Q R S so p r q = absurd q
 told_then None (Some m) (Some n) P Q R S so p r q = absurd p
 told_then (Some o) (Some m) (Some n) P Q R S so p r q = so o m n p r q
 
--- A journal that was made stays idle behind a sync.
-idle_none : (gate : ℕ) (h : History) → IsIdle [] gate h.file → IsKeeping [] [] gate h h
-idle_none gate h idle = (keeps_on.none) [] gate h idle
+-- A log that was made has no lines.
+pub made_finds : (path : Bytes) (end : LogEnd) (old mid new : Option History)
+    → WhereHistoryTold old mid (OpensPath path) → WhereHistoryTold mid new (OpensLogLines (Made end))
+    → WhereHistoryTold old new (FindsAll path [] end)
+made_finds path end old mid new opens made =
+    told_both old mid new (OpensPath path) (OpensLogLines (Made end)) (FindsAll path [] end) both opens made
+  where
+    both : (o m n : History) → OpensPath path o m → OpensLogLines (Made end) m n → FindsAll path [] end o n
+    both o m n p q = (
+      inl (record {
+        unbegun = subst (λ (h : History). IsUnbegun h.file.bytes) p q.0.unbegun;
+        none = refl;
+        paths = q.0.paths ∙ ap (λ (h : History). h.paths) p;
+      }),
+      q.1,
+    )
 
-idle_synced : (gate : ℕ) (h : History) → IsIdle [] gate h.file → IsKeeping [] [] gate h (after_sync h)
-idle_synced gate h idle =
-    let keeping = idle_none gate h idle in
-    let same : settled h.file.bytes ≡ h.file = sym idle.still in
-    let now : LeavesOnly (OpensWithin [] [] 0) (settled h.file.bytes) = subst
-    (λ (f : File). LeavesOnly (OpensWithin [] [] 0) f) (sym same) (keeping.leaves).now in
-    record {
-      idle = subst (λ (f : File). IsIdle [] gate f) (sym same) idle;
-      leaves = leaves_move (OpensWithin [] [] 0) h h (settled h.file.bytes) keeping.leaves now;
-    }
+-- An older log is ready, and nothing but a sync was done.
+pub ready_read : (path : Bytes) (source : LogSource) (old mid new : Option History)
+    → WhereHistoryTold old mid (OpensPath path) → WhereHistoryTold mid new (OpensLogLines (Ready source))
+    → WhereHistoryTold old new (IsOnlyRead path)
+ready_read path source old mid new opens ready =
+    told_both old mid new (OpensPath path) (OpensLogLines (Ready source)) (IsOnlyRead path)
+    (λ o m n p q. record {
+      some = λ unbegun. q.1 (subst (λ (h : History). IsUnbegun h.file.bytes) (sym p) unbegun);
+      is = q.0 ∙ ap synced_history p;
+    }) opens ready
 
-made_finds : (path : Bytes) (old new : History) → HasMade path old new → FindsLines path [] [] 8 old new
-made_finds path old new (since, made, keeping) = record { since = since; begins = inl made; holds = keeping }
+pub ready_first : (source : LogSource) (mid new : Option History)
+    → WhereHistoryTold mid new (OpensLogLines (Ready source)) → IfSome new (λ h. HasReadLines [] source h.file)
+ready_first source mid new ready =
+    told_end mid new (OpensLogLines (Ready source)) (λ h. HasReadLines [] source h.file) (λ m n p. p.2) ready
 
--- behind the sync of an opening
-opened_synced : (path : Bytes) (o m n : History) → HasFile path o m → n ≡ after_sync m → IsOpened path o n
-opened_synced path o m n (inl (some, is)) same = inl (record { some = some; is = same ∙ ap after_sync is })
-opened_synced path o m n (inr (made, idle)) same = inr (subst (λ (h : History). HasMade path o h) (sym same)
-    (m, made, idle_synced 8 m idle))
+-- The log that is ready has these lines.
+idle_opens : (found : List Bytes) (end : LogEnd) (file : File) → IsIdleAt found end file
+    → LogOpensToLines found file.bytes
+idle_opens found (First gate) file idle = inl idle.opens
+idle_opens found (Second place) file (ends, still) = inr (record {
+  groups = ends.groups;
+  holds = record { stored = ends.ends.stored; opens = ends.ends.opens; are = ends.ends.are };
+  are = ends.are;
+})
 
-pub ready_opened : (path : Bytes) (gate : ℕ) (old mid new : Option History) → WhereHistoryTold old mid (HasFile path)
-    → WhereHistoryTold mid new (JournalOpens (Ready gate))
-    → WhereHistoryTold old new (IsOpened path)
-ready_opened path gate old mid new has opens =
-    told_both old mid new (HasFile path) (JournalOpens (Ready gate)) (IsOpened path)
-    (λ o m n p q. opened_synced path o m n p q.0) has opens
+pub older_finds : (path : Bytes) (found : List Bytes) (end : LogEnd) (old mid new : Option History)
+    → WhereHistoryTold old mid (IsOnlyRead path) → IfSome new (λ h. IsIdleAt found end h.file)
+    → WhereHistoryTold mid new (λ o n. n ≡ o) → WhereHistoryTold old new (FindsAll path found end)
+older_finds path found end old mid new read idle same =
+    told_then old mid new (IsOnlyRead path) (λ o n. n ≡ o) (λ h. IsIdleAt found end h.file) (FindsAll path found end)
+    (λ o m n p r q. finds o n (subst (λ (h : History). IsOnlyRead path o h) (sym q) p) r) read idle same
+  where
+    finds : (o n : History) → IsOnlyRead path o n → IsIdleAt found end n.file → FindsAll path found end o n
+    finds o n p r = (
+      inr (
+        record {
+          lines = subst (λ (bytes : List ℕ). LogOpensToLines found bytes) (ap (λ (h : History). h.file.bytes) p.is)
+              (idle_opens found end n.file r);
+          is = p.is;
+        },
+        p.some,
+      ),
+      r,
+    )
 
-pub ready_first : (gate : ℕ) (mid new : Option History) → WhereHistoryTold mid new (JournalOpens (Ready gate))
-    → IfSome new (λ h. IsAtGate [] gate h.file)
-ready_first gate mid new opens =
-    told_end mid new (JournalOpens (Ready gate)) (λ h. IsAtGate [] gate h.file) (λ m n p. p.1) opens
+-- ---- What is left if nothing begins.
 
--- ---- What is left where nothing begins.
-
--- An open of the file failed, or making a journal in it did.
-pub lacking_leaves : (path : Bytes) (old new : Option History) → WhereHistoryTold old new (LacksFile path)
+-- An open of the file failed.
+pub unasked_leaves : (path : Bytes) (old new : Option History) → WhereHistoryTold old new (OpensPath path)
     → WhereHistoryTold old new (LeavesUnloaded DiskFault path)
-lacking_leaves path old new lacks = told_so old new (LacksFile path) (LeavesUnloaded DiskFault path) so lacks
+unasked_leaves path old new opens =
+    told_so old new (OpensPath path) (LeavesUnloaded DiskFault path) (λ o n is. inl (inl is)) opens
+
+-- A file was opened, and the log in it wasn't.
+pub unopened_leaves : (path : Bytes) (old mid new : Option History) → WhereHistoryTold old mid (OpensPath path)
+    → WhereHistoryTold mid new (OpensLogLines Unopened) → WhereHistoryTold old new (LeavesUnloaded DiskFault path)
+unopened_leaves path old mid new opens failed = told_both old mid new (OpensPath path) (OpensLogLines Unopened)
+    (LeavesUnloaded DiskFault path) both opens failed
   where
-    so : (o n : History) → LacksFile path o n → LeavesUnloaded DiskFault path o n
-    so o n (inl is) = inl (inl is)
-    so o n (inr unmade) = inr (inl unmade)
+    both : (o m n : History) → OpensPath path o m → OpensLogLines Unopened m n → LeavesUnloaded DiskFault path o n
+    both o m n p (inl same) = inl (inl (same ∙ p))
+    both o m n p (inr (inl same)) = inl (inr (same ∙ ap synced_history p))
+    both o m n p (inr (inr makes)) = inr (inl (record {
+      unbegun = subst (λ (h : History). IsUnbegun h.file.bytes) p makes.unbegun;
+      paths = makes.paths ∙ ap (λ (h : History). h.paths) p;
+    }))
 
--- A file was opened, and the journal in it wasn't.
-pub unopened_leaves : (path : Bytes) (old mid new : Option History) → WhereHistoryTold old mid (HasFile path)
-    → WhereHistoryTold mid new (JournalOpens Unopened) → WhereHistoryTold old new (LeavesUnloaded DiskFault path)
-unopened_leaves path old mid new has opens = told_both old mid new (HasFile path) (JournalOpens Unopened)
-    (LeavesUnloaded DiskFault path) both has opens
+-- A file that is no log was read, and nothing else was done.
+pub unknown_leaves : (path : Bytes) (old mid new : Option History) → WhereHistoryTold old mid (OpensPath path)
+    → WhereHistoryTold mid new (OpensLogLines Unknown) → WhereHistoryTold old new (IsOnlyRead path)
+unknown_leaves path old mid new opens unknown =
+    told_both old mid new (OpensPath path) (OpensLogLines Unknown) (IsOnlyRead path)
+    (λ o m n p q. record {
+      some = λ unbegun. q.1.begun (subst (λ (h : History). IsUnbegun h.file.bytes) (sym p) unbegun);
+      is = q.0 ∙ ap synced_history p;
+    }) opens unknown
+
+pub unknown_from : (mid new : Option History) → WhereHistoryTold mid new (OpensLogLines Unknown)
+    → IfSome new (IsNoLogFrom 0)
+unknown_from mid new unknown = told_end mid new (OpensLogLines Unknown) (IsNoLogFrom 0)
+    (λ m n p. (
+      refl,
+      record {
+        begun = λ h. p.1.begun (back m n p.0 IsUnbegun h);
+        no_first = λ h. p.1.no_first (back m n p.0 _ h);
+        no_second = λ h. p.1.no_second (back m n p.0 _ h);
+      },
+    )) unknown
   where
-    same_paths : (m n : History) → JournalOpens Unopened m n → n.paths ≡ m.paths
-    same_paths m n (inl same) = ap (λ (h : History). h.paths) same
-    same_paths m n (inr same) = ap (λ (h : History). h.paths) same
+    back : (m n : History) → n ≡ synced_history m → (P : List ℕ → Type 0) → P n.file.bytes → P m.file.bytes
+    back m n is P h = subst (λ (bytes : List ℕ). P bytes) (ap (λ (k : History). k.file.bytes) is) h
 
-    both : (o m n : History) → HasFile path o m → JournalOpens Unopened m n → LeavesUnloaded DiskFault path o n
-    both o m n (inl (some, is)) (inl same) = inl (inl (same ∙ is))
-    both o m n (inl (some, is)) (inr same) = inl (inr (same ∙ ap after_sync is))
-    both o m n (inr (made, idle)) p = inr (inl (record { empty = made.empty; paths = same_paths m n p ∙ made.paths }))
-
--- A file without a journal's header had bytes, since a journal that was made has one.
-pub headless_leaves : (path : Bytes) (at : ℕ) (old mid new : Option History) → WhereHistoryTold old mid (HasFile path)
-    → WhereHistoryTold mid new (JournalOpens (BadFile at)) → WhereHistoryTold old new (IsOnlyRead path)
-headless_leaves path at old mid new has opens =
-    told_both old mid new (HasFile path) (JournalOpens (BadFile at)) (IsOnlyRead path) both has opens
-  where
-    both : (o m n : History) → HasFile path o m → JournalOpens (BadFile at) m n → IsOnlyRead path o n
-    both o m n (inl (some, is)) p = record { some = some; is = p.0 ∙ ap after_sync is }
-    both o m n (inr (made, idle)) p = absurd (p.2 ((idle.opens).gate ∷ (idle.opens).behind) (idle.opens).is)
-
-pub headless : (at : ℕ) (mid new : Option History) → WhereHistoryTold mid new (JournalOpens (BadFile at))
-    → IfSome new (HasNoHeader at)
-headless at mid new opens = told_end mid new (JournalOpens (BadFile at)) (HasNoHeader at)
-    (λ m n p. (p.1, λ rest is. p.2 rest (sym (ap (λ (h : History). h.file.bytes) p.0) ∙ is))) opens
-
--- A file whose first gate is open isn't a journal without lines.
-starts_open : (line : Bytes) (lines : List Bytes) (rest file : List ℕ) → file ≡ front (line ∷ lines) ++ rest
-    → FileOpensTo [] file → ⊥
-starts_open line lines rest file is opens =
-    opens.shut (ap (λ (bytes : List ℕ). slice_index_or bytes 8 0) (sym opens.is ∙ is))
-
--- one with a line isn't,
-read_some : (found : List Bytes) (line : Bytes) (gate : ℕ) (file : File) → IsAtGate (found ++ line ∷ []) gate file
-    → FileOpensTo [] file.bytes → ⊥
-read_some [] line gate file at opens = starts_open line [] at.rest file.bytes at.is opens
-read_some (f ∷ found) line gate file at opens = starts_open f (found ++ line ∷ []) at.rest file.bytes at.is opens
-
--- and one that is bad isn't.
-bad_some : (found : List Bytes) (at : ℕ) (file : File) → IsAtGate found at file → IsBad (drop at file.bytes)
-    → FileOpensTo [] file.bytes → ⊥
-bad_some (f ∷ found) at file stands bad opens = starts_open f found stands.rest file.bytes stands.is opens
-bad_some [] at file stands bad opens =
-    (one_of_three (opens.gate ∷ opens.behind)).no_end
-    (subst (λ (bytes : List ℕ). IsBad (drop 8 bytes)) opens.is
-    (subst (λ (k : ℕ). IsBad (drop k file.bytes)) stands.place bad)) opens.shut
-
-pub read_lines : (found : List Bytes) (line : Bytes) (gate : ℕ) (told : Option History)
-    → IfSome told (λ h. IsAtGate (found ++ line ∷ []) gate h.file)
-    → IfSome told (λ h. FileOpensTo [] h.file.bytes → ⊥)
-read_lines found line gate None at = tt
-read_lines found line gate (Some h) at = read_some found line gate h.file at
-
-pub bad_lines : (found : List Bytes) (at : ℕ) (told : Option History)
-    → IfSome told (λ h. IsAtGate found at h.file) → IfSome told (λ h. IsBad (drop at h.file.bytes))
-    → IfSome told (λ h. FileOpensTo [] h.file.bytes → ⊥)
-bad_lines found at None stands bad = tt
-bad_lines found at (Some h) stands bad = bad_some found at h.file stands bad
-
--- Whatever the status, an older journal may be left as it was.
+-- Whatever the status, an older log may be left as it was.
 older_leaves : (status : Status) (path : Bytes) (o n : History) → IsOnlyRead path o n → LeavesUnloaded status path o n
 older_leaves DiskFault path o n read = inl (inr read.is)
 older_leaves NoMemory path o n read = inr read
@@ -174,137 +173,59 @@ older_leaves LogFull path o n read = read
 older_leaves (BadLog at) path o n read = read
 older_leaves (Mirror n') path o n read = read
 
--- What was opened is left where its lines weren't loaded: nothing was written behind it.
+-- What was opened is left if its lines weren't loaded: nothing was written.
 pub opened_leaves : (status : Status) (path : Bytes) (old mid new : Option History)
-    → WhereHistoryTold old mid (IsOpened path) → WhereHistoryTold mid new (λ o n. n ≡ o)
-    → IfSome new (λ h. FileOpensTo [] h.file.bytes → ⊥) ⊎ (status ≡ DiskFault)
+    → WhereHistoryTold old mid (IsOnlyRead path) → WhereHistoryTold mid new (λ o n. n ≡ o)
     → WhereHistoryTold old new (LeavesUnloaded status path)
-opened_leaves status path old mid new opened same (inl lines) =
-    told_then old mid new (IsOpened path) (λ o n. n ≡ o) (λ h. FileOpensTo [] h.file.bytes → ⊥)
-    (LeavesUnloaded status path)
-    (λ o m n p r q. older_leaves status path o n
-    (older o n (subst (λ (h : History). IsOpened path o h) (sym q) p) r)) opened lines same
-  where
-    older : (o n : History) → IsOpened path o n → (FileOpensTo [] n.file.bytes → ⊥) → IsOnlyRead path o n
-    older o n (inl read) lines = read
-    older o n (inr (since, made, keeping)) lines = absurd (lines (keeping.idle).opens)
-opened_leaves status path old mid new opened same (inr is) =
-    subst (λ (s : Status). WhereHistoryTold old new (LeavesUnloaded s path)) (sym is)
-    (told_both old mid new (IsOpened path) (λ o n. n ≡ o) (LeavesUnloaded DiskFault path)
-    (λ o m n p q. left o n (subst (λ (h : History). IsOpened path o h) (sym q) p)) opened same)
-  where
-    left : (o n : History) → IsOpened path o n → LeavesUnloaded DiskFault path o n
-    left o n (inl read) = inl (inr read.is)
-    left o n (inr (since, made, keeping)) =
-        inr (inl (record { empty = made.empty; paths = (keeping.leaves).paths ∙ made.paths }))
+opened_leaves status path old mid new read same =
+    told_both old mid new (IsOnlyRead path) (λ o n. n ≡ o) (LeavesUnloaded status path)
+    (λ o m n p q. older_leaves status path o n (subst (λ (h : History). IsOnlyRead path o h) (sym q) p)) read same
 
 -- ---- What lines are found.
 
--- the older journal has these lines
-older_finds : (path : Bytes) (found : List Bytes) (gate : ℕ) (o n : History) → n ≡ after_sync (asked_for path o)
-    → IsIdle found gate n.file → FindsLines path found [] gate o n
-older_finds path found gate o n is idle = record {
-  since = n;
-  begins = inr (record {
-    lines = subst (λ (bytes : List ℕ). FileOpensTo found bytes) (ap (λ (h : History). h.file.bytes) is)
-        idle.opens;
-    is = is;
-  });
-  holds = (keeps_on.none) found gate n idle;
-}
+-- what a question for the next line changes and finds
+abbrev pub AsksNext : NextLine → LogSource → List ℕ → History → History → Type 0
+AsksNext answer source buf o n =
+    (n ≡ o) × ((lines : List Bytes) → HasReadLines lines source o.file → ReadsNext answer lines buf o.file)
 
--- a journal that was made has none
-made_has_none : (path : Bytes) (found : List Bytes) (gate : ℕ) (o n : History) → FindsLines path [] [] 8 o n
-    → IsIdle found gate n.file → FindsLines path found [] gate o n
-made_has_none path found gate o n finds idle =
-    let none : [] ≡ found = opens_once [] found n.file.bytes ((finds.holds).idle).opens idle.opens in
-    let place : 8 ≡ gate = ((finds.holds).idle).place ∙ ap (λ (ls : List Bytes). length (front ls)) none
-    ∙ sym idle.place in
-    subst (λ (k : ℕ). FindsLines path found [] k o n) place
-    (subst (λ (ls : List Bytes). FindsLines path ls [] 8 o n) none finds)
+pub next_read : (found : List Bytes) (source next : LogSource) (n at : ℕ) (buf : List ℕ) (old new : Option History)
+    → IfSome old (λ h. HasReadLines found source h.file)
+    → WhereHistoryTold old new (AsksNext (Got next n at) source buf)
+    → IfSome new (λ h. HasReadLines (found ++ take n buf ∷ []) next h.file)
+next_read found source next n at buf old new has asks =
+    told_on old new (AsksNext (Got next n at) source buf) (λ h. HasReadLines found source h.file)
+    (λ h. HasReadLines (found ++ take n buf ∷ []) next h.file)
+    (λ o h is p. subst (λ (k : History). HasReadLines (found ++ take n buf ∷ []) next k.file) (sym p.0)
+    (p.1 found is).0) has asks
 
--- All lines were found.
-pub opened_finds : (path : Bytes) (found : List Bytes) (gate : ℕ) (old mid new : Option History)
-    → WhereHistoryTold old mid (IsOpened path)
-    → IfSome new (λ h. IsIdle found gate h.file) → WhereHistoryTold mid new (λ o n. n ≡ o)
-    → WhereHistoryTold old new (λ o n. IsOpened path o n × FindsLines path found [] gate o n)
-opened_finds path found gate old mid new opened idle same =
-    told_then old mid new (IsOpened path) (λ o n. n ≡ o) (λ h. IsIdle found gate h.file)
-    (λ o n. IsOpened path o n × FindsLines path found [] gate o n)
-    (λ o m n p r q. all o n (subst (λ (h : History). IsOpened path o h) (sym q) p) r) opened idle same
-  where
-    all : (o n : History) → IsOpened path o n → IsIdle found gate n.file
-        → IsOpened path o n × FindsLines path found [] gate o n
-    all o n (inl read) r = (inl read, older_finds path found gate o n read.is r)
-    all o n (inr made) r = (inr made, made_has_none path found gate o n (made_finds path o n made) r)
+pub next_stands : (found : List Bytes) (source next : LogSource) (n at : ℕ) (buf : List ℕ) (old new : Option History)
+    → IfSome old (λ h. HasReadLines found source h.file)
+    → WhereHistoryTold old new (AsksNext (Got next n at) source buf)
+    → IfSome new (λ h. IsNextAt found (take n buf) at h.file)
+next_stands found source next n at buf old new has asks =
+    told_on old new (AsksNext (Got next n at) source buf) (λ h. HasReadLines found source h.file)
+    (λ h. IsNextAt found (take n buf) at h.file)
+    (λ o h is p. subst (λ (k : History). IsNextAt found (take n buf) at k.file) (sym p.0) (p.1 found is).1) has asks
 
--- What is read at a journal's place.
-pub read_line : (found : List Bytes) (n gate gate' : ℕ) (buf : List ℕ) (old new : Option History)
-    → IfSome old (λ h. IsAtGate found gate h.file)
-    → WhereHistoryTold old new
-    (λ o n'. (n' ≡ o) × (IsAtGate found gate o.file → JournalReads (Got n) found gate gate' buf o.file))
-    → IfSome new (λ h. IsAtGate (found ++ take n buf ∷ []) gate' h.file)
-read_line found n gate gate' buf old new at told =
-    told_on old new (λ o n'. (n' ≡ o) × (IsAtGate found gate o.file → JournalReads (Got n) found gate gate' buf o.file))
-    (λ h. IsAtGate found gate h.file)
-    (λ h. IsAtGate (found ++ take n buf ∷ []) gate' h.file)
-    (λ o n' is p. subst (λ (h : History). IsAtGate (found ++ take n buf ∷ []) gate' h.file) (sym p.0) (p.1 is)) at told
+pub next_ends : (found : List Bytes) (source : LogSource) (end : LogEnd) (buf : List ℕ) (old new : Option History)
+    → IfSome old (λ h. HasReadLines found source h.file) → WhereHistoryTold old new (AsksNext (End end) source buf)
+    → IfSome new (λ h. IsIdleAt found end h.file)
+next_ends found source end buf old new has asks =
+    told_on old new (AsksNext (End end) source buf) (λ h. HasReadLines found source h.file)
+    (λ h. IsIdleAt found end h.file)
+    (λ o h is p. subst (λ (k : History). IsIdleAt found end k.file) (sym p.0) (p.1 found is)) has asks
 
-pub read_end : (found : List Bytes) (gate gate' : ℕ) (buf : List ℕ) (old new : Option History)
-    → IfSome old (λ h. IsAtGate found gate h.file)
-    → WhereHistoryTold old new
-    (λ o n. (n ≡ o) × (IsAtGate found gate o.file → JournalReads End found gate gate' buf o.file))
-    → IfSome new (λ h. IsIdle found gate h.file)
-read_end found gate gate' buf old new at told =
-    told_on old new (λ o n. (n ≡ o) × (IsAtGate found gate o.file → JournalReads End found gate gate' buf o.file))
-    (λ h. IsAtGate found gate h.file)
-    (λ h. IsIdle found gate h.file)
-    (λ o n is p. subst (λ (h : History). IsIdle found gate h.file) (sym p.0) (p.1 is).0) at told
+pub next_bad : (found : List Bytes) (source : LogSource) (at : ℕ) (buf : List ℕ) (old new : Option History)
+    → IfSome old (λ h. HasReadLines found source h.file) → WhereHistoryTold old new (AsksNext (Bad at) source buf)
+    → IfSome new (λ h. IsBadAt found at h.file)
+next_bad found source at buf old new has asks =
+    told_on old new (AsksNext (Bad at) source buf) (λ h. HasReadLines found source h.file)
+    (λ h. IsBadAt found at h.file)
+    (λ o h is p. subst (λ (k : History). IsBadAt found at k.file) (sym p.0) (p.1 found is)) has asks
 
-pub read_bad : (found : List Bytes) (at gate gate' : ℕ) (buf : List ℕ) (old new : Option History)
-    → IfSome old (λ h. IsAtGate found gate h.file)
-    → WhereHistoryTold old new
-    (λ o n. (n ≡ o) × (IsAtGate found gate o.file → JournalReads (BadLine at) found gate gate' buf o.file))
-    → IfSome new (λ h. IsAtGate found at h.file) × IfSome new (λ h. IsBad (drop at h.file.bytes))
-read_bad found at gate gate' buf old new is told =
-    let P = λ (o n : History). (n ≡ o)
-    × (IsAtGate found gate o.file → JournalReads (BadLine at) found gate gate' buf o.file) in (
-      told_on old new P (λ h. IsAtGate found gate h.file) (λ h. IsAtGate found at h.file)
-          (λ o n q p. stands o n q p) is told,
-      told_on old new P (λ h. IsAtGate found gate h.file) (λ h. IsBad (drop at h.file.bytes))
-          (λ o n q p. bad o n q p) is
-          told,
-    )
-  where
-    stands : (o n : History) → IsAtGate found gate o.file → (n ≡ o)
-        × (IsAtGate found gate o.file → JournalReads (BadLine at) found gate gate' buf o.file)
-        → IsAtGate found at n.file
-    stands o n q p = subst (λ (h : History). IsAtGate found at h.file) (sym p.0)
-        (subst (λ (k : ℕ). IsAtGate found k o.file) (sym (p.1 q).0) q)
-
-    bad : (o n : History) → IsAtGate found gate o.file → (n ≡ o)
-        × (IsAtGate found gate o.file → JournalReads (BadLine at) found gate gate' buf o.file)
-        → IsBad (drop at n.file.bytes)
-    bad o n q p = subst (λ (h : History). IsBad (drop at h.file.bytes)) (sym p.0)
-        (subst (λ (k : ℕ). IsBad (drop k o.file.bytes)) (sym (p.1 q).0) (p.1 q).1)
-
--- a call that changes nothing of the disk, behind others
+-- a call that changes nothing of the disk, after others
 pub same_both : (old mid new : Option History) (R : History → History → Type 0)
     → WhereHistoryTold old mid (λ o n. n ≡ o)
     → WhereHistoryTold mid new (λ o n. (n ≡ o) × R o n) → WhereHistoryTold old new (λ o n. n ≡ o)
 same_both old mid new R same told = told_both old mid new (λ o n. n ≡ o) (λ o n. (n ≡ o) × R o n) (λ o n. n ≡ o)
     (λ o m n p q. q.0 ∙ p) same told
-
--- Reading a line changes nothing of the disk.
-pub read_still : (found : List Bytes) (gate : ℕ) (R : History → History → Type 0) (old new : Option History)
-    → IfSome old (λ h. IsAtGate found gate h.file)
-    → WhereHistoryTold old new (λ o n. (n ≡ o) × R o n) → IfSome new (λ h. IsAtGate found gate h.file)
-read_still found gate R old new at told =
-    told_on old new (λ o n. (n ≡ o) × R o n) (λ h. IsAtGate found gate h.file) (λ h. IsAtGate found gate h.file)
-    (λ o n is p. subst (λ (h : History). IsAtGate found gate h.file) (sym p.0) is) at told
-
-pub stands_behind : (found : List Bytes) (line : Bytes) (gate : ℕ) (told : Option History)
-    → IfSome told (λ h. IsAtGate (found ++ line ∷ []) gate h.file)
-    → IfSome told (λ h. (behind : ℕ) × IsAtGate (found ++ line ∷ []) behind h.file)
-stands_behind found line gate None at = tt
-stands_behind found line gate (Some h) at = (gate, at)

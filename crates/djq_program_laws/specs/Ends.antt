@@ -8,6 +8,7 @@ use Rattle.djq_io.specs.Script.{WhereTold}
 use Rattle.djq_io.specs.declared.hub.Listened.{Listened}
 use Rattle.djq_io.specs.declared.hub.Listened.TheVariants.{Ready, Failed}
 use Rattle.djq_io.specs.declared.hub.Told.TheVariants.{Listening}
+use Rattle.djq_log.specs.declared.end.LogEnd.{LogEnd}
 use Rattle.djq_model.specs.Data.{Bytes}
 use Rattle.djq_protocol.specs.Reply.{line}
 use Rattle.djq_machine.specs.State.{State, opening}
@@ -66,7 +67,7 @@ pub record Listens (addr : Bytes) (answer : Listened) (old new : Shown) : Type 0
   pub ids : new.ids ≡ old.ids
 
 -- **The theorem of `serve`.** The lines of the log were loaded, and a batch that they left open was
--- ended by a line kept behind them; the hub listened at the address, and then the server served it from
+-- ended by a line appended after them; the hub listened at the address, and then the server served it from
 -- what they gave on, in rounds of at most so many turns: by moves that are a run of the join machine, of which
 -- the hub tells, with each session sent what is its, lines run by turns and none left for the next round. What the
 -- run logs is in the log, one group a commit, before anything of the commit is sent; and each move says through
@@ -96,8 +97,8 @@ pub record Unheard (log : Option LogSeen) (status : Status) (addr : Bytes) (hub 
   pub first : List Group
   pub start : State
   pub begins : Begins log found first counted start counted'
-  pub gate : Option ℕ
-  pub lines : FoundIn log found first gate
+  pub end : Option LogEnd
+  pub lines : FoundIn log found first end
   pub listens : Listens addr Failed hub.shown hub'.shown
   pub faults : Counted hub.faults hub'.faults
   pub is : status ≡ HubFault

@@ -1,13 +1,14 @@
--- How the log of a program is opened and loaded, and what it keeps of the run that follows.
-use Rattle.std.specs.Prelude.{ℕ, List, [], ◌∷◌, ◌++◌, ◌≡◌, ◌≢◌, ◌⊎◌, Option, None, Some, IsSome, IfSome, drop, codes}
+-- How the log of a program is opened and loaded, and what it has of the run that follows.
+use Rattle.std.specs.Prelude.{ℕ, List, [], ◌∷◌, ◌++◌, ◌≡◌, ◌⊎◌, Option, None, Some, IsSome, IfSome, codes}
 use Rattle.std.specs.Borrow.{Bor}
 use Rattle.djq_io.specs.Faults.{Counted}
 use Rattle.djq_disk.specs.History.{History, WhereHistoryTold}
-use Rattle.djq_journal.specs.Format.{header, FileOpensTo, IsBad}
-use Rattle.djq_journal.specs.Standing.{IsAtGate, IsIdle}
-use Rattle.djq_journal.specs.Calls.{after_sync}
-use Rattle.djq_journal.specs.Keeping.{IsKeeping, WasKeeping}
-use Rattle.djq_journal.specs.Logging.{Overfull}
+use Rattle.djq_log_file.specs.Opening.{IsUnbegun, synced_history}
+use Rattle.djq_log.specs.Lines.{LogOpensToLines, IsIdleAt}
+use Rattle.djq_log.specs.Reading.{IsNoLog, IsBadAt, IsNextAt}
+use Rattle.djq_log.specs.Keeping.{IsKeeping, WasKeeping}
+use Rattle.djq_log.specs.Logging.{Overfull}
+use Rattle.djq_log.specs.declared.end.LogEnd.{LogEnd}
 use Rattle.djq_model.specs.Data.{Bytes}
 use Rattle.djq_protocol.specs.declared.held.HeldRow.{HeldRow}
 use Rattle.djq_machine.specs.State.{State, opening}
@@ -27,12 +28,12 @@ use Rattle.djq_serve.specs.Server.{Move}
 use Rattle.djq_serve.specs.Goes.{log_place, LogsMove}
 use Rattle.djq_serve.specs.Logged.{DiskCounts, IsNotOfDisk}
 
--- A disk, as the program shows it: what it went through, where that is told, and its count of faults.
+-- A disk, as the program shows it: its history, if it records one, and its count of faults.
 pub record DiskSeen : Type 0 where
   pub told : Option History
   pub faults : ℕ
 
--- a disk that went through this, where that is told, with this count of faults
+-- a disk of this history, if it records one, with this count of faults
 abbrev pub disk_seen : Option History → ℕ → DiskSeen
 disk_seen told faults = record { told = told; faults = faults }
 
@@ -66,22 +67,22 @@ served_status HubFailed = HubFault
 served_status DiskFailed = DiskFault
 served_status Full = LogFull
 
--- the history behind an open of the file at this path, whatever it answered
+-- the history after an open of the file at this path, whatever it answered
 abbrev pub asked_for : Bytes → History → History
 asked_for path h = record h { paths = h.paths ++ path ∷ [] }
 
--- A journal without lines was made, in a file without bytes.
+-- A log without lines was made, in a file in which none was begun.
 pub record LogIsMade (path : Bytes) (found : List Bytes) (old since : History) : Type 0 where
-  pub empty : old.file.bytes ≡ []
+  pub unbegun : IsUnbegun old.file.bytes
   pub none : found ≡ []
   pub paths : since.paths ≡ old.paths ++ path ∷ []
 
--- An older journal was opened, which has these lines. All that was asked of the disk is a sync.
+-- An older log was opened, which has these lines. All that was asked of the disk is a sync.
 pub record IsOlder (path : Bytes) (found : List Bytes) (old since : History) : Type 0 where
-  pub lines : FileOpensTo found old.file.bytes
-  pub is : since ≡ after_sync (asked_for path old)
+  pub lines : LogOpensToLines found old.file.bytes
+  pub is : since ≡ synced_history (asked_for path old)
 
--- One file was opened, by this path. Its journal was made, or an older one of these lines was
+-- One file was opened, by this path. Its log was made, or an older one of these lines was
 -- opened, and this holds of the moment when that was done.
 pub record SinceOpened (path : Bytes) (found : List Bytes) (P : History → Type 0) (old : History) : Type 0 where
   pub since : History
@@ -92,79 +93,79 @@ pub record SinceOpened (path : Bytes) (found : List Bytes) (P : History → Type
 abbrev pub abandoning : Group
 abandoning = codes "abandon" ∷ []
 
--- what is kept before anything is served: nothing, where the lines found leave no batch open; and
--- `abandon` behind them, where they leave one open
+-- what is appended before anything is served: nothing, if the lines found leave no batch open; and
+-- `abandon`, if they leave one open
 abbrev pub first_kept : Option (List HeldRow) → List Group
 first_kept None = []
 first_kept (Some held) = abandoning ∷ []
 
--- The journal has these lines, and behind them these groups, and stands idle then; and at each moment
--- since it was opened a stop leaves the lines and whole groups, the first ones.
-abbrev pub FindsLines : Bytes → List Bytes → List Group → ℕ → History → History → Type 0
-FindsLines path found first gate old new = SinceOpened path found (λ since. IsKeeping found first gate since new) old
+-- The log has these lines, and after them these groups, and ends here then; and at each moment
+-- since it was opened a crash leaves the lines and whole groups, the first ones.
+abbrev pub FindsLines : Bytes → List Bytes → List Group → LogEnd → History → History → Type 0
+FindsLines path found first end old new = SinceOpened path found (λ since. IsKeeping found first end since new) old
 
--- All but the last of some groups were kept behind the first ones, and that may be.
+-- All but the last of some groups were appended after the first ones, and that may be.
 pub record LostLast (found : List Bytes) (first groups : List Group) (since new : History) : Type 0 where
   pub whole : List Group
   pub last : Group
   pub cut : groups ≡ whole ++ last ∷ []
   pub kept : WasKeeping found (first ++ whole) last since new
 
--- All but the last of some groups are kept behind the first ones, and for that there is no room.
+-- All but the last of some groups are in the log after the first ones, and for that there is no room.
 pub record LeftLast (found : List Bytes) (first groups : List Group) (since new : History) : Type 0 where
   pub whole : List Group
   pub last : Group
   pub cut : groups ≡ whole ++ last ∷ []
-  pub gate : ℕ
-  pub full : Overfull (Some gate) last
-  pub kept : IsKeeping found (first ++ whole) gate since new
+  pub end : LogEnd
+  pub full : Overfull (Some end) last
+  pub kept : IsKeeping found (first ++ whole) end since new
 
--- What is kept of groups behind the lines found and what was kept first, by the answer of the loop: at
--- each moment since a stop leaves whole groups, the first ones; and in the end all of them, or all but
+-- What the log has of groups after the lines found and what was appended first, by the answer of the loop: at
+-- each moment since a crash leaves whole groups, the first ones; and in the end all of them, or all but
 -- the last.
 abbrev pub KeptAs : Served → List Bytes → List Group → List Group → History → History → Type 0
 KeptAs DiskFailed found first groups since new = LostLast found first groups since new
 KeptAs Full found first groups since new = LeftLast found first groups since new
-KeptAs _ found first groups since new = (gate : ℕ) × IsKeeping found (first ++ groups) gate since new
+KeptAs _ found first groups since new = (end : LogEnd) × IsKeeping found (first ++ groups) end since new
 
--- What serving leaves in the log that is asked for, if one is: behind the lines found what was kept
--- first, and the groups of lines that the machine's steps kept. Without one it doesn't end by the disk.
+-- What serving leaves in the log that is asked for, if one is: after the lines found what was appended
+-- first, and the groups of lines that the machine's steps logged. Without one it doesn't end by the disk.
 abbrev pub Logs : Option LogSeen → List Bytes → List Group → Served → List Group → Type 0
 Logs None found first answer groups = IsNotOfDisk answer
 Logs (Some log) found first answer groups = DiskCounts (Some answer) log.before.faults log.now.faults
     × WhereHistoryTold log.before.told log.now.told
     (λ o n. SinceOpened log.path found (λ since. KeptAs answer found first groups since n) o)
 
--- The log that is asked for, if one is, has these lines and what was kept first, and nothing else was
--- done: it stands idle at this gate.
-abbrev pub FoundIn : Option LogSeen → List Bytes → List Group → Option ℕ → Type 0
-FoundIn None found first gate = gate ≡ None
+-- The log that is asked for, if one is, has these lines and what was appended first, and nothing else was
+-- done: it ends here.
+abbrev pub FoundIn : Option LogSeen → List Bytes → List Group → Option LogEnd → Type 0
+FoundIn None found first end = end ≡ None
 FoundIn (Some log) found first None = ⊥
-FoundIn (Some log) found first (Some gate) = (log.now.faults ≡ log.before.faults)
-    × WhereHistoryTold log.before.told log.now.told (FindsLines log.path found first gate)
+FoundIn (Some log) found first (Some end) = (log.now.faults ≡ log.before.faults)
+    × WhereHistoryTold log.before.told log.now.told (FindsLines log.path found first end)
 
--- Where a log is asked for, its journal stood idle after the lines found and what was kept first, and then each move
+-- If a log is asked for, it ended after the lines found and what was appended first, and then each move
 -- did to it what the move says.
 abbrev pub IsStored : Option LogSeen → List Bytes → List Group → List Move → Type 0
 IsStored None found first moves = Unit {0}
-IsStored (Some log) found first moves = (gate : ℕ) × (gate' : Option ℕ) × (mid : Option History)
-    × WhereHistoryTold log.before.told mid (FindsLines log.path found first gate)
-    × Walk LogsMove (log_place (Some gate) mid) moves (log_place gate' log.now.told)
+IsStored (Some log) found first moves = (end : LogEnd) × (end' : Option LogEnd) × (mid : Option History)
+    × WhereHistoryTold log.before.told mid (FindsLines log.path found first end)
+    × Walk LogsMove (log_place (Some end) mid) moves (log_place end' log.now.told)
 
--- What loading counts: no lookup or link of a listing. Where no log is asked for no line is found,
+-- What loading counts: no lookup or link of a listing. If no log is asked for no line is found,
 -- and nothing is counted.
 abbrev pub LoadCounts : Option LogSeen → List Bytes → Counts → Counts → Type 0
 LoadCounts None found counted loaded = (found ≡ []) × (loaded ≡ counted)
 LoadCounts (Some log) found counted loaded = loaded.listing ≡ counted.listing
 
--- Lines, loaded into a machine in which nothing has happened, come to this; and so what is kept behind
--- them is this.
+-- Lines, loaded into a machine in which nothing has happened, come to this; and so what is appended first
+-- is this.
 pub record KeepsFirst (found : List Bytes) (first : List Group) : Type 0 where
   pub end : Loading
   pub loads : Loads (loading opening.store) found end
   pub is : first ≡ first_kept end.batch
 
--- The state to start from, and what was counted until then: the lines found and what was kept first,
+-- The state to start from, and what was counted until then: the lines found and what was appended first,
 -- loaded one after another into a machine in which nothing has happened, give its store, and nothing
 -- else of it; and leave no batch open.
 pub record Begins (log : Option LogSeen) (found : List Bytes) (first : List Group) (counted : Counts) (start : State)
@@ -174,18 +175,19 @@ pub record Begins (log : Option LogSeen) (found : List Bytes) (first : List Grou
   pub fresh : start ≡ record opening { store = start.store }
   pub counts : LoadCounts log found counted loaded
 
--- A file that has bytes was opened, by this path, and read behind a sync. Nothing was written.
+-- A file in which a log was begun, or something else, was opened, by this path, and read after a sync. Nothing was
+-- written.
 pub record IsOnlyRead (path : Bytes) (old new : History) : Type 0 where
-  pub some : old.file.bytes ≢ []
-  pub is : new ≡ after_sync (asked_for path old)
+  pub some : IsUnbegun old.file.bytes → ⊥
+  pub is : new ≡ synced_history (asked_for path old)
 
--- A file was to be opened, by this path, and to be read behind a sync. Nothing was written.
+-- A file was to be opened, by this path, and to be read after a sync. Nothing was written.
 abbrev pub IsUnwritten : Bytes → History → History → Type 0
-IsUnwritten path old new = (new ≡ asked_for path old) ⊎ (new ≡ after_sync (asked_for path old))
+IsUnwritten path old new = (new ≡ asked_for path old) ⊎ (new ≡ synced_history (asked_for path old))
 
--- A journal was to be made, in a file without bytes.
+-- A log was to be made, in a file in which none was begun.
 pub record IsUnmade (path : Bytes) (old new : History) : Type 0 where
-  pub empty : old.file.bytes ≡ []
+  pub unbegun : IsUnbegun old.file.bytes
   pub paths : new.paths ≡ old.paths ++ path ∷ []
 
 -- These lines, loaded, leave a batch open.
@@ -194,53 +196,51 @@ pub record LeavesOpen (found : List Bytes) : Type 0 where
   pub loads : Loads (loading opening.store) found end
   pub is_open : IsSome end.batch
 
--- The lines found leave a batch open, and `abandon` failed to be kept behind them: at each moment since
--- the journal was opened a stop leaves them, with it or without.
+-- The lines found leave a batch open, and `abandon` failed to be appended: at each moment since
+-- the log was opened a crash leaves them, with it or without.
 pub record IsUnended (path : Bytes) (old new : History) : Type 0 where
   pub found : List Bytes
   pub leaves : LeavesOpen found
   pub lost : SinceOpened path found (λ since. WasKeeping found [] abandoning since new) old
 
--- What is left of the file where nothing begins, by the status. Of a log that is bad or full all that it
--- was, and it had bytes; so too where memory was wanted, unless nothing was asked of the disk. Where the
--- disk failed: all that it was; or what was to become a journal, in a file without bytes; or its lines, with
--- `abandon` behind them, or without.
+-- What is left of the file if nothing begins, by the status. Of a log that is bad or full all that it
+-- was, and one was begun; so too if memory was wanted, unless nothing was asked of the disk. If the
+-- disk failed: all that it was; or what was to become a log, in a file in which none was begun; or its lines, with
+-- `abandon` after them, or without.
 abbrev pub LeavesUnloaded : Status → Bytes → History → History → Type 0
 LeavesUnloaded DiskFault path old new = IsUnwritten path old new ⊎ (IsUnmade path old new ⊎ IsUnended path old new)
 LeavesUnloaded NoMemory path old new = (new ≡ old) ⊎ IsOnlyRead path old new
 LeavesUnloaded _ path old new = IsOnlyRead path old new
 
--- the file doesn't begin as a journal does; the place is its first
-abbrev pub HasNoHeader : ℕ → History → Type 0
-HasNoHeader at h = (at ≡ 0) × ((rest : List ℕ) → h.file.bytes ≡ header ++ rest → ⊥)
+-- the file is no log, of either format; the place is its first
+abbrev pub IsNoLogFrom : ℕ → History → Type 0
+IsNoLogFrom at h = (at ≡ 0) × IsNoLog h.file.bytes
 
--- The line at a place, behind lines of which the loading has come to this, is refused there.
+-- The next line after those of which the loading has come to this, in the record whose gate is at a place, is refused.
 pub record IsRefusedAt (at : ℕ) (found : List Bytes) (end : Loading) (told : Option History) : Type 0 where
   pub line : Bytes
   pub same : Loading
   pub refuses : LoadStep end line refused same
-  pub stands : IfSome told (λ h. (behind : ℕ) × IsAtGate (found ++ line ∷ []) behind h.file)
+  pub stands : IfSome told (λ h. IsNextAt found line at h.file)
 
--- The lines before a place are loaded, and there the file is bad, or its line is refused.
-pub record IsBadBehind (at : ℕ) (told : Option History) : Type 0 where
+-- The lines before are loaded, and then the file is bad at a place, or the next line there is refused.
+pub record IsBadAfter (at : ℕ) (told : Option History) : Type 0 where
   pub found : List Bytes
   pub end : Loading
   pub loads : Loads (loading opening.store) found end
-  pub stands : IfSome told (λ h. IsAtGate found at h.file)
-  pub bad : IfSome told (λ h. IsBad (drop at h.file.bytes)) ⊎ IsRefusedAt at found end told
+  pub bad : IfSome told (λ h. IsBadAt found at h.file) ⊎ IsRefusedAt at found end told
 
--- Why a log is bad from this place on, as far as its file is told.
+-- Why a log is bad from this place on, as far as the disk records a history.
 abbrev pub IsBadFrom : ℕ → Option History → Type 0
-IsBadFrom at told = IfSome told (HasNoHeader at) ⊎ IsBadBehind at told
+IsBadFrom at told = IfSome told (IsNoLogFrom at) ⊎ IsBadAfter at told
 
--- The lines found leave a batch open, and the journal, which stands idle behind them, has no room for
--- `abandon`.
+-- The lines found leave a batch open, and the log, which ends after them, has no room for `abandon`.
 pub record LacksRoom (told : Option History) : Type 0 where
   pub found : List Bytes
   pub leaves : LeavesOpen found
-  pub gate : ℕ
-  pub full : Overfull (Some gate) abandoning
-  pub idle : IfSome told (λ h. IsIdle found gate h.file)
+  pub end : LogEnd
+  pub full : Overfull (Some end) abandoning
+  pub idle : IfSome told (λ h. IsIdleAt found end h.file)
 
 -- The causes of the statuses with which loading ends, by the count of the disk's faults before.
 abbrev pub UnloadedFor : Status → ℕ → DiskSeen → Type 0

@@ -1,4 +1,4 @@
--- What a stop leaves of a log at each moment of serving.
+-- What a crash leaves of a log at each moment of serving.
 use Rattle.std.specs.Prelude.{ℕ, List, ◌∷◌, ◌++◌, ◌≡◌, Some, IfSome, length}
 use Rattle.std.specs.List.{AllByRecursion}
 use Rattle.djq_disk.specs.Leaving.{LeavesOnly}
@@ -13,7 +13,7 @@ use Rattle.djq_serve.specs.Ends.{ServeEnds}
 use Rattle.djq_program_laws.specs.Logged.{LogSeen, Begins, IsStored}
 use Rattle.djq_program_laws.specs.Reopened.{Reopens}
 
--- A stop at any moment of serving with a log leaves a file that opens to lines which give what was there after the
+-- A crash at any moment of serving with a log leaves a file that opens to lines which give what was there after the
 -- first of the groups that the run logs, among them those of each commit before the move in which the moment ends.
 -- Nothing of that move's commit was sent yet.
 abbrev pub MomentsReopen : Type 0

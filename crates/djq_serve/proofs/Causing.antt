@@ -9,8 +9,8 @@ use Rattle.djq_io.specs.declared.hub.Sent.{Sent}
 use Rattle.djq_io.specs.declared.hub.Sent.TheVariants.{Took, Again, Gone}
 use Rattle.djq_io.specs.declared.hub.Told.{Told}
 use Rattle.djq_io.specs.declared.hub.Told.TheVariants.{Turning}
-use Rattle.djq_journal.specs.declared.log.Kept.{Kept}
-use Rattle.djq_journal.specs.declared.log.Kept.TheVariants.{All as Stored, Failed as Unstored, Full as NoRoom}
+use Rattle.djq_log.specs.declared.log.Kept.{Kept}
+use Rattle.djq_log.specs.declared.log.Kept.TheVariants.{All as Stored, Failed as Unstored, Full as NoRoom}
 use Rattle.djq_model.specs.Data.{Bytes}
 use Rattle.djq_machine.specs.State.{State}
 use Rattle.djq_machine.specs.Step.{Event, opened, fed, closed}
@@ -27,7 +27,7 @@ use Rattle.djq_serve.specs.Server.{after_round, after, first_open, PhasePasses, 
 use Rattle.djq_serve.specs.Server.{next_ready}
 use Rattle.djq_serve.specs.Ends.{says_fault, says_lost, IsCaused}
 
--- ---- What stands at each place of the server.
+-- ---- What is so at each place of the server.
 
 -- whether a turn was over, and whether one failed
 record Turned (told : List Told) (a b : Bool) : Type 0 where
@@ -79,7 +79,7 @@ told_quietly more more' is q = subst (λ (ts : List Told). Turned ts false false
 untold : Turned [] false false
 untold = record { over = refl; failed = refl }
 
--- ---- What keeps whether a session sent `stop`.
+-- ---- What doesn't change whether a session sent `stop`.
 
 kept_stop : (event : Event) (st new : State) (done : List Did) → IsNoLine event → Happens event st done new
     → new.stopped ≡ st.stopped
@@ -90,7 +90,7 @@ kept_still st new done (none, same) = ap (λ (k : State). k.stopped) same
 
 -- ---- Each move.
 
--- nothing was told, and the state stays
+-- the hub was asked nothing, and the state stays
 stands_passed : (st : State) (p q : Phase) (m : Move) (new : Server) (told : List Told) → PhasePasses st q m new
     → Stands q st told → Stands new.phase new.state (told ++ m.told)
 stands_passed st p q m new told (none, same) h =
@@ -102,7 +102,7 @@ let_in_quiet : (s : ℕ) (st new : State) (more : List Told) → LetsIn s st mor
 let_in_quiet s st new more (inl (there, is)) = record { over = ap has_over is; failed = ap turn_failed is }
 let_in_quiet s st new more (inr (out, sent, fits, is)) = record { over = ap has_over is; failed = ap turn_failed is }
 
--- a turn that is neither over nor failed, and what is told with it
+-- a turn that is neither over nor failed, and what the hub is asked with it
 turn_quiet : (turn : Turn) (piece : Bytes) (more : List Told) → turn_is_over turn ≡ false → turn_is_failed turn ≡ false
     → Turned more false false → Turned (Turning turn piece ∷ more) false false
 turn_quiet turn piece more over failed q = record {
@@ -173,7 +173,7 @@ lines_stand count groups last st m new None told (none, unlogged, ends, phase) f
     phase_as (keeping groups (round_over (is_last last))) new.phase new.state _ phase
     (turned_quiet told m.told (is_last last) false f (none_told m.told none))
 
--- where the lines can't be logged, the log is the cause
+-- if the lines can't be logged, the log is the cause
 lost_stands : (answer : Served) (st : State) (told : List Told) (over : Bool) → says_lost answer ≡ true
     → says_fault answer ≡ false → Turned told over false → IsCaused answer told st
 lost_stands answer st told over lost plain f = record {

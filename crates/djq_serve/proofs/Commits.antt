@@ -8,9 +8,9 @@ use Rattle.djq_io.specs.declared.hub.Turn.TheVariants.{Opened, Bytes as Brought,
 use Rattle.djq_io.specs.declared.hub.Sent.{Sent}
 use Rattle.djq_io.specs.declared.hub.Sent.TheVariants.{Took, Again, Gone}
 use Rattle.djq_io.specs.declared.hub.Told.{Told}
-use Rattle.djq_journal.specs.Logging.{grouped}
-use Rattle.djq_journal.specs.declared.log.Kept.{Kept}
-use Rattle.djq_journal.specs.declared.log.Kept.TheVariants.{All as Stored, Failed as Unstored, Full as NoRoom}
+use Rattle.djq_log.specs.Logging.{grouped}
+use Rattle.djq_log.specs.declared.log.Kept.{Kept}
+use Rattle.djq_log.specs.declared.log.Kept.TheVariants.{All as Stored, Failed as Unstored, Full as NoRoom}
 use Rattle.djq_model.specs.Data.{Bytes}
 use Rattle.djq_machine.specs.State.{State}
 use Rattle.djq_machine.specs.Step.{Event, opened, fed, stepped, took, ended, closed}

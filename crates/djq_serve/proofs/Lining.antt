@@ -7,8 +7,9 @@ use Rattle.djq_disk.specs.File.{File}
 use Rattle.djq_disk.proofs.Files.{all_append}
 use Rattle.djq_io.specs.Hub.{Ids}
 use Rattle.djq_journal.specs.Format.{IsJournalLine}
-use Rattle.djq_journal.specs.Logging.{grouped, FillsLog}
-use Rattle.djq_journal.specs.declared.log.Kept.TheVariants.{All, Failed, Full}
+use Rattle.djq_log.specs.Logging.{grouped, FillsLog}
+use Rattle.djq_log.specs.declared.end.LogEnd.{LogEnd}
+use Rattle.djq_log.specs.declared.log.Kept.TheVariants.{All, Failed, Full}
 use Rattle.djq_model.specs.Data.{Bytes}
 use Rattle.djq_machine.specs.State.{State}
 use Rattle.djq_machine.specs.Keeping.{Keeping, no_line, the_line, the_batch}
@@ -48,27 +49,27 @@ commit_stored hub hub' st new the_lines log log' logs flushed = record {
       (flushed.goes most next counted turns log');
 }
 
-pub commit_fails : (hub : Shown) (st : State) (the_lines : List Bytes) (log log' : LogPlace) (gate : Option ℕ)
-    → (moments : List File) × LogsGroups (grouped the_lines) Failed moments log log' → FillsLog Failed gate the_lines
+pub commit_fails : (hub : Shown) (st : State) (the_lines : List Bytes) (log log' : LogPlace) (end : Option LogEnd)
+    → (moments : List File) × LogsGroups (grouped the_lines) Failed moments log log' → FillsLog Failed end the_lines
     → MakesCommit (Some DiskFault) hub st the_lines hub st log log'
-commit_fails hub st the_lines log log' gate logs fills = record {
+commit_fails hub st the_lines log log' end logs fills = record {
   goes = λ groups is most next counted turns.
       commit_goes most hub counted turns log log' st groups next (closing DiskFault) Failed logs.0
       (subst (λ (ls : List Bytes). LogsGroups (grouped ls) Failed logs.0 log log') (sym is) logs.1)
       ((λ none. fills.1 (sym is ∙ none)), refl);
 }
 
-pub commit_fills : (hub : Shown) (st : State) (the_lines : List Bytes) (log log' : LogPlace) (gate : Option ℕ)
-    → (moments : List File) × LogsGroups (grouped the_lines) Full moments log log' → FillsLog Full gate the_lines
+pub commit_fills : (hub : Shown) (st : State) (the_lines : List Bytes) (log log' : LogPlace) (end : Option LogEnd)
+    → (moments : List File) × LogsGroups (grouped the_lines) Full moments log log' → FillsLog Full end the_lines
     → MakesCommit (Some LogFull) hub st the_lines hub st log log'
-commit_fills hub st the_lines log log' gate logs fills = record {
+commit_fills hub st the_lines log log' end logs fills = record {
   goes = λ groups is most next counted turns.
       commit_goes most hub counted turns log log' st groups next (closing LogFull) Full logs.0
       (subst (λ (ls : List Bytes). LogsGroups (grouped ls) Full logs.0 log log') (sym is) logs.1)
-      ((λ none. full_some gate the_lines fills (sym is ∙ none)), refl);
+      ((λ none. full_some end the_lines fills (sym is ∙ none)), refl);
 }
 
--- ---- What a step logs are lines of a journal.
+-- ---- What a step logs are lines that a log takes.
 
 by_keeping : (old : State) (s : ℕ) (l : Bytes) (e : Effect) (new : State) → Step old (stepped s (run l)) e new
     → HoldLines old → (k : Keeping) → e.kept ≡ k → AllByRecursion IsJournalLine (lines_in (groups_in l k))
@@ -88,7 +89,7 @@ step_lines old s (slow l) e new h hold = tt
 step_lines old s (no_room l) e new h hold = tt
 step_lines old s (run l) e new h hold = by_keeping old s l e new h hold e.kept refl
 
--- so they are behind those of the commit
+-- so they are after those of the commit
 pub lines_more : (st : State) (s : ℕ) (ran : State) (mid now : Counts) (lines lines' : List Bytes) → HoldLines st
     → StepsLine st s ran mid now lines lines' → AllByRecursion IsJournalLine lines → AllByRecursion IsJournalLine lines'
 lines_more st s ran mid now lines lines' hold step are =
@@ -103,7 +104,7 @@ line_holds st s ran mid now lines lines' step hold =
 
 -- ---- Lines that are run one after another.
 
--- What the lines of a round keep from the first on: with these groups in the open commit.
+-- What is so of the lines of a round from the first on: with these groups in the open commit.
 pub record Lining (x y : Shown) (before now : Counts) (old st : State) (from count : ℕ) (log log' : LogPlace)
     (lines : List Bytes) : Type 0 where
   pub groups : List Group

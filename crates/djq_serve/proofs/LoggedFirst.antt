@@ -1,18 +1,18 @@
 -- Nothing is sent before what it may tell of is logged.
-use Rattle.std.specs.Prelude.{ℕ, List, [], ◌∷◌, ◌++◌, ◌≡◌, ◌-◌, true, false, Option, None, Some}
+use Rattle.std.specs.Prelude.{ℕ, List, [], ◌∷◌, ◌++◌, ◌≡◌, true, false, Option, None, Some}
 use Rattle.std.specs.List.{list_any}
-use Rattle.std.proofs.Common.{refl, sym, ap, ap₂, ◌∙◌, subst, inl, inr, append-nil, append_assoc}
+use Rattle.std.proofs.Common.{refl, sym, ap, ◌∙◌, subst, append-nil, append_assoc}
 use Rattle.std.proofs.lemmas.Bool.{false≢true}
 use Rattle.std.proofs.lemmas.Grind.{flat_map-append}
 use Rattle.djq_io.specs.declared.hub.Told.{Told}
 use Rattle.djq_io.specs.declared.hub.Told.TheVariants.{Closing}
-use Rattle.djq_journal.specs.Logging.{grouped}
+use Rattle.djq_log.specs.Logging.{grouped}
 use Rattle.djq_model.specs.Data.{Bytes}
 use Rattle.djq_machine.specs.State.{State}
-use Rattle.djq_machine.specs.Run.{Walk, Did, Group, groups_of, lines_in}
+use Rattle.djq_machine.specs.Run.{Walk, Group, groups_of, lines_in}
 use Rattle.djq_serve.specs.declared.served.Served.{Served}
 use Rattle.djq_serve.specs.Server.{Phase, waiting, gathering, running, keeping, flushing, closing, Server, server}
-use Rattle.djq_serve.specs.Server.{Move, all_done, all_logged, PhasePasses, RunsAt, ClosesFirst, ServesAt, MakesMove}
+use Rattle.djq_serve.specs.Server.{Move, all_done, all_logged, RunsAt, ClosesFirst, ServesAt, MakesMove}
 use Rattle.djq_serve.specs.Server.{Last, first_open, next_ready}
 use Rattle.djq_serve.specs.Ends.{sends_some, LogsFirst}
 use Rattle.djq_serve.proofs.Commits.{open_groups, Logs, appends, commits, move_logs, groups_before}

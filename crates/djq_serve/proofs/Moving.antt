@@ -8,8 +8,8 @@ use Rattle.djq_io.specs.declared.hub.Turn.{Turn}
 use Rattle.djq_io.specs.declared.hub.Told.{Told}
 use Rattle.djq_io.specs.declared.hub.Told.TheVariants.{Turning, Closing}
 use Rattle.djq_io.specs.declared.hub.Sent.TheVariants.{Took, Again, Gone}
-use Rattle.djq_journal.specs.Logging.{grouped}
-use Rattle.djq_journal.specs.declared.log.Kept.{Kept}
+use Rattle.djq_log.specs.Logging.{grouped}
+use Rattle.djq_log.specs.declared.log.Kept.{Kept}
 use Rattle.djq_model.specs.Data.{Bytes}
 use Rattle.djq_machine.specs.Run.{Did, Group, kept_group, lines_in, pending_of}
 use Rattle.djq_machine.specs.State.{State}

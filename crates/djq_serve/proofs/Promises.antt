@@ -3,6 +3,7 @@ use Rattle.std.specs.Prelude.{ℕ, List, [], ◌++◌, ◌≡◌, ◌<◌, false
 use Rattle.std.proofs.Common.{sym, ap, ◌∙◌, subst}
 use Rattle.djq_io.specs.declared.hub.Told.{Told}
 use Rattle.djq_disk.specs.History.{History}
+use Rattle.djq_log.specs.declared.end.LogEnd.{LogEnd}
 use Rattle.djq_machine.specs.State.{State, Session}
 use Rattle.djq_machine.specs.Run.{Did, Run}
 use Rattle.djq_machine.specs.Call.{Counts, state_ids}
@@ -37,7 +38,7 @@ rising_from old told done x z alone same tells =
     (subst (λ (is : List ℕ). AllPairs (λ s t. s < t) (is ++ all_opened done)) (sym none) rising, rising)
 
 pub serve_logs : (answer : Served) (turns most : ℕ) (x y z : Shown) (before now : Counts) (old mid new : State)
-    (g g' : Option ℕ) (d d' : Option History)
+    (g g' : Option LogEnd) (d d' : Option History)
     → old.stopped ≡ false → old.sessions ≡ []
     → Took answer turns most x before old (log_place g d) y now mid (log_place g' d')
     → ((n : ℕ) (k : Served) → GoesQuietly n y (server mid (closing k)) z (server new (closing k))) → state_ids new ≡ []

@@ -6,7 +6,7 @@ use Rattle.djq_io.specs.declared.hub.Turn.TheVariants.{Opened}
 use Rattle.djq_io.specs.declared.hub.Told.{Told}
 use Rattle.djq_io.specs.declared.hub.Told.TheVariants.{Turning, Sending}
 use Rattle.djq_machine.specs.State.{State}
-use Rattle.djq_journal.specs.Logging.{grouped}
+use Rattle.djq_log.specs.Logging.{grouped}
 use Rattle.djq_machine.specs.Run.{Walk, Did, Run, Group, groups_of, lines_in, out, all_taken, pending_of}
 use Rattle.djq_machine.specs.Call.{Counts, state_ids}
 use Rattle.djq_machine.specs.Gives.{CursorsGive}
@@ -26,7 +26,7 @@ abbrev pub TurnsTaken : Served → ℕ → ℕ → Type 0
 TurnsTaken TurnsUsed turns taken = taken ≡ turns
 TurnsTaken _ turns taken = taken ≤ turns
 
--- a session opens at the hub, and isn't let in: a line is sent to it behind its turn
+-- a session opens at the hub, and isn't let in: a line is sent to it after its turn
 abbrev pub refuses : ℕ → List Told → Bool
 refuses s (Turning (Opened t class) piece ∷ Sending u offered sent taken ∷ more) = t == s
 refuses s _ = false
@@ -64,8 +64,8 @@ says_lost DiskFault = true
 says_lost LogFull = true
 says_lost _ = false
 
--- `HubFault` comes exactly where a turn failed. Where the log doesn't end the serving, `Stopped` comes exactly
--- where a session sent `stop`; and where none did, `Over` exactly where a turn said so.
+-- `HubFault` comes iff a turn failed. If the log doesn't end the serving, `Stopped` comes iff a session sent
+-- `stop`; and if none did, `Over` comes iff a turn said so.
 pub record IsCaused (answer : Served) (told : List Told) (st : State) : Type 0 where
   pub failed : turn_failed told ≡ says_fault answer
   pub stopped : says_lost answer ≡ false → st.stopped ≡ says_stopped answer

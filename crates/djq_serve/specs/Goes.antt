@@ -2,8 +2,10 @@
 use Rattle.std.specs.Prelude.{ℕ, List, [], ◌∷◌, ◌≡◌, ◌+◌, ◌-◌, Option}
 use Rattle.djq_disk.specs.File.{File}
 use Rattle.djq_disk.specs.History.{History, WhereHistoryTold}
-use Rattle.djq_journal.specs.Logging.{Keeps, FillsLog, PassesMoments}
-use Rattle.djq_journal.specs.declared.log.Kept.{Kept}
+use Rattle.djq_log.specs.Logging.{Keeps, FillsLog}
+use Rattle.djq_journal.specs.Passing.{PassesMoments}
+use Rattle.djq_log.specs.declared.end.LogEnd.{LogEnd}
+use Rattle.djq_log.specs.declared.log.Kept.{Kept}
 use Rattle.djq_machine.specs.Run.{Walk, Group}
 use Rattle.djq_machine.specs.Call.{Counts}
 use Rattle.djq_serve.specs.Told.{Shown, HubTells, turns_in}
@@ -33,23 +35,22 @@ pub record Goes (most : ℕ) (o : Seen) (old : Server) (o' : Seen) (new : Server
   pub listing : Walk ListsMove o.counted.listing moves o'.counted.listing
   pub turned : o'.turns ≡ o.turns + turns_in (all_told moves)
 
--- Where a log stands: the place of its gate, where it is in a journal, and the history of the disk, where that
--- is told.
+-- A log at one moment: where it ends, if it is in a file, and the history of the disk, if that is recorded.
 pub record LogPlace : Type 0 where
-  pub gate : Option ℕ
+  pub end : Option LogEnd
   pub history : Option History
 
--- the log with its gate here, on a disk that tells this
-abbrev pub log_place : Option ℕ → Option History → LogPlace
-log_place gate history = record { gate = gate; history = history }
+-- the log that ends here, on a disk of this history
+abbrev pub log_place : Option LogEnd → Option History → LogPlace
+log_place end history = record { end = end; history = history }
 
--- What handing groups to the log does: nothing, where there is none; and one is stored, as the log answers,
+-- What handing groups to the log does: nothing, if there is none; and one is stored, as the log answers,
 -- while these moments end.
 abbrev pub LogsGroups : List Group → Kept → List File → LogPlace → LogPlace → Type 0
 LogsGroups [] answer moments old new = (new ≡ old) × (moments ≡ [])
-LogsGroups (group ∷ []) answer moments old new = FillsLog answer old.gate group
+LogsGroups (group ∷ []) answer moments old new = FillsLog answer old.end group
     × WhereHistoryTold old.history new.history
-    (λ h h'. Keeps answer old.gate new.gate group h h' × PassesMoments moments h h')
+    (λ h h'. Keeps answer old.end new.end group h h' × PassesMoments moments h h')
 LogsGroups (group ∷ other ∷ more) answer moments old new = ⊥
 
 -- what a move does to the log

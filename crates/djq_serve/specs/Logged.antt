@@ -4,8 +4,9 @@ use Rattle.djq_io.specs.Faults.{Counted}
 use Rattle.djq_io.specs.declared.hub.Told.{Told}
 use Rattle.djq_io.specs.declared.hub.Told.TheVariants.{Closing}
 use Rattle.djq_disk.specs.History.{History, WhereHistoryTold}
-use Rattle.djq_journal.specs.Keeping.{WasKeeping}
-use Rattle.djq_journal.specs.Logging.{HasKeptGroups, Overfull}
+use Rattle.djq_log.specs.Keeping.{WasKeeping}
+use Rattle.djq_log.specs.Logging.{HasKeptGroups, Overfull}
+use Rattle.djq_log.specs.declared.end.LogEnd.{LogEnd}
 use Rattle.djq_model.specs.Data.{Bytes}
 use Rattle.djq_machine.specs.State.{State}
 use Rattle.djq_machine.specs.Step.{Event, closed}
@@ -18,40 +19,41 @@ use Rattle.djq_serve.specs.Server.{Move, all_told, all_done, all_logged}
 use Rattle.djq_serve.specs.Goes.{log_place, LogsMove}
 use Rattle.djq_serve.specs.Ends.{ServeEnds}
 
--- All these groups are kept behind those that were, whatever they were and since whenever.
-abbrev pub AllKept : Option ℕ → Option ℕ → List Group → Option History → Option History → Type 0
-AllKept gate gate' groups old new =
+-- All these groups are in the log after those that it had, whatever these were and whenever it began.
+abbrev pub AllKept : Option LogEnd → Option LogEnd → List Group → Option History → Option History → Type 0
+AllKept end end' groups old new =
     WhereHistoryTold old new (λ a b. (found : List Bytes) (had : List Group) (start : History)
-    → HasKeptGroups gate found had start a → HasKeptGroups gate' found (had ++ groups) start b)
+    → HasKeptGroups end found had start a → HasKeptGroups end' found (had ++ groups) start b)
 
--- All but the last are kept. The disk failed as that was to be, so a stop leaves it whole or not at all.
-pub record LastLost (gate : Option ℕ) (groups : List Group) (old new : Option History) : Type 0 where
+-- All but the last are in the log. The disk failed as that was appended, so a crash leaves it whole or not at all.
+pub record LastLost (end : Option LogEnd) (groups : List Group) (old new : Option History) : Type 0 where
   pub whole : List Group
   pub last : Group
   pub cut : groups ≡ whole ++ last ∷ []
   pub kept : WhereHistoryTold old new (λ a b. (found : List Bytes) (had : List Group) (start : History)
-      → HasKeptGroups gate found had start a → WasKeeping found (had ++ whole) last start b)
+      → HasKeptGroups end found had start a → WasKeeping found (had ++ whole) last start b)
 
--- All but the last are kept, for which the journal has no room.
-pub record LastLeft (gate : Option ℕ) (groups : List Group) (old new : Option History) : Type 0 where
+-- All but the last are in the log, which has no room for that.
+pub record LastLeft (end : Option LogEnd) (groups : List Group) (old new : Option History) : Type 0 where
   pub whole : List Group
   pub last : Group
   pub cut : groups ≡ whole ++ last ∷ []
-  pub gate' : Option ℕ
-  pub full : Overfull gate' last
-  pub kept : AllKept gate gate' whole old new
+  pub end' : Option LogEnd
+  pub full : Overfull end' last
+  pub kept : AllKept end end' whole old new
 
--- what is kept, by the answer; none where serving goes on
-abbrev pub KeepsBy : Option Served → Option ℕ → Option ℕ → List Group → Option History → Option History → Type 0
-KeepsBy None gate gate' groups old new = AllKept gate gate' groups old new
-KeepsBy (Some Stopped) gate gate' groups old new = AllKept gate gate' groups old new
-KeepsBy (Some Over) gate gate' groups old new = AllKept gate gate' groups old new
-KeepsBy (Some TurnsUsed) gate gate' groups old new = AllKept gate gate' groups old new
-KeepsBy (Some HubFault) gate gate' groups old new = AllKept gate gate' groups old new
-KeepsBy (Some DiskFault) gate gate' groups old new = LastLost gate groups old new
-KeepsBy (Some LogFull) gate gate' groups old new = LastLeft gate groups old new
+-- what the log has, by the answer; there is none if serving goes on
+abbrev pub KeepsBy : Option Served → Option LogEnd → Option LogEnd → List Group → Option History → Option History
+    → Type 0
+KeepsBy None end end' groups old new = AllKept end end' groups old new
+KeepsBy (Some Stopped) end end' groups old new = AllKept end end' groups old new
+KeepsBy (Some Over) end end' groups old new = AllKept end end' groups old new
+KeepsBy (Some TurnsUsed) end end' groups old new = AllKept end end' groups old new
+KeepsBy (Some HubFault) end end' groups old new = AllKept end end' groups old new
+KeepsBy (Some DiskFault) end end' groups old new = LastLost end groups old new
+KeepsBy (Some LogFull) end end' groups old new = LastLeft end groups old new
 
--- The disk's count of faults rises where the answer says so, and stays elsewhere.
+-- The disk's count of faults rises if the answer says so, and stays otherwise.
 abbrev pub DiskCounts : Option Served → ℕ → ℕ → Type 0
 DiskCounts (Some DiskFault) before now = Counted before now
 DiskCounts _ before now = now ≡ before
@@ -62,7 +64,7 @@ IsNotOfDisk DiskFault = ⊥
 IsNotOfDisk LogFull = ⊥
 IsNotOfDisk _ = Unit {0}
 
--- so it is where serving may go on
+-- so it is if serving may go on
 abbrev pub IsPlainAnswer : Option Served → Type 0
 IsPlainAnswer None = Unit {0}
 IsPlainAnswer (Some answer) = IsNotOfDisk answer
@@ -92,13 +94,13 @@ pub record Unanswered (last : Group) (moves : List Move) : Type 0 where
   pub told : All IsClose (all_told (commit ++ behind))
   pub done : All (λ (d : Did). IsClosed d.event) (all_done behind)
 
--- So it is where the disk ends the serving.
+-- So it is if the disk ends the serving.
 abbrev pub Silent : Served → Group → List Move → Type 0
 Silent DiskFault last moves = Unanswered last moves
 Silent LogFull last moves = Unanswered last moves
 Silent _ last moves = Unit {0}
 
--- What the log was handed last, where the disk ends the serving, is silent.
+-- What the log was handed last is silent, if the disk ends the serving.
 abbrev pub UnkeptIsSilent : Served → List Move → Type 0
 UnkeptIsSilent answer moves = (whole : List Group) (last : Group)
     → all_logged moves ≡ whole ++ last ∷ [] → Silent answer last moves
@@ -113,9 +115,9 @@ pub record FirstOf (groups whole : List Group) : Type 0 where
 -- **How serving with a log ends.** As without one; and of the groups that the log was handed, one a commit
 -- and in order, all are in the log; or all but the last, and to that commit nothing was answered.
 pub record ServeLogs (answer : Served) (turns most : ℕ) (hub : Shown) (counted : Counts) (old : State)
-    (hub' : Shown) (counted' : Counts) (new : State) (gate gate' : Option ℕ)
+    (hub' : Shown) (counted' : Counts) (new : State) (end end' : Option LogEnd)
     (disk disk' : Option History) : Type 0 where
   pub ends : ServeEnds answer turns most hub counted old hub' counted' new
-  pub logs : Walk LogsMove (log_place gate disk) ends.goes.moves (log_place gate' disk')
-  pub kept : KeepsBy (Some answer) gate gate' (all_logged ends.goes.moves) disk disk'
+  pub logs : Walk LogsMove (log_place end disk) ends.goes.moves (log_place end' disk')
+  pub kept : KeepsBy (Some answer) end end' (all_logged ends.goes.moves) disk disk'
   pub silent : UnkeptIsSilent answer ends.goes.moves

@@ -11,9 +11,9 @@ use Rattle.djq_io.specs.declared.hub.Sent.{Sent}
 use Rattle.djq_io.specs.declared.hub.Sent.TheVariants.{Took, Again, Gone}
 use Rattle.djq_io.specs.declared.hub.Told.{Told}
 use Rattle.djq_io.specs.declared.hub.Told.TheVariants.{Turning, Sending, Closing}
-use Rattle.djq_journal.specs.Logging.{grouped}
-use Rattle.djq_journal.specs.declared.log.Kept.{Kept}
-use Rattle.djq_journal.specs.declared.log.Kept.TheVariants.{All as Stored, Failed as Unstored, Full as NoRoom}
+use Rattle.djq_log.specs.Logging.{grouped}
+use Rattle.djq_log.specs.declared.log.Kept.{Kept}
+use Rattle.djq_log.specs.declared.log.Kept.TheVariants.{All as Stored, Failed as Unstored, Full as NoRoom}
 use Rattle.djq_model.specs.Data.{Bytes}
 use Rattle.djq_protocol.specs.declared.limits.TheConstants.{SESSIONS}
 use Rattle.djq_protocol.specs.Reply.{end_full, end_memory}
@@ -80,7 +80,7 @@ pub record Move : Type 0 where
   pub listed : ℕ
   pub moments : List File
 
--- these calls of the hub and these steps of the machine, where nothing is logged and nothing counted
+-- these calls of the hub and these steps of the machine, if nothing is logged and nothing counted
 abbrev pub move : List Told → List Did → Move
 move told done = record { told = told; done = done; logged = []; stored = Stored; listed = 0; moments = [] }
 
@@ -146,7 +146,7 @@ TakesTurn left old m new = (turn : Turn) × (piece : Bytes) × (more : List Told
     × (m.told ≡ Turning turn piece ∷ more) × (m.logged ≡ [])
     × Brings left turn piece old more m.done new.state new.phase
 
--- the first, or the second where there is no first
+-- the first, or the second if there is no first
 abbrev pub or_else : Option ℕ → Option ℕ → Option ℕ
 or_else None b = b
 or_else (Some a) b = Some a
@@ -156,7 +156,7 @@ abbrev pub next_ready : State → ℕ → Option ℕ
 next_ready st from = or_else (first_ready st from) (first_ready st 0)
 
 -- After a line the next is one of a session of a greater id, or else of the first that has one. Or the commit
--- ends; and it does where it has as many lines as a commit may have.
+-- ends; and it does if it has as many lines as a commit may have.
 abbrev pub RunsOn : ℕ → ℕ → List Group → Last → Phase → Type 0
 RunsOn s count groups last p =
     ((count + 1 < COMMIT_LINES) × (p ≡ running (s + 1) (count + 1) groups last))
@@ -172,7 +172,7 @@ RunsOne s count groups last old m new = (m.told ≡ []) × (m.logged ≡ []) × 
 abbrev pub ends_input : State → ℕ → Bool
 ends_input st s = not st.stopped && is_some (session_of st s)
 
--- The input of a session ends, where it can.
+-- The input of a session ends, if it can.
 abbrev pub EndsInputIf : ℕ → State → List Did → State → Bool → Type 0
 EndsInputIf s old done new true = Happens (ended s) old done new
 EndsInputIf s old done new false = Stays old done new
@@ -195,14 +195,14 @@ RunsAt count groups last old m new (Some s) = RunsOne s count groups last old m 
 RunsAt count groups last old m new None = (m.told ≡ []) × (m.logged ≡ [])
     × EndsRound last old m.done new.state × (new.phase ≡ keeping groups (round_over (is_last last)))
 
--- What follows, by the log's answer: a flush, where the lines are stored; else the end of serving.
+-- What follows, by the log's answer: a flush, if the lines are stored; else the end of serving.
 abbrev pub StoredThen : Kept → List Group → Next → Phase → Type 0
 StoredThen Stored groups next p = p ≡ flushing 0 next
 StoredThen Unstored groups next p = (lines_in groups ≡ [] → ⊥) × (p ≡ closing DiskFault)
 StoredThen NoRoom groups next p = (lines_in groups ≡ [] → ⊥) × (p ≡ closing LogFull)
 
--- The commit: the lines of the groups are appended to the log as one group, where there are any. All that is
--- done after it where they can't be is to close sessions, so nothing is sent then.
+-- The commit: the lines of the groups are appended to the log as one group, if there are any. If they can't be,
+-- all that is done after it is to close sessions, so nothing is sent then.
 abbrev pub KeepsAt : List Group → Next → State → Move → Server → Type 0
 KeepsAt groups next old m new = (m.told ≡ []) × (m.done ≡ []) × (m.logged ≡ grouped (lines_in groups))
     × (new.state ≡ old) × StoredThen m.stored groups next new.phase
@@ -222,7 +222,7 @@ SendsSome Gone s old told done new = (told ≡ offering s (pending_of old s) Gon
 abbrev pub SessionLeaves : ℕ → State → List Told → List Did → State → Type 0
 SessionLeaves s old told done new = (told ≡ Closing s ∷ []) × Happens (closed s []) old done new
 
--- a flush stays at a session of which bytes were taken, and else goes on behind it
+-- a flush stays at a session of which bytes were taken, and else goes on after it
 abbrev pub flush_after : Sent → ℕ → ℕ
 flush_after (Took n) s = s
 flush_after Again s = s + 1

@@ -1,7 +1,7 @@
 ghost use Rattle.std.specs.Prelude.{◌≡◌, slice_get};
 ghost use Rattle.std.specs.Option.{option_copied};
 
-use djq_journal::Group;
+use djq_log::Group;
 use djq_machine::Machine;
 
 /// The lines of the open commit of a machine, as a group.

@@ -12,7 +12,7 @@ use crate::flushing::flush;
 use crate::served::Served;
 use djq_disk::Disk;
 use djq_io::Hub;
-use djq_journal::{Kept, Log};
+use djq_log::{Kept, Log};
 use djq_machine::Machine;
 
 /// Appends the lines of the commit to the log as one group, flushes, and empties the commit. Serving ends, without a

@@ -17,7 +17,7 @@ use crate::served::Served;
 use djq_counters::{Ledgers, Steps};
 use djq_disk::Disk;
 use djq_io::Hub;
-use djq_journal::Log;
+use djq_log::Log;
 use djq_machine::Machine;
 
 /// Runs and commits the lines of a round whose turns were taken, and finishes it. It returns how serving ends, if

@@ -8,16 +8,16 @@
 //! server made move after move, from its first turn to its answer, and [`Served`] is the precise reason
 //! for which it ended.
 //!
-//! [`serve_logged`] does the same with a log. The lines that change the store are logged in commits: what the
-//! lines of a commit log is appended as one group, with two syncs, before anything is sent that one of them
-//! queued. A commit ends when no line is left, or earlier: at [`COMMIT_LINES`](limits::COMMIT_LINES) lines, when
-//! the hub is late or when the machine has no room. Then it is flushed, and the round goes on with the next
-//! session's line. A batch is logged so with the line that ends it, all its lines or none. The logged lines are
-//! those that were received, so running them again gives the store (djq_log_laws). If a commit can't be
-//! logged serving ends, without another byte: the machine made its changes, but nothing of the commit is
-//! acknowledged to anybody. The disk may have failed, and then the log has the whole commit or nothing of it
-//! ([`Served::DiskFault`]). Or the journal had no room, and nothing was written ([`Served::LogFull`]). [`serve`]
-//! is one call of it, with a log that is nowhere and a disk that stores nothing.
+//! [`serve_logged`] does the same with a log, of either format. The lines that change the store are logged in
+//! commits: what the lines of a commit log is appended as one group, with two syncs, before anything is sent that
+//! one of them queued. A commit ends when no line is left, or earlier: at [`COMMIT_LINES`](limits::COMMIT_LINES)
+//! lines, when the hub is late or when the machine has no room. Then it is flushed, and the round goes on with the
+//! next session's line. A batch is logged so with the line that ends it, all its lines or none. The logged lines
+//! are those that were received, so running them again gives the store (djq_log_laws). If a commit can't be logged
+//! serving ends, without another byte: the machine made its changes, but nothing of the commit is acknowledged to
+//! anybody. The disk may have failed, and then the log has the whole commit or nothing of it
+//! ([`Served::DiskFault`]). Or the log had no room, and nothing was written ([`Served::LogFull`]). [`serve`] is one
+//! call of it, with a log that is nowhere and a disk that stores nothing.
 //!
 //! What this crate is not: it buffers nothing, allocates nothing, knows no command and no socket.
 //!

@@ -17,7 +17,7 @@ use crate::served::Served;
 use djq_counters::{Ledgers, Steps};
 use djq_disk::Disk;
 use djq_io::Hub;
-use djq_journal::Log;
+use djq_log::Log;
 use djq_machine::Machine;
 
 /// Runs the lines that the sessions have, one of each in turn, and commits where as many were run as a commit may

@@ -11,6 +11,6 @@ pub enum Served {
     HubFault,
     /// The disk failed as a commit was logged. Nothing of it was sent.
     DiskFault,
-    /// The journal had no room for a commit. Nothing of it was sent.
+    /// The log had no room for a commit. Nothing of it was sent.
     LogFull,
 }

@@ -18,7 +18,7 @@ use crate::served::Served;
 use djq_counters::{Ledgers, Steps};
 use djq_disk::{Disk, NoDisk};
 use djq_io::Hub;
-use djq_journal::Log;
+use djq_log::Log;
 use djq_machine::Machine;
 
 /// Serves the sessions of a hub in rounds, until a session sends `stop`, nothing more will arrive, this many
@@ -65,7 +65,7 @@ pub fn serve<M: Machine, H: Hub, L: Ledgers>(
 /// before anything of the commit is sent. Serving ends too if that can't be appended; nothing is sent then any
 /// more.
 ///
-/// The log's journal is idle on this disk, which is open.
+/// A log that is in a file ends on this disk, which is open.
 pub fn serve_logged<M: Machine, H: Hub, D: Disk, L: Ledgers>(
     machine: &mut M,
     hub: &mut H,

@@ -8,7 +8,7 @@ use Rattle.djq_journal.specs.Format.{FileOpensTo}
 use Rattle.djq_journal.specs.Standing.{IsIdle}
 use Rattle.djq_journal.specs.Appending.{IsBeforeOrAfter}
 use Rattle.djq_journal.specs.Staging.{IsStaged, AppendsAt}
-use Rattle.djq_journal.specs.Logging.{HasPassed}
+use Rattle.djq_journal.specs.Passing.{HasPassed}
 use Rattle.djq_journal.proofs.Appends.{unsynced, gate_opened, goes_both, goes_sync, goes_down}
 use Rattle.djq_journal.proofs.appending.append_at.Goals as goal
 

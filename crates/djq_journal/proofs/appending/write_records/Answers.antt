@@ -11,7 +11,7 @@ use Rattle.djq_disk.proofs.Files.{told_none, told_both}
 use Rattle.djq_journal.specs.Format.{body_of, FileOpensTo}
 use Rattle.djq_journal.specs.Standing.{IsIdle}
 use Rattle.djq_journal.specs.Staging.{Stages, IsStaged, StagesLines}
-use Rattle.djq_journal.specs.Logging.{HasPassed}
+use Rattle.djq_journal.specs.Passing.{HasPassed}
 use Rattle.djq_journal.specs.declared.limits.TheConstants.{PIECE_BYTES}
 use Rattle.djq_journal.proofs.Appends.{staged_none, staged_write, staged_more, staged_all, goes_none, goes_both, goes_write}
 use Rattle.djq_journal.proofs.Records.{line_at, few_lines, piece_within, gathers_none, gathers_end, gathers_written}

@@ -2,7 +2,7 @@ use Rattle.std.proofs.Common.{◌≡◌, ◌-◌, ◌≤◌, ℕ, List, length, 
 use Rattle.djq_disk.specs.History.{WhereHistoryTold}
 use Rattle.djq_journal.specs.Standing.{IsIdle}
 use Rattle.djq_journal.specs.Staging.{Stages, StagesLines}
-use Rattle.djq_journal.specs.Logging.{HasPassed}
+use Rattle.djq_journal.specs.Passing.{HasPassed}
 use Rattle.djq_journal.specs.declared.limits.TheConstants.{PIECE_BYTES}
 use Rattle.djq_journal.proofs.appending.write_records.Given as goal
 

@@ -1,7 +1,7 @@
 use Rattle.std.proofs.Common.{◌≡◌, ◌-◌, List, true}
 use Rattle.std.specs.Prelude.{IfSome}
 use Rattle.djq_disk.specs.History.{WhereHistoryTold}
-use Rattle.djq_journal.specs.Standing.{IsAtGate}
+use Rattle.djq_log.specs.Reading.{HasReadLines, source_place}
 use Rattle.djq_model.specs.Data.{Bytes}
 use Rattle.djq_machine.specs.State.{opening}
 use Rattle.djq_machine.specs.Loading.{loading, Loads}
@@ -14,7 +14,7 @@ invariant-lines g l =
     let told = g.D.Disk.told in
     record {
       loading : (found : List Bytes) × Loads (loading opening.store) found (loading_in l.machine)
-          × IfSome (told l.disk) (λ h. IsAtGate found l.journal h.file);
+          × IfSome (told l.disk) (λ h. HasReadLines found l.source h.file);
       fresh : l.machine.state ≡ record opening { store = l.machine.state.store };
       faults : g.D.Disk.faults l.disk ≡ g.D.Disk.faults l.fn.disk;
       same : WhereHistoryTold (told l.fn.disk) (told l.disk) (λ o n. n ≡ o);
@@ -22,6 +22,6 @@ invariant-lines g l =
       is_open : g.D.Disk.is_open l.disk ≡ true;
     }
 
--- Each line brings the journal nearer to the last place.
+-- Each line brings the reader nearer to the last place.
 abbrev pub decreases-lines : goal.decreases-lines
-decreases-lines g l = 18446744073709551615 - l.journal
+decreases-lines g l = 18446744073709551615 - source_place l.source

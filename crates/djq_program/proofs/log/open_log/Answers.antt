@@ -1,5 +1,5 @@
 -- Without a path nothing is loaded; with one, its lines are loaded before the batch they leave open is ended.
-use Rattle.std.proofs.Common.{[], Bor, refl, sym, ap, subst}
+use Rattle.std.proofs.Common.{[], Bor, refl, sym, ap, subst, arith}
 use Rattle.std.specs.Prelude.{Option, Ok, Err}
 use Rattle.std.proofs.lemmas.Result.{MatchResult-weaker}
 use Rattle.djq_model.specs.Data.{Bytes}
@@ -8,7 +8,7 @@ use Rattle.djq_machine.specs.Call.{counts}
 use Rattle.djq_commands.specs.Views.{loading_in}
 use Rattle.djq_program_laws.specs.Logged.{disk_seen, log_seen}
 use Rattle.djq_program_laws.specs.Parts.{OpensLog}
-use Rattle.djq_program_laws.proofs.Logs.{begins_empty, ended_begins, unended_begins}
+use Rattle.djq_program_laws.proofs.Logs.{begins_empty, never_began, ended_begins, unended_begins}
 use Rattle.djq_program.proofs.log.open_log.Goals as goal
 
 pub returns-in_default-clause-opens : goal.returns-in_default-clause-opens
@@ -21,14 +21,24 @@ returns-in_default-clause-opens g c =
     counted counted) (sym c.in_default.is)
     ([], [], begins_empty counted c.args.machine.now.state c.requires.fresh, c.nowhere.ensures)
 
+-- Out of memory nothing was asked of the disk.
+pub returns-in_default-vec-clause-opens : goal.returns-in_default-vec-clause-opens
+returns-in_default-vec-clause-opens g c = never_began c.args.path _ _
+
+pub returns-in_default-new-clause-opens : goal.returns-in_default-new-clause-opens
+returns-in_default-new-clause-opens g c = never_began c.args.path _ _
+
+pub read_log-requires-clause-room : goal.read_log-requires-clause-room
+read_log-requires-clause-room g c = omega (arith, c.in-Ok.ensures.len, c.deref_mut.ensures.len)
+
 pub end_batch-requires : goal.end_batch-requires
 end_batch-requires g c = record {
-  none = ap (λ (st : State). st.sessions) c.in-Ok.ensures.reads.fresh;
-  is_open = c.in-Ok.ensures.is_open;
+  none = ap (λ (st : State). st.sessions) c.in-Ok-read_log.ensures.reads.fresh;
+  is_open = c.in-Ok-read_log.ensures.is_open;
 }
 
-pub returns-in-Ok-clause-opens : goal.returns-in-Ok-clause-opens
-returns-in-Ok-clause-opens g c =
+pub returns-in-Ok-read_log-clause-opens : goal.returns-in-Ok-read_log-clause-opens
+returns-in-Ok-read_log-clause-opens g c =
     let told = g.D.Disk.told in
     let faults = g.D.Disk.faults in
     let before = c.args.steps.now in
@@ -49,10 +59,10 @@ returns-in-Ok-clause-opens g c =
     (sym c.in-Some.is)
     (MatchResult-weaker c.end_batch.result
     ended.ends
-    (λ log ends. ended_begins path first mid last c.in-Ok.journal log end new state start counted loaded then.listing
-    c.in-Ok.ensures.reads ends refl ended.rest ended.listing)
-    (λ status cant. unended_begins path first mid last c.in-Ok.journal status end state counted loaded then.listing
-    c.in-Ok.ensures.reads cant ended.listing))
+    (λ log ends. ended_begins path first mid last c.in-Ok-read_log.end log end new state start counted loaded then.listing
+    c.in-Ok-read_log.ensures.reads ends refl ended.rest ended.listing)
+    (λ status cant. unended_begins path first mid last c.in-Ok-read_log.end status end state counted loaded then.listing
+    c.in-Ok-read_log.ensures.reads cant ended.listing))
 
 pub returns-in-Err-clause-opens : goal.returns-in-Err-clause-opens
 returns-in-Err-clause-opens g c =

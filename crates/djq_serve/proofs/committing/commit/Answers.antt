@@ -1,6 +1,6 @@
--- The lines are in the log before anything is sent; and where they aren't, nothing is.
+-- The lines are in the log before anything is sent; and if they aren't, nothing is.
 use Rattle.std.proofs.Common.{refl}
-use Rattle.djq_journal.specs.declared.log.Kept.TheVariants.{All, Failed, Full}
+use Rattle.djq_log.specs.declared.log.Kept.TheVariants.{All, Failed, Full}
 use Rattle.djq_serve.proofs.LoggedGroups.{logs_lines, failed_isnt_all, full_isnt_all}
 use Rattle.djq_serve.proofs.Lining.{commit_stored, commit_fails, commit_fills}
 use Rattle.djq_serve.proofs.Working.{spares_same}
@@ -50,7 +50,7 @@ returns-in-Failed-clause-spares g c = spares_same (g.M.Machine.state c.args.mach
 pub returns-in-Failed-clause-nowhere : goal.returns-in-Failed-clause-nowhere
 returns-in-Failed-clause-nowhere g c none = absurd (failed_isnt_all (c.in-Failed.ensures.nowhere none).0)
 
--- The journal had no room.
+-- The log had no room.
 
 pub returns-in-Full-clause-makes : goal.returns-in-Full-clause-makes
 returns-in-Full-clause-makes g c =

@@ -14,10 +14,10 @@ returns-in-Group-clause-told g c =
     let digest = c.self.inside.digest in
     let size = c.in-Group.size in
     let after = c.in-Group.digest in
-    let place : ReadingPlace = record { at = at; left = c.self.inside.left; digest = digest } in
+    let place : ReadingPlace = record { at = at; left = c.self.inside.left; digest = digest; gate = c.self.inside.gate } in
     reads_so _ _ _ _ (λ file. StandsAtGate (Group size after) digest (drop at file))
     (λ file. (lines : List (List ℕ)) → HasRead lines c.args.self.now file
-    → HasRead lines (record { at = at + 17; left = size; digest = after }) file)
+    → HasRead lines (record { at = at + 17; left = size; digest = after; gate = at }) file)
     (λ file found lines read. record_entered lines found.0 size after place file
     (subst (λ (w : ReadingPlace). HasRead lines w file) (sym c.self.view_is) read)
     (omega (arith, c.if-self-ne0.false)) found.1 found.2 found.3)
@@ -27,7 +27,7 @@ pub returns-in-End-clause-told : goal.returns-in-End-clause-told
 returns-in-End-clause-told g c =
     let at = c.self.inside.at in
     let digest = c.self.inside.digest in
-    let place : ReadingPlace = record { at = at; left = c.self.inside.left; digest = digest } in
+    let place : ReadingPlace = record { at = at; left = c.self.inside.left; digest = digest; gate = c.self.inside.gate } in
     reads_so _ _ _ _ (λ file. StandsAtGate End digest (drop at file))
     (λ file. (lines : List (List ℕ)) → HasRead lines c.args.self.now file → EntersRecord End lines c.args.self.now file)
     (λ file found lines. subst (λ (w : ReadingPlace). HasRead lines w file → EntersRecord End lines w file) c.self.view_is
@@ -39,7 +39,7 @@ returns-in-Bad-clause-told g c =
     let at = c.self.inside.at in
     let digest = c.self.inside.digest in
     let reason = c.in-Bad.reason in
-    let place : ReadingPlace = record { at = at; left = c.self.inside.left; digest = digest } in
+    let place : ReadingPlace = record { at = at; left = c.self.inside.left; digest = digest; gate = c.self.inside.gate } in
     reads_so _ _ _ _ (λ file. StandsAtGate (Bad reason) digest (drop at file))
     (λ file. (lines : List (List ℕ)) → HasRead lines c.args.self.now file → EntersRecord (Bad reason) lines c.args.self.now file)
     (λ file found lines. subst (λ (w : ReadingPlace). HasRead lines w file → EntersRecord (Bad reason) lines w file) c.self.view_is

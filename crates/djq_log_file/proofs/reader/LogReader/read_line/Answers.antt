@@ -2,7 +2,7 @@
 use Rattle.std.proofs.Common.{◌+◌, ◌-◌, ◌≤◌, ℕ, List, [], ◌∷◌, ◌++◌, take, drop, sym, ap, subst, arith}
 use Rattle.djq_log_file.specs.Entries.{IsEntry}
 use Rattle.djq_log_file.specs.Places.{ReadingPlace}
-use Rattle.djq_log_file.specs.Standing.{HasRead, ReadsLine}
+use Rattle.djq_log_file.specs.Standing.{HasRead, IsLastInRecord, ReadsLine}
 use Rattle.djq_log_file.specs.declared.entry.Entry.TheVariants.{Line, NoLine, Short}
 use Rattle.djq_log_file.specs.declared.reader.LogLine.TheVariants.{Damaged}
 use Rattle.djq_log_file.specs.declared.damage.Damage.TheVariants.{Cut, Lines}
@@ -15,13 +15,15 @@ returns-in-Line-clause-told g c =
     let at = c.self.inside.at in
     let left = c.self.inside.left in
     let digest = c.self.inside.digest in
-    let place : ReadingPlace = record { at = at; left = left; digest = digest } in
+    let gate = c.self.inside.gate in
+    let place : ReadingPlace = record { at = at; left = left; digest = digest; gate = gate } in
     let n = c.in-Line.n in
     let buf = c.read_entry.new.buf in
     let some : 1 ≤ left = omega (arith, c.requires.some, ap (λ (w : ReadingPlace). w.left) c.self.view_is) in
     reads_so _ _ _ _ (λ file. IsEntry (Line n) left buf (drop at file))
     (λ file. (lines : List (List ℕ)) → HasRead lines c.args.self.now file → HasRead (lines ++ take n buf ∷ [])
-    (record { at = at + (2 + n); left = left - (2 + n); digest = digest }) file)
+    (record { at = at + (2 + n); left = left - (2 + n); digest = digest; gate = gate }) file
+    × IsLastInRecord (lines ++ take n buf ∷ []) gate file)
     (λ file entry lines read. line_read lines n place buf file
     (subst (λ (w : ReadingPlace). HasRead lines w file) (sym c.self.view_is) read) some c.in-Line.ensures.fits.1 entry)
     c.in-Line.ensures.told
@@ -30,7 +32,8 @@ pub returns-in-NoLine-clause-told : goal.returns-in-NoLine-clause-told
 returns-in-NoLine-clause-told g c =
     let at = c.self.inside.at in
     let left = c.self.inside.left in
-    let place : ReadingPlace = record { at = at; left = left; digest = c.self.inside.digest } in
+    let place : ReadingPlace =
+    record { at = at; left = left; digest = c.self.inside.digest; gate = c.self.inside.gate } in
     let buf = c.read_entry.new.buf in
     let some : 1 ≤ left = omega (arith, c.requires.some, ap (λ (w : ReadingPlace). w.left) c.self.view_is) in
     reads_so _ _ _ _ (λ file. IsEntry NoLine left buf (drop at file))
@@ -44,7 +47,8 @@ pub returns-in-Short-clause-told : goal.returns-in-Short-clause-told
 returns-in-Short-clause-told g c =
     let at = c.self.inside.at in
     let left = c.self.inside.left in
-    let place : ReadingPlace = record { at = at; left = left; digest = c.self.inside.digest } in
+    let place : ReadingPlace =
+    record { at = at; left = left; digest = c.self.inside.digest; gate = c.self.inside.gate } in
     let buf = c.read_entry.new.buf in
     reads_so _ _ _ _ (λ file. IsEntry Short left buf (drop at file))
     (λ file. (lines : List (List ℕ)) → HasRead lines c.args.self.now file
