@@ -162,6 +162,7 @@ fails_down at piece old new writes =
     let kept = write_keeps Failed at piece old new writes in
     record {
       paths = ap (λ (h : History). h.paths) kept.2;
+      next = ap (λ (h : History). h.next) kept.2;
       leaves = λ is. subst (λ (h : History). LeavesSince
           (KeepsOutside (record { at = at; size = length piece }) old.file.bytes) old h) (sym kept.2)
           (write_leaves _ kept.0 old is kept.1);
@@ -173,6 +174,7 @@ pub writes_down : (did : DiskDid) (at : ℕ) (piece : List ℕ) (old mid new : H
     → Syncs did mid new → WritesDown did at piece old new
 writes_down Failed at piece old mid new writes syncs = record {
   paths = ap (λ (h : History). h.paths) (syncs ∙ writes);
+  next = ap (λ (h : History). h.next) (syncs ∙ writes);
   leaves = λ is. subst
       (λ (h : History). LeavesSince (KeepsOutside (record { at = at; size = length piece }) old.file.bytes)
       old h) (sym (syncs ∙ writes))
@@ -187,6 +189,7 @@ writes_down Done at piece old mid new writes syncs =
     ∙ ap (λ (h : History). moved_to (settled h.file.bytes) h) writes in
     record {
       paths = ap (λ (h : History). h.paths) is_new;
+      next = ap (λ (h : History). h.next) is_new;
       leaves = λ is. subst (λ (h : History). LeavesSince (KeepsOutside span old.file.bytes) old h) (sym is_new)
           (leaves_move (KeepsOutside span old.file.bytes) old (moved_to (with_written span bytes old.file) old)
           (settled bytes)

@@ -3,15 +3,16 @@ use Rattle.std.specs.Prelude.{◌≡◌, ℕ, List, [], ◌∷◌, ◌++◌, len
 use Rattle.std.specs.Option.{option_map}
 use Rattle.djq_io.specs.Sink.{Gains}
 use Rattle.djq_disk.specs.File.{settled, with_written, piece_put}
-use Rattle.djq_disk.specs.History.{History, moved_to}
+use Rattle.djq_disk.specs.History.{History, moved_to, with_next, replaced}
 use Rattle.djq_disk.specs.declared.disk.DiskDid.{DiskDid}
 use Rattle.djq_disk.specs.declared.disk.DiskDid.TheVariants.{Done, Failed}
 use Rattle.djq_disk.specs.declared.call_log.DiskCall.{DiskCall}
 use Rattle.djq_disk.specs.declared.call_log.DiskCall.TheVariants.{Opening, Measuring, Reading, Writing, Syncing}
+use Rattle.djq_disk.specs.declared.call_log.DiskCall.TheVariants.{BeginningNext, WritingNext, SyncingNext, Replacing}
 
--- a disk that was asked nothing yet, with a file of these bytes
+-- a disk that was asked nothing yet, with a file of these bytes and an empty next file
 abbrev pub untouched : List ℕ → History
-untouched bytes = record { paths = []; past = []; file = settled bytes }
+untouched bytes = record { paths = []; past = []; file = settled bytes; next = settled [] }
 
 -- the history after a write of a disk in memory, which leaves its part as it was where it fails
 abbrev pub after_write : History → ℕ → List ℕ → DiskDid → History
@@ -24,6 +25,28 @@ abbrev pub after_sync_call : History → DiskDid → History
 after_sync_call h Done = moved_to (settled h.file.bytes) h
 after_sync_call h Failed = h
 
+-- the history after a next file is begun
+abbrev pub after_begin_next : History → DiskDid → History
+after_begin_next h Done = with_next (settled []) h
+after_begin_next h Failed = h
+
+-- the history after a write of the next file, which leaves its part as it was if it fails
+abbrev pub after_write_next : History → ℕ → List ℕ → DiskDid → History
+after_write_next h at piece Done = with_next
+    (with_written (record { at = at; size = length piece }) (piece_put at piece h.next.bytes) h.next) h
+after_write_next h at piece Failed = with_next
+    (with_written (record { at = at; size = length piece }) h.next.bytes h.next) h
+
+-- the history after a sync of the next file
+abbrev pub after_sync_next : History → DiskDid → History
+after_sync_next h Done = with_next (settled h.next.bytes) h
+after_sync_next h Failed = h
+
+-- the history after the next file was to take the place of the file, which stays as it was if that fails
+abbrev pub after_replace : History → DiskDid → History
+after_replace h Done = replaced h
+after_replace h Failed = h
+
 -- the history after a call
 abbrev pub history_after_call : History → DiskCall → History
 history_after_call h (Opening path answer) = record h { paths = h.paths ++ path ∷ [] }
@@ -31,6 +54,10 @@ history_after_call h (Measuring answer) = h
 history_after_call h (Reading at answer) = h
 history_after_call h (Writing at piece answer) = after_write h at piece answer
 history_after_call h (Syncing answer) = after_sync_call h answer
+history_after_call h (BeginningNext answer) = after_begin_next h answer
+history_after_call h (WritingNext at piece answer) = after_write_next h at piece answer
+history_after_call h (SyncingNext answer) = after_sync_next h answer
+history_after_call h (Replacing answer) = after_replace h answer
 
 -- the history after these calls, in order
 abbrev pub after_calls : History → List DiskCall → History

@@ -28,7 +28,7 @@ CountsDiskRead (Got n) old new = new ≡ old
 CountsDiskRead End old new = new ≡ old
 CountsDiskRead Unread old new = Counted old new
 
--- a write or a sync,
+-- a call that only does or fails, such as a write or a sync,
 abbrev pub CountsDid : DiskDid → ℕ → ℕ → Type 0
 CountsDid Done old new = new ≡ old
 CountsDid Failed old new = Counted old new

@@ -1,5 +1,5 @@
 -- What a disk went through, and what each of its calls does to that.
-use Rattle.std.specs.Prelude.{◌≡◌, ℕ, ◌+◌, ◌≤◌, List, [], ◌∷◌, ◌++◌, length, take, drop, Option, IfSome, IsSomeAnd}
+use Rattle.std.specs.Prelude.{◌≡◌, ℕ, ◌+◌, ◌≤◌, ◌⊎◌, List, [], ◌∷◌, ◌++◌, length, take, drop, Option, IfSome, IsSomeAnd}
 use Rattle.std.specs.Prelude.{Bool, true}
 use Rattle.djq_disk.specs.File.{File, settled, with_written, piece_put, Torn}
 use Rattle.djq_disk.specs.declared.disk.DiskOpen.{DiskOpen}
@@ -12,16 +12,19 @@ use Rattle.djq_disk.specs.declared.disk.DiskDid.{DiskDid}
 use Rattle.djq_disk.specs.declared.disk.DiskDid.TheVariants.{Done, Failed}
 
 -- What a disk went through: the paths that were opened, the file as it was at each earlier moment,
--- and the file as it is.
+-- the file as it is, and the next file, which is written beside it. Nothing of the next file counts
+-- until it takes the place of the file.
 --
 -- A moment comes with each write, and with each sync that was done. Within a call there is no
 -- further one, and none is wanting: a write marks its part as written, so that what a stop leaves in
 -- its middle is among the images behind it, and what one leaves in the middle of a sync is among
--- those before it.
+-- those before it. So it is when the next file takes the place of the file: what a crash leaves in the
+-- middle is an image of one of both.
 pub record History : Type 0 where
   pub paths : List (List ℕ)
   pub past : List File
   pub file : File
+  pub next : File
 
 -- where a history is told as the later state comes, it was told in the earlier one, and this holds
 -- of both
@@ -30,7 +33,15 @@ WhereHistoryTold old new P = IfSome new (λ n. IsSomeAnd old (λ o. P o n))
 
 -- the history a moment later, with this file
 abbrev pub moved_to : File → History → History
-moved_to file h = record { paths = h.paths; past = h.past ++ h.file ∷ []; file = file }
+moved_to file h = record { paths = h.paths; past = h.past ++ h.file ∷ []; file = file; next = h.next }
+
+-- the history with this next file
+abbrev pub with_next : File → History → History
+with_next file h = record { paths = h.paths; past = h.past; file = h.file; next = file }
+
+-- the history a moment later, once the next file has taken the place of the file
+abbrev pub replaced : History → History
+replaced h = with_next (settled []) (moved_to h.next h)
 
 -- An open adds its path, whatever it answers.
 abbrev pub OpensPath : List ℕ → History → History → Type 0
@@ -78,3 +89,27 @@ DiskWrites Failed at piece old new = (bytes : List ℕ)
 abbrev pub Syncs : DiskDid → History → History → Type 0
 Syncs Done old new = new ≡ moved_to (settled old.file.bytes) old
 Syncs Failed old new = new ≡ old
+
+-- A next file that was begun is empty, whatever was there. A begin that failed counts as none.
+abbrev pub BeginsNext : DiskDid → History → History → Type 0
+BeginsNext Done old new = new ≡ with_next (settled []) old
+BeginsNext Failed old new = new ≡ old
+
+-- A write of the next file does to it what a write of the file does to that.
+abbrev pub WritesNext : DiskDid → ℕ → List ℕ → History → History → Type 0
+WritesNext Done at piece old new =
+    new ≡ with_next
+    (with_written (record { at = at; size = length piece }) (piece_put at piece old.next.bytes) old.next) old
+WritesNext Failed at piece old new = (bytes : List ℕ)
+    × Torn (record { at = at; size = length piece }) old.next.bytes bytes
+    × (new ≡ with_next (with_written (record { at = at; size = length piece }) bytes old.next) old)
+
+-- After a sync of the next file that was done it has what was written. One that failed counts as none.
+abbrev pub SyncsNext : DiskDid → History → History → Type 0
+SyncsNext Done old new = new ≡ with_next (settled old.next.bytes) old
+SyncsNext Failed old new = new ≡ old
+
+-- The next file takes the place of the file. After a call that failed either of both may have it.
+abbrev pub Replaces : DiskDid → History → History → Type 0
+Replaces Done old new = new ≡ replaced old
+Replaces Failed old new = (new ≡ old) ⊎ (new ≡ replaced old)

@@ -3,6 +3,7 @@ use Rattle.std.specs.Prelude.{◌≡◌, ℕ, List, ◌++◌}
 use Rattle.std.specs.List.{AllByRecursion}
 use Rattle.djq_disk.specs.File.{File, IsImage}
 use Rattle.djq_disk.specs.History.{History, OpensPath, Sizes, DiskReads, DiskWrites, Syncs}
+use Rattle.djq_disk.specs.History.{BeginsNext, WritesNext, SyncsNext, Replaces}
 use Rattle.djq_disk.specs.declared.disk.DiskLen.{DiskLen}
 use Rattle.djq_disk.specs.declared.disk.DiskRead.{DiskRead}
 use Rattle.djq_disk.specs.declared.disk.DiskDid.{DiskDid}
@@ -25,14 +26,23 @@ pub record LeavesSince (P : List ℕ → Type 0) (old new : History) : Type 0 wh
 abbrev pub ReadsAsImage : File → Type 0
 ReadsAsImage file = IsImage file file.bytes
 
--- It stays so in each call of a disk, whatever it answers.
+-- Each of both files reads as one of its images afterwards if it did before.
+abbrev pub StayImages : History → History → Type 0
+StayImages old new = (ReadsAsImage old.file → ReadsAsImage new.file) × (ReadsAsImage old.next → ReadsAsImage new.next)
+
+-- So it is in each call of a disk, whatever it answers. If the next file takes the place of the file, its images
+-- are those of the file from then on, so both have to read as theirs before.
 pub record StaysAnImage : Type 0 where
-  pub opening : (path : List ℕ) (old new : History) → OpensPath path old new → ReadsAsImage old.file
-      → ReadsAsImage new.file
-  pub sizing : (answer : DiskLen) (old new : History) → Sizes answer old new → ReadsAsImage old.file
-      → ReadsAsImage new.file
+  pub opening : (path : List ℕ) (old new : History) → OpensPath path old new → StayImages old new
+  pub sizing : (answer : DiskLen) (old new : History) → Sizes answer old new → StayImages old new
   pub reading : (answer : DiskRead) (at : ℕ) (buf : List ℕ) (old new : History) → DiskReads answer at buf old new
-      → ReadsAsImage old.file → ReadsAsImage new.file
+      → StayImages old new
   pub writing : (did : DiskDid) (at : ℕ) (piece : List ℕ) (old new : History) → DiskWrites did at piece old new
-      → ReadsAsImage old.file → ReadsAsImage new.file
-  pub syncing : (did : DiskDid) (old new : History) → Syncs did old new → ReadsAsImage old.file → ReadsAsImage new.file
+      → StayImages old new
+  pub syncing : (did : DiskDid) (old new : History) → Syncs did old new → StayImages old new
+  pub beginning_next : (did : DiskDid) (old new : History) → BeginsNext did old new → StayImages old new
+  pub writing_next : (did : DiskDid) (at : ℕ) (piece : List ℕ) (old new : History) → WritesNext did at piece old new
+      → StayImages old new
+  pub syncing_next : (did : DiskDid) (old new : History) → SyncsNext did old new → StayImages old new
+  pub replacing : (did : DiskDid) (old new : History) → Replaces did old new → ReadsAsImage old.file
+      → ReadsAsImage old.next → ReadsAsImage new.file × ReadsAsImage new.next

@@ -11,7 +11,7 @@ pub record MemDiskInside : Type 0 where
   pub log : Calls
   pub to_fail : List ℕ
 
--- what a write or a sync answers
+-- what a call answers that only does or fails, such as a write or a sync
 abbrev pub did_of : MemDiskInside → DiskDid
 did_of disk = if is_failing disk.to_fail then Failed else Done
 

@@ -8,9 +8,10 @@ use Rattle.djq_disk.specs.declared.disk.DiskDid.TheVariants.{Done}
 
 -- A piece is written at a place and synced. Where all was synced before, at each moment a stop
 -- leaves everything outside the piece's part, whatever the write and the sync answer; and once
--- both were done, the file has the piece and all is synced.
+-- both were done, the file has the piece and all is synced. The next file is as it was.
 pub record WritesDown (did : DiskDid) (at : ℕ) (piece : List ℕ) (old new : History) : Type 0 where
   pub paths : new.paths ≡ old.paths
+  pub next : new.next ≡ old.next
   pub leaves : IsSettled old.file
       → LeavesSince (KeepsOutside (record { at = at; size = length piece }) old.file.bytes) old new
   pub done : did ≡ Done → new.file ≡ settled (piece_put at piece old.file.bytes)

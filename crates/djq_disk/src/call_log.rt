@@ -21,6 +21,14 @@ pub enum DiskCall {
     Writing(u64, Piece, DiskDid),
     /// All was to be synced.
     Syncing(DiskDid),
+    /// A next file was to be made.
+    BeginningNext(DiskDid),
+    /// This piece was to be written at this place of the next file.
+    WritingNext(u64, Piece, DiskDid),
+    /// The next file was to be synced.
+    SyncingNext(DiskDid),
+    /// The next file was to replace the file.
+    Replacing(DiskDid),
 }
 
 /// The calls of a disk in memory, after the initial bytes of its file.

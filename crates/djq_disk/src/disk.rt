@@ -23,18 +23,18 @@ pub enum DiskRead {
     Failed,
 }
 
-/// The answer to a write or a sync.
+/// The answer to a call that only does or fails, such as a write or a sync.
 #[derive(Clone, Copy, Debug, PartialEq, Eq)]
 pub enum DiskDid {
     Done,
     Failed,
 }
 
-/// A disk with one file.
+/// A disk with one file, and a next one that is written beside it to replace it.
 pub trait Disk {
     ghost use Rattle.std.specs.Prelude.{◌≡◌, ℕ, ◌+◌, ◌<◌, ◌≤◌, length, Option, Bool, true};
     ghost use Rattle.djq_disk.specs.History.{History, WhereHistoryTold, OpensPath, Opens, Sizes, DiskReads, FitsRead};
-    ghost use Rattle.djq_disk.specs.History.{DiskWrites, Syncs};
+    ghost use Rattle.djq_disk.specs.History.{DiskWrites, Syncs, BeginsNext, WritesNext, SyncsNext, Replaces};
     ghost use Rattle.djq_disk.specs.DiskFaults.{CountsOpen, CountsLen, CountsDiskRead, CountsDid};
 
     // Its history, if the disk records one.
@@ -82,5 +82,35 @@ pub trait Disk {
         requires { is_open self.old ≡ true }
         ensures is_open { is_open self.new ≡ true }
         ensures told { WhereHistoryTold (told self.old) (told self.new) (Syncs result) }
+        ensures faults { CountsDid result (faults self.old) (faults self.new) };
+
+    /// Makes an empty next file beside the file, whatever was there.
+    fn begin_next(&mut self) -> DiskDid
+        requires { is_open self.old ≡ true }
+        ensures is_open { is_open self.new ≡ true }
+        ensures told { WhereHistoryTold (told self.old) (told self.new) (BeginsNext result) }
+        ensures faults { CountsDid result (faults self.old) (faults self.new) };
+
+    /// Writes the whole piece at the place of the next file.
+    fn write_next(&mut self, at: u64, piece: &[u8]) -> DiskDid
+        requires is_open { is_open self.old ≡ true }
+        requires place { at + length piece.now ≤ 18446744073709551615 }
+        ensures is_open { is_open self.new ≡ true }
+        ensures told { WhereHistoryTold (told self.old) (told self.new) (WritesNext result at piece.now) }
+        ensures faults { CountsDid result (faults self.old) (faults self.new) };
+
+    /// Waits until all that was written to the next file outlives a crash.
+    fn sync_next(&mut self) -> DiskDid
+        requires { is_open self.old ≡ true }
+        ensures is_open { is_open self.new ≡ true }
+        ensures told { WhereHistoryTold (told self.old) (told self.new) (SyncsNext result) }
+        ensures faults { CountsDid result (faults self.old) (faults self.new) };
+
+    /// Replaces the file by the next one, at once: a crash leaves one of both. If it fails, either of both may be the
+    /// file, and the next one is empty then or as it was.
+    fn replace(&mut self) -> DiskDid
+        requires { is_open self.old ≡ true }
+        ensures is_open { is_open self.new ≡ true }
+        ensures told { WhereHistoryTold (told self.old) (told self.new) (Replaces result) }
         ensures faults { CountsDid result (faults self.old) (faults self.new) };
 }

@@ -3,28 +3,32 @@ ghost use Rattle.std.specs.Option.{option_copied};
 ghost use Rattle.djq_io.specs.Failing.{after_call, failed_count};
 ghost use Rattle.djq_disk.specs.File.{piece_put};
 ghost use Rattle.djq_disk.specs.History.{WhereHistoryTold, OpensPath, Sizes, IsPart, DiskReads, FitsRead, DiskWrites};
-ghost use Rattle.djq_disk.specs.History.{Syncs};
+ghost use Rattle.djq_disk.specs.History.{Syncs, BeginsNext, WritesNext, SyncsNext, Replaces};
 ghost use Rattle.djq_disk.specs.DiskFaults.{CountsOpen, CountsLen, CountsDiskRead, CountsDid};
 ghost use Rattle.djq_disk.specs.CallLog.{told_by, GainsCall};
 ghost use Rattle.djq_disk.specs.MemDisk.{did_of, put_by};
 ghost use Rattle.djq_disk.specs.declared.call_log.DiskCall.TheVariants.{Opening, Measuring, Reading, Writing, Syncing};
+ghost use Rattle.djq_disk.specs.declared.call_log.DiskCall.TheVariants.{BeginningNext, WritingNext, SyncingNext};
+ghost use Rattle.djq_disk.specs.declared.call_log.DiskCall.TheVariants.{Replacing};
 
 use crate::call_log::{CallLog, DiskCall};
 use crate::disk::{Disk, DiskDid, DiskLen, DiskOpen, DiskRead};
 use djq_io::{Failing, Piece};
 use std::alloc::{AllocError, Global};
 use std::marker::Model;
+use std::mem;
 
 /// A disk in memory, which records its whole history, and so all that a crash may leave. Its file is
-/// there from the start, and so it is always open.
+/// there from the start, and so it is always open. So is its next file, which is empty at first.
 ///
 /// It fails only at the calls that were set to fail ([`MemDisk::fail_at`]); a write that fails leaves the
-/// bytes as they were, and counts as written. If a growth is refused, it continues to answer, and records
-/// nothing from then on.
+/// bytes as they were, and counts as written, and a replacement that fails leaves both files. If a growth is
+/// refused, it continues to answer, and records nothing from then on.
 #[derive(Debug, Drop)]
 pub struct MemDisk {
     alloc: Global,
     bytes: Vec<u8>,
+    next: Vec<u8>,
     log: CallLog,
     to_fail: Failing,
 }
@@ -38,7 +42,8 @@ impl Model for MemDisk {
 
     ghost view = { λ d. record { log = d.log; to_fail = d.to_fail } };
 
-    ghost invariant = { λ d. IfSome (told_by d.log) (λ h. h.file.bytes ≡ d.bytes.items) };
+    ghost invariant = { λ d. IfSome (told_by d.log)
+        (λ h. (h.file.bytes ≡ d.bytes.items) × (h.next.bytes ≡ d.next.items)) };
 }
 
 impl MemDisk {
@@ -57,6 +62,7 @@ impl MemDisk {
         Ok(MemDisk {
             alloc,
             bytes: Vec::from_slice(alloc, bytes)?,
+            next: Vec::new(alloc),
             log: CallLog::new(alloc, first),
             to_fail: Failing::new(alloc),
         })
@@ -67,6 +73,13 @@ impl MemDisk {
         ensures { IfSome (told_by self.now.log) (λ h. h.file.bytes ≡ result.now) }
     {
         &self.bytes
+    }
+
+    /// The bytes of the next file.
+    pub fn next_bytes(&self) -> &[u8]
+        ensures { IfSome (told_by self.now.log) (λ h. h.next.bytes ≡ result.now) }
+    {
+        &self.next
     }
 
     /// Its calls in order with their answers, or `None` once they were lost.
@@ -85,7 +98,7 @@ impl MemDisk {
         self.to_fail.push(call)
     }
 
-    /// What the next write or sync answers.
+    /// What the next call answers, if it only does or fails.
     fn did(&mut self) -> DiskDid
         ensures exact { result ≡ did_of self.old }
         ensures counted { self.new ≡ record self.old { to_fail = after_call self.old.to_fail } }
@@ -113,15 +126,10 @@ fn put_piece(bytes: &mut Vec<u8>, at: usize, piece: &[u8]) -> Result<(), AllocEr
     bytes.extend_from_slice(&behind)
 }
 
-/// A write with this answer, as a call to be recorded.
-fn write(
-    bytes: &mut Vec<u8>,
-    at: u64,
-    piece: &[u8],
-    answer: DiskDid,
-) -> Result<DiskCall, AllocError>
+/// A write with this answer. Returns its piece, for the call that is recorded.
+fn write(bytes: &mut Vec<u8>, at: u64, piece: &[u8], answer: DiskDid) -> Result<Piece, AllocError>
     requires { at + length piece.now ≤ 18446744073709551615 }
-    ensures call { IfOk result (λ call. call ≡ Writing at piece.now answer) }
+    ensures copy { IfOk result (λ copy. copy ≡ piece.now) }
     ensures bytes { OnOk result (bytes.new.items ≡ put_by answer at piece.now bytes.old.items) }
 {
     let alloc = *bytes.allocator();
@@ -129,7 +137,7 @@ fn write(
     if answer == DiskDid::Done {
         put_piece(bytes, at as usize, piece)?;
     }
-    Ok(DiskCall::Writing(at, copy, answer))
+    Ok(copy)
 }
 
 /// Reads from bytes at a place.
@@ -213,8 +221,9 @@ impl Disk for MemDisk {
         ensures faults { CountsDid result (failed_count self.old.to_fail) (failed_count self.new.to_fail) }
     {
         let answer = self.did();
-        let call = write(&mut self.bytes, at, piece, answer);
-        self.log.push(call);
+        let copy = write(&mut self.bytes, at, piece, answer);
+        self.log
+            .push(copy.map(|copy| DiskCall::Writing(at, copy, answer)));
         answer
     }
 
@@ -227,6 +236,64 @@ impl Disk for MemDisk {
     {
         let answer = self.did();
         self.log.push(Ok(DiskCall::Syncing(answer)));
+        answer
+    }
+
+    fn begin_next(&mut self) -> DiskDid
+        ensures exact { result ≡ did_of self.old }
+        ensures call { GainsCall (BeginningNext result) self.old.log self.new.log }
+        ensures to_fail { self.new.to_fail ≡ after_call self.old.to_fail }
+        ensures told { WhereHistoryTold (told_by self.old.log) (told_by self.new.log) (BeginsNext result) }
+        ensures faults { CountsDid result (failed_count self.old.to_fail) (failed_count self.new.to_fail) }
+    {
+        let answer = self.did();
+        if answer == DiskDid::Done {
+            self.next.clear();
+        }
+        self.log.push(Ok(DiskCall::BeginningNext(answer)));
+        answer
+    }
+
+    fn write_next(&mut self, at: u64, piece: &[u8]) -> DiskDid
+        requires { at + length piece.now ≤ 18446744073709551615 }
+        ensures exact { result ≡ did_of self.old }
+        ensures call { GainsCall (WritingNext at piece.now result) self.old.log self.new.log }
+        ensures to_fail { self.new.to_fail ≡ after_call self.old.to_fail }
+        ensures told { WhereHistoryTold (told_by self.old.log) (told_by self.new.log) (WritesNext result at piece.now) }
+        ensures faults { CountsDid result (failed_count self.old.to_fail) (failed_count self.new.to_fail) }
+    {
+        let answer = self.did();
+        let copy = write(&mut self.next, at, piece, answer);
+        self.log
+            .push(copy.map(|copy| DiskCall::WritingNext(at, copy, answer)));
+        answer
+    }
+
+    fn sync_next(&mut self) -> DiskDid
+        ensures exact { result ≡ did_of self.old }
+        ensures call { GainsCall (SyncingNext result) self.old.log self.new.log }
+        ensures to_fail { self.new.to_fail ≡ after_call self.old.to_fail }
+        ensures told { WhereHistoryTold (told_by self.old.log) (told_by self.new.log) (SyncsNext result) }
+        ensures faults { CountsDid result (failed_count self.old.to_fail) (failed_count self.new.to_fail) }
+    {
+        let answer = self.did();
+        self.log.push(Ok(DiskCall::SyncingNext(answer)));
+        answer
+    }
+
+    fn replace(&mut self) -> DiskDid
+        ensures exact { result ≡ did_of self.old }
+        ensures call { GainsCall (Replacing result) self.old.log self.new.log }
+        ensures to_fail { self.new.to_fail ≡ after_call self.old.to_fail }
+        ensures told { WhereHistoryTold (told_by self.old.log) (told_by self.new.log) (Replaces result) }
+        ensures faults { CountsDid result (failed_count self.old.to_fail) (failed_count self.new.to_fail) }
+    {
+        let answer = self.did();
+        if answer == DiskDid::Done {
+            mem::swap(&mut self.bytes, &mut self.next);
+            self.next.clear();
+        }
+        self.log.push(Ok(DiskCall::Replacing(answer)));
         answer
     }
 }

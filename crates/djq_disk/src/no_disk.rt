@@ -1,6 +1,6 @@
 ghost use Rattle.std.specs.Prelude.{◌≡◌, ℕ, ◌+◌, ◌<◌, ◌≤◌, length, None, true};
 ghost use Rattle.djq_disk.specs.History.{History, WhereHistoryTold, OpensPath, Opens, Sizes, DiskReads, FitsRead};
-ghost use Rattle.djq_disk.specs.History.{DiskWrites, Syncs};
+ghost use Rattle.djq_disk.specs.History.{DiskWrites, Syncs, BeginsNext, WritesNext, SyncsNext, Replaces};
 ghost use Rattle.djq_disk.specs.DiskFaults.{CountsOpen, CountsLen, CountsDiskRead, CountsDid};
 
 use crate::disk::{Disk, DiskDid, DiskLen, DiskOpen, DiskRead};
@@ -34,6 +34,22 @@ impl Disk for NoDisk {
     }
 
     fn sync(&mut self) -> DiskDid {
+        DiskDid::Done
+    }
+
+    fn begin_next(&mut self) -> DiskDid {
+        DiskDid::Done
+    }
+
+    fn write_next(&mut self, _at: u64, _piece: &[u8]) -> DiskDid {
+        DiskDid::Done
+    }
+
+    fn sync_next(&mut self) -> DiskDid {
+        DiskDid::Done
+    }
+
+    fn replace(&mut self) -> DiskDid {
         DiskDid::Done
     }
 }
