@@ -414,6 +414,14 @@ def the_example_is_that_of_the_specification_and_of_the_page(program, folder, op
 
 
 @test
+def the_samples_of_both_formats_have_the_same_lines(program, folder, options):
+    for name in ("", "-crash"):
+        first, second = (log_format.read(read(os.path.join(HERE, "logs", f"format-{number}{name}.log"))) for number in (1, 2))
+        expect(sum(second, []), sum(first, []), f"the lines of format-2{name}.log")
+        expect(len(sum(second, [])) > 2, True, "lines")
+
+
+@test
 def an_unbegun_file_is_made_a_log(program, folder, options):
     log = os.path.join(folder, "unbegun")
     for header in (log_format.FIRST, log_format.SECOND):
