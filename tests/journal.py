@@ -409,7 +409,7 @@ def the_example_is_that_of_the_specification_and_of_the_page(program, folder, op
         expect(log_format.read(bytes_of_it), EXAMPLE, "its groups")
     log = os.path.join(folder, "example")
     write(log, log_format.write(EXAMPLE))
-    expect(replay(program, log, b"open 1\nsay 1 add r 8\n")[:2], (b"1< ok added 3 2\n", 0), "it loads")
+    expect(replay(program, log, b"open 1\nsay 1 add r 8\n")[:2], (b"1< ok added 2 2\n", 0), "it loads")
     expect(groups_of(log, log_format.SECOND), [*EXAMPLE, [b"add r 8"]], "and is appended to")
 
 
