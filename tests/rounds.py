@@ -642,7 +642,7 @@ def with_limit(size):
 def a_limit_of_a_files_size_ends_serving_and_nothing_unlogged_is_sent():
     with folder() as here:
         log = os.path.join(here, "log")
-        for limit in (80, 300, 1000, 4001, 20_000, 60_007):
+        for limit in (112, 400, 1000, 4001, 20_000, 60_007):  # the log that is begun has 82 bytes
             begun(log)
             with Serving(log, **with_limit(limit)) as serving:
                 writers = ends_with_9(serving, log, "writing", "it would pass the limit of a file's size")

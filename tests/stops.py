@@ -4,11 +4,11 @@
     tests/stops.py PATH_TO_DJQ
 
 tests/stop.c is compiled with gcc and preloaded. A schedule with a log is run again and again, and stopped at its first
-call that writes or syncs the file, at its second, and so on: before a write, in the middle of it and behind it, and with
+call that writes or syncs the file, at its second, and so on: before a write, in the middle of it and after it, and with
 some of the writes undone that weren't synced, as after a power cut. Each time the file that is left has to load, and to
-give what the first lines of the schedule gave, a batch with all of its rows or with none. One line is printed for each
-test that fails, and last `N passed, N failed`; the status is 0 where none failed. Python's standard library and gcc are
-all it needs.
+give what the first lines of the schedule gave, a batch with all of its rows or with none: of a new log, of a log of
+format 1, and of a file that is being made a log. One line is printed for each test that fails, and last
+`N passed, N failed`; the status is 0 if none failed. Python's standard library and gcc are all it needs.
 """
 
 import os
@@ -17,6 +17,7 @@ import sys
 import tempfile
 
 sys.dont_write_bytecode = True
+import log_format  # noqa: E402
 from harness import run_tests, test  # noqa: E402
 
 PATIENCE = 20
@@ -56,17 +57,35 @@ def state_of(log):
     return (*sorted(line for line in told if line.startswith(b"= ")), *members), told[-1]
 
 
+def read(log):
+    with open(log, "rb") as file:
+        return file.read()
+
+
+def write(log, content):
+    with open(log, "wb") as file:
+        file.write(content)
+
+
 def each_stop(groups):
-    """Runs groups of lines with a log, each kept whole or not at all, with a stop at each call and of each kind."""
+    """Groups of lines, each logged whole or not at all, in a new log and in one of format 1."""
+    each_stop_with(groups, log_format.SECOND)
+    each_stop_with(groups, log_format.FIRST)
+
+
+def each_stop_with(groups, header):
+    """Runs groups of lines with a log of a format, with a stop at each call and of each kind."""
     lines = [line for group in groups for line in group]
     with tempfile.TemporaryDirectory() as folder:
         library, begun, log = compiled(folder), os.path.join(folder, "begun"), os.path.join(folder, "log")
 
         def again():
-            with open(begun, "rb") as one, open(log, "wb") as other:
-                other.write(one.read())
+            write(log, read(begun))
 
+        if header == log_format.FIRST:
+            write(begun, log_format.write_first([]))
         assert replay(begun, BEGIN)[1] == 0
+        assert read(begun).startswith(header)
         allowed = []
         for count in range(len(groups) + 1):
             again()
@@ -81,6 +100,7 @@ def each_stop(groups):
                     if status not in (0, STOPPED):
                         raise AssertionError(f"status {status} at call {at}, part {part}, seed {seed}")
                     left = state_of(log)
+                    assert read(log).startswith(header) and not isinstance(log_format.read(read(log)), tuple), (at, part, seed)
                     if left not in allowed:
                         raise AssertionError(f"a stop at call {at}, part {part}, seed {seed} leaves {left}")
                     stops += status == STOPPED
@@ -110,7 +130,8 @@ def a_batch_of_two_rows_is_left_whole_or_not_at_all():
 
 @test
 def a_batch_in_several_writes_is_left_whole_or_not_at_all():
-    each_stop([[b"batch", *(b"add r %d 2" % row + b" " * 3000 for row in range(12)), b"done"]])
+    # the lines are gathered in pieces of 16 KB in format 1, and of 64 KB in format 2
+    each_stop([[b"batch", *(b"add r %d 2" % row + b" " * 4000 for row in range(36)), b"done"]])
 
 
 @test
@@ -121,18 +142,38 @@ def batches_between_other_lines():
 
 @test
 def a_file_that_ends_within_a_batch_is_stopped_as_it_is_mended():
+    lines = [*BEGIN, b"batch", b"add r 1 1"]
+    each_stop_of_a_start(log_format.write_first(lines), ((b"= 9 9",), b"ok watch 1"))
+    each_stop_of_a_start(log_format.write([BEGIN, [b"batch", b"add r 1 1"]]), ((b"= 9 9",), b"ok watch 1"))
+
+
+@test
+def a_file_that_is_being_made_a_log_is_one_or_none():
+    """A start that is stopped leaves a file which the next one takes."""
+    for header in (log_format.FIRST, log_format.SECOND):
+        for size in (0, 1, 6, 7, 8):
+            each_stop_of_a_start(header[:size], ((), b"err 4 no query"))
+    each_stop_of_a_start(None, ((), b"err 4 no query"))
+
+
+def each_stop_of_a_start(content, wanted):
+    """Starts over a file of these bytes, or over none, with a stop at each call and of each kind. What a next start has is
+    always the same."""
     with tempfile.TemporaryDirectory() as folder:
         library, log = compiled(folder), os.path.join(folder, "log")
-        records = b"".join(b"\x01" + len(line).to_bytes(2, "big") + line for line in [*BEGIN, b"batch", b"add r 1 1"])
         for at in range(1, MOST_CALLS):
             for part in PARTS:
                 for seed in SEEDS:
-                    with open(log, "wb") as file:
-                        file.write(b"DJQLOG1\n" + records + b"\0")
+                    if content is not None:
+                        write(log, content)
+                    elif os.path.exists(log):
+                        os.remove(log)
                     _, status = replay(log, [], library, STOP_AT=at, STOP_PART=part, STOP_LOSES=seed)
-                    assert state_of(log) == ((b"= 9 9",), b"ok watch 1"), (at, part, seed)
+                    assert status in (0, STOPPED), (status, at, part, seed)
+                    assert state_of(log) == wanted, (at, part, seed)
             if status == 0:
-                break
+                return
+        raise AssertionError("a start that meets no stop")
 
 
 if __name__ == "__main__":
