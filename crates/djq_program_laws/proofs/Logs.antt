@@ -1,5 +1,5 @@
 -- How a log is loaded and appended to, and what a crash leaves of it.
-use Rattle.std.specs.Prelude.{ℕ, List, [], ◌∷◌, ◌++◌, ◌≡◌, Option, None, Some, length, ◌<◌, IsSome}
+use Rattle.std.specs.Prelude.{ℕ, List, [], ◌∷◌, ◌++◌, ◌≡◌, ◌⊎◌, Option, None, Some, length, ◌<◌, IsSome}
 use Rattle.std.specs.Prelude.{codes, ◌≤◌, ◌+◌, ◌-◌}
 use Rattle.std.proofs.Common.{sym, ap, ◌∙◌, subst, inl, inr, refl, arith, append-nil, ap₂, append_assoc, length-append}
 use Rattle.std.specs.Borrow.{Bor}
@@ -269,11 +269,11 @@ pub made_reads : (path : Bytes) (before mid now : DiskSeen) (ends : LogEnd) (end
     → now.faults ≡ mid.faults → WhereHistoryTold before.told mid.told (OpensPath path)
     → WhereHistoryTold mid.told now.told (OpensLogLines (Made ends))
     → ReadsLog (log_seen_at path before now) ends end state listing listing
-made_reads path before mid now ends end state listing none fresh opened made opens makes = record {
+made_reads path before mid now ends end state listing none fresh no_fault made opens makes = record {
   found = [];
   loads = none;
   fresh = fresh ∙ sym (ap (λ (st : State). record opening { store = st.store }) fresh);
-  faults = made ∙ opened;
+  faults = made ∙ no_fault;
   finds = made_finds path ends before.told mid.told now.told opens makes;
   unlisted = refl;
 }
@@ -285,11 +285,11 @@ pub read_whole : (path : Bytes) (before mid then now : DiskSeen) (source : LogSo
     → WhereHistoryTold mid.told then.told (OpensLogLines (Ready source))
     → LoadsLines ends end state then now listing listing'
     → ReadsLog (log_seen_at path before now) ends end state listing listing'
-read_whole path before mid then now source ends end state listing listing' opened found opens ready l = record {
+read_whole path before mid then now source ends end state listing listing' no_fault found opens ready l = record {
   found = l.found;
   loads = l.loads;
   fresh = l.fresh;
-  faults = l.faults ∙ found ∙ opened;
+  faults = l.faults ∙ found ∙ no_fault;
   finds = older_finds path l.found ends before.told then.told now.told
       (ready_read path source before.told mid.told then.told opens ready) l.idle l.same;
   unlisted = l.unlisted;
@@ -302,8 +302,8 @@ pub unloaded_begins : (path : Bytes) (before mid then now : DiskSeen) (source : 
     → WhereHistoryTold mid.told then.told (OpensLogLines (Ready source))
     → StopsLoading status then now counted.listing counted'.listing
     → Unloaded (log_seen_at path before now) status counted counted'
-unloaded_begins path before mid then now source status counted counted' opened found opens ready stops = record {
-  caused = subst (λ (n : ℕ). UnloadedFor status n now) (found ∙ opened) stops.caused;
+unloaded_begins path before mid then now source status counted counted' no_fault found opens ready stops = record {
+  caused = subst (λ (n : ℕ). UnloadedFor status n now) (found ∙ no_fault) stops.caused;
   leaves = opened_leaves status path before.told then.told now.told
       (ready_read path source before.told mid.told then.told opens ready) stops.same;
   unlisted = stops.unlisted;
@@ -321,8 +321,8 @@ pub unopened_begins : (path : Bytes) (before mid now : DiskSeen) (counted : Coun
     → Counted mid.faults now.faults → WhereHistoryTold before.told mid.told (OpensPath path)
     → WhereHistoryTold mid.told now.told (OpensLogLines Unopened)
     → Unloaded (log_seen_at path before now) StatusDiskFault counted counted
-unopened_begins path before mid now counted opened failed opens unopened = record {
-  caused = subst (λ (n : ℕ). Counted n now.faults) opened failed;
+unopened_begins path before mid now counted no_fault failed opens unopened = record {
+  caused = subst (λ (n : ℕ). Counted n now.faults) no_fault failed;
   leaves = unopened_leaves path before.told mid.told now.told opens unopened;
   unlisted = refl;
 }
@@ -332,8 +332,8 @@ pub unknown_begins : (path : Bytes) (before mid now : DiskSeen) (counted : Count
     → now.faults ≡ mid.faults → WhereHistoryTold before.told mid.told (OpensPath path)
     → WhereHistoryTold mid.told now.told (OpensLogLines Unknown)
     → Unloaded (log_seen_at path before now) (BadLog 0) counted counted
-unknown_begins path before mid now counted opened found opens unknown = record {
-  caused = (found ∙ opened, inl (unknown_from mid.told now.told unknown));
+unknown_begins path before mid now counted no_fault found opens unknown = record {
+  caused = (found ∙ no_fault, inl (unknown_from mid.told now.told unknown));
   leaves = unknown_leaves path before.told mid.told now.told opens unknown;
   unlisted = refl;
 }
@@ -364,12 +364,12 @@ ended_begins path before mid now ends log end new state start counted loaded lis
   },
   subst (λ (k : Option LogEnd). FoundIn (Some (log_seen_at path before now)) r.found (first_kept end.batch) k)
       (sym e.at) (
-    e.faults ∙ r.faults,
-    told_both before.told mid.told now.told (FindsAll path r.found ends) _
-        (FindsLines path r.found (first_kept end.batch) e.after)
-        (λ o m n p q. record { since = m; begins = begun o m p.0; holds = q m (goes_on path r.found ends o m p) })
-        r.finds (e.kept r.found),
-  ),
+        e.faults ∙ r.faults,
+        told_both before.told mid.told now.told (FindsAll path r.found ends) _
+            (FindsLines path r.found (first_kept end.batch) e.after)
+            (λ o m n p q. record { since = m; begins = begun o m p.0; holds = q m (goes_on path r.found ends o m p) })
+            r.finds (e.kept r.found),
+      ),
 )
   where
     closed : new ≡ loading start.store

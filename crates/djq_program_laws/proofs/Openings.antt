@@ -5,7 +5,8 @@ use Rattle.djq_model.specs.Data.{Bytes}
 use Rattle.djq_disk.specs.File.{File}
 use Rattle.djq_disk.specs.History.{History, WhereHistoryTold, OpensPath}
 use Rattle.djq_disk.proofs.Files.{told_both, told_so}
-use Rattle.djq_log_file.specs.Opening.{IsUnbegun, synced_history}
+use Rattle.djq_log_format.specs.Format.{log_header}
+use Rattle.djq_log_file.specs.Opening.{IsUnbegun, BeginsWith, first_log_header, synced_history}
 use Rattle.djq_log.specs.Lines.{LogOpensToLines, IsIdleAt}
 use Rattle.djq_log.specs.Reading.{HasReadLines, IsBadAt, IsNextAt, ReadsNext, OpensLogLines}
 use Rattle.djq_log.specs.declared.end.LogEnd.{LogEnd}
@@ -149,8 +150,8 @@ unknown_from mid new unknown = told_end mid new (OpensLogLines Unknown) (IsNoLog
       refl,
       record {
         begun = λ h. p.1.begun (back m n p.0 IsUnbegun h);
-        no_first = λ h. p.1.no_first (back m n p.0 _ h);
-        no_second = λ h. p.1.no_second (back m n p.0 _ h);
+        no_first = λ h. p.1.no_first (back m n p.0 (BeginsWith first_log_header) h);
+        no_second = λ h. p.1.no_second (back m n p.0 (BeginsWith log_header) h);
       },
     )) unknown
   where

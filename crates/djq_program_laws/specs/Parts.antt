@@ -80,7 +80,7 @@ CantEnd _ ends old before now = ⊥
 
 -- What opening a log and loading its lines comes to, if one is asked for: a state to start from,
 -- and where the log ends; or the status for which nothing begins.
-abbrev pub OpensLog : Option LogSeen → Result (Option ℕ) Status → State → Counts → Counts → Type 0
+abbrev pub OpensLog : Option LogSeen → Result (Option LogEnd) Status → State → Counts → Counts → Type 0
 OpensLog log result state counted loaded = MatchResult result
     (λ end. (found : List Bytes) × (first : List Group) × Begins log found first counted state loaded
     × FoundIn log found first end)
