@@ -573,6 +573,27 @@ def records_that_are_moved(program, folder, options):
 
 
 @test
+def a_log_of_many_pieces(program, folder, options):
+    """Records that are longer than what a start reads at once, and others that reach over its end."""
+    log, draw = os.path.join(folder, "long"), random.Random(options.seed)
+    groups = [[b"rel r int", b"query q(x) <- r(x)"]]
+    for first in range(0, 3000, 1000):
+        rows = [b"add r %d" % row + b" " * draw.randrange(200) for row in range(first, first + 1000)]
+        groups += [[b"batch", *rows, b"done"], *singles(b"add r %d" % -row + b" " * draw.randrange(4000) for row in range(first + 1, first + 41))]
+    whole = log_format.write(groups)
+    asked = b"open 1\nsay 1 watch q\nsay 1 has q 2999\nsay 1 has q -2040\nsay 1 has q -2041\n"
+    wanted = b"1< ok watch 123\n1< yes\n1< yes\n1< no\n", 0, b""
+    write(log, whole)
+    expect(replay(program, log, asked), wanted, "as it is")
+    for at in (draw.randrange(9, len(whole)) for _ in range(50)):
+        for what, content in (("cut", whole[:at]), ("flipped", draw.choice(list(log_format.flips(whole, at))))):
+            write(log, content)
+            found = log_format.read(content)
+            want = (b"", 11, bad(found[0])) if isinstance(found, tuple) else wanted
+            expect(replay(program, log, asked), want, f"byte {at} of {len(whole)} is {what}")
+
+
+@test
 def each_cut_of_format_1(program, folder, options):
     log = os.path.join(folder, "cut")
     lines = [b"rel r int", b"add r 7", b"batch", b"add r 7", b"add r 9", b"done"]
