@@ -13,7 +13,7 @@ use Rattle.djq_log_format.specs.Format.{RecordStored, log_front}
 use Rattle.djq_log_format.proofs.Once.{opens_once as second_opens_once}
 use Rattle.djq_log_file.specs.Standing.{stored_groups}
 use Rattle.djq_log_file.proofs.Appends.{idle_holds}
-use Rattle.djq_log.specs.Lines.{whole_lines, HoldsLines, LogOpensToLines, IsIdleAt, IdleLogLasts, LogOpensToOne}
+use Rattle.djq_log.specs.Lines.{whole_lines, HasLogLines, LogOpensToLines, IsIdleAt, IdleLogLasts, LogOpensToOne}
 use Rattle.djq_log.specs.Keeping.{OpensWithin, IsKeeping, OpensToOldOrNew, KeepsOn}
 use Rattle.djq_log.specs.declared.end.LogEnd.{LogEnd}
 use Rattle.djq_log.specs.declared.end.LogEnd.TheVariants.{First, Second}
@@ -21,14 +21,14 @@ use Rattle.djq_log.specs.declared.end.LogEnd.TheVariants.{First, Second}
 -- ---- A file opens to one list of lines.
 
 -- The seventh byte of a header says which format it is of.
-no_both : (lines others : List (List ℕ)) (file : List ℕ) → FileOpensTo lines file → HoldsLines others file → ⊥
+no_both : (lines others : List (List ℕ)) (file : List ℕ) → FileOpensTo lines file → HasLogLines others file → ⊥
 no_both lines others file a b =
     let same : front lines ++ a.gate ∷ a.behind ≡ log_front b.holds.stored ++ 0 ∷ b.holds.opens.behind = sym a.is
     ∙ b.holds.opens.is in
     let wrong : 49 ≡ 50 = ap (λ (xs : List ℕ). get_or xs 6 0) same in
     omega (arith, wrong)
 
-lines_once : (lines others : List (List ℕ)) (file : List ℕ) → HoldsLines lines file → HoldsLines others file
+lines_once : (lines others : List (List ℕ)) (file : List ℕ) → HasLogLines lines file → HasLogLines others file
     → lines ≡ others
 lines_once lines others file a b =
     let same : a.holds.stored ≡ b.holds.stored = second_opens_once a.holds.stored b.holds.stored file a.holds.opens

@@ -13,14 +13,14 @@ abbrev pub whole_lines : List (List (List ℕ)) → List (List ℕ)
 whole_lines groups = flat_map (λ group. group) groups
 
 -- A file has these lines as a log of the second format: they are those of its groups.
-pub record HoldsLines (lines : List (List ℕ)) (file : List ℕ) : Type 0 where
+pub record HasLogLines (lines : List (List ℕ)) (file : List ℕ) : Type 0 where
   pub groups : List (List (List ℕ))
   pub holds : HoldsGroups groups file
   pub are : lines ≡ whole_lines groups
 
 -- A file opens to these lines, as a log of the first format or of the second.
 abbrev pub LogOpensToLines : List (List ℕ) → List ℕ → Type 0
-LogOpensToLines lines file = FileOpensTo lines file ⊎ HoldsLines lines file
+LogOpensToLines lines file = FileOpensTo lines file ⊎ HasLogLines lines file
 
 -- A log of these lines ends here, in a file in which all is synced.
 abbrev pub IsIdleAt : List (List ℕ) → LogEnd → File → Type 0
