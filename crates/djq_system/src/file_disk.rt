@@ -5,11 +5,11 @@ ghost use Rattle.djq_disk.specs.DiskFaults.{CountsOpen, CountsLen, CountsDiskRea
 
 use crate::size_limit::{passes_limit, past_limit};
 use djq_disk::{Disk, DiskDid, DiskLen, DiskOpen, DiskRead};
-use std::fs::{self, Files, OpenOptions, TryLockError};
+use std::fs::{self, Files, OpenOptions, Permissions, TryLockError};
 use std::io::{self, Eprint, ErrorKind};
 use std::marker::Model;
-use std::os::unix::fs::{FileExt, OpenOptionsExt};
-use std::path::Path;
+use std::os::unix::fs::{FileExt, MetadataExt, OpenOptionsExt, PermissionsExt, fchown};
+use std::path::{Path, PathBuf};
 
 /// Past this place no file has a byte.
 const LAST_PLACE: u64 = 9_223_372_036_854_775_807;
@@ -23,12 +23,22 @@ const MODE: u32 = 0o600;
 /// A file of the operating system as a disk, seen as whether it is open and its count of faults. It records
 /// no history.
 ///
+/// The next file is made beside the file, under its name with `.new` after it, and is renamed to the file's name when
+/// it replaces it.
+///
 /// For each call that fails it prints to standard error which call it was, the path as it was given, and the
 /// system's reason.
 #[derive(Drop)]
 pub struct FileDisk<R: Files<File = fs::File> + AllocGlobal + Eprint + Drop> {
     rt: R,
     file: Option<fs::File>,
+    /// The next file, once it is begun.
+    next: Option<fs::File>,
+    /// The file that was replaced last. It is locked until the process ends, so that no other process that opened
+    /// it before uses it as the log.
+    replaced: Option<fs::File>,
+    /// The paths of the file that is open and of the next one.
+    place: Option<Place>,
     /// The path that was opened last, if there was memory for it.
     path: Option<String>,
     faults: u64,
@@ -43,31 +53,59 @@ impl<R: Files<File = fs::File> + AllocGlobal + Eprint + Drop> Model for FileDisk
     ghost view = { λ d. record { is_open = is_some d.file; faults = d.faults } };
 }
 
-/// A call of the system that failed, by the name that is printed, and why.
+/// The path of a file, through symbolic links, and that of the next one beside it.
+#[derive(Drop)]
+struct Place {
+    file: PathBuf,
+    next: PathBuf,
+}
+
+/// What was to be done that failed, as it is printed, and why.
 #[derive(Drop)]
 struct Failure {
     call: &'static str,
     error: io::Error,
 }
 
+/// What the system did, with what was to be done if it failed.
+fn during<T>(call: &'static str, answer: io::Result<T>) -> Result<T, Failure> {
+    answer.map_err(|error| Failure { call, error })
+}
+
 /// Opens the file at the path for this process alone, and creates it if it is absent.
 fn open_alone<R: Files<File = fs::File> + AllocGlobal>(
     rt: &R,
     path: &str,
-) -> Result<fs::File, Failure> {
-    let file = open_or_make(rt, path).map_err(|error| Failure {
-        call: "opening",
-        error,
-    })?;
-    lock(&file).map_err(|error| Failure {
-        call: "locking",
-        error,
-    })?;
-    sync_folder(rt, path).map_err(|error| Failure {
-        call: "syncing the folder of",
-        error,
-    })?;
-    Ok(file)
+) -> Result<(fs::File, Place), Failure> {
+    let file = during("opening the log", open_or_make(rt, path))?;
+    let place = during("opening the log", place_of(rt, path))?;
+    let name = place.file.as_path();
+    during("locking the log", lock(&file))?;
+    during("locking the log", check_name(rt, &file, name))?;
+    during("syncing the folder of the log", sync_folder(rt, name))?;
+    Ok((file, place))
+}
+
+/// Resolves the path of a file through symbolic links, and names the next one beside it.
+fn place_of<R: Files<File = fs::File> + AllocGlobal>(rt: &R, path: &str) -> io::Result<Place> {
+    let file = fs::canonicalize(rt, path)?;
+    let next = file.as_path().with_added_extension(rt.alloc(), "new")?;
+    Ok(Place { file, next })
+}
+
+/// Fails if the path isn't that of this file: another one may have replaced it before it was locked, or the path is
+/// that of a symbolic link.
+fn check_name<R: Files<File = fs::File>>(
+    rt: &R,
+    file: &fs::File,
+    path: Path<'_>,
+) -> io::Result<()> {
+    let ours = file.metadata()?;
+    let there = fs::symlink_metadata(rt, path)?;
+    if ours.dev() == there.dev() && ours.ino() == there.ino() {
+        return Ok(());
+    }
+    Err(io::Error::new(ErrorKind::AlreadyExists, "another file has its name"))
 }
 
 /// Opens the file at the path, and creates it for its owner alone if it is absent.
@@ -99,15 +137,48 @@ fn lock(file: &fs::File) -> io::Result<()> {
     }
 }
 
-/// Syncs the folder that has the file at the path, also through symbolic links, so that a file that was
-/// created there outlives a crash.
-fn sync_folder<R: Files<File = fs::File> + AllocGlobal>(rt: &R, path: &str) -> io::Result<()> {
-    let whole = fs::canonicalize(rt, path)?;
-    let folder = match whole.as_path().parent() {
+/// Syncs the folder that has the file at the path, so that a file that was created there, or renamed, outlives a
+/// crash.
+fn sync_folder<R: Files<File = fs::File>>(rt: &R, path: Path<'_>) -> io::Result<()> {
+    let folder = match path.parent() {
         Some(folder) => folder,
         None => Path::new("/"),
     };
     OpenOptions::new().read(true).open(rt, folder)?.sync_all()
+}
+
+/// Makes an empty file at the path, to replace the file that is given. It is locked before anything is done to it,
+/// so a file there that another process has locked stays as it is.
+fn make_next<R: Files<File = fs::File>>(
+    rt: &R,
+    path: Path<'_>,
+    file: &fs::File,
+) -> io::Result<fs::File> {
+    let next = open_or_make(rt, path.as_str())?;
+    lock(&next)?;
+    check_name(rt, &next, path)?;
+    next.set_len(0)?;
+    share_as(&next, file)?;
+    Ok(next)
+}
+
+/// Gives a file the owner, the group and the mode of another one. If the process may not change its owner or group,
+/// it remains for its owner alone.
+fn share_as(next: &fs::File, file: &fs::File) -> io::Result<()> {
+    let wanted = file.metadata()?;
+    let made = next.metadata()?;
+    let is_given = wanted.uid() == made.uid() && wanted.gid() == made.gid()
+        || fchown(next, Some(wanted.uid()), Some(wanted.gid())).is_ok();
+    if is_given {
+        next.set_permissions(wanted.permissions())
+    } else {
+        next.set_permissions(Permissions::from_mode(MODE))
+    }
+}
+
+/// The failure of a call on a next file that wasn't begun.
+fn not_begun() -> io::Error {
+    io::Error::new(ErrorKind::NotFound, "it wasn't begun")
 }
 
 /// Reads some bytes, or none if the file ends before the place. A signal doesn't end it.
@@ -145,6 +216,9 @@ impl<R: Files<File = fs::File> + AllocGlobal + Eprint + Drop> FileDisk<R> {
         FileDisk {
             rt,
             file: None,
+            next: None,
+            replaced: None,
+            place: None,
             path: None,
             faults: 0,
         }
@@ -160,7 +234,7 @@ impl<R: Files<File = fs::File> + AllocGlobal + Eprint + Drop> FileDisk<R> {
         }
     }
 
-    /// Counts a fault, and prints which call failed on which file, and why.
+    /// Counts a fault, and prints what failed on which file, and why.
     fn fail(&mut self, call: &str, error: io::Error)
         ensures is_open { self.new.is_open ≡ self.old.is_open }
         ensures faults { Counted self.old.faults self.new.faults }
@@ -169,8 +243,22 @@ impl<R: Files<File = fs::File> + AllocGlobal + Eprint + Drop> FileDisk<R> {
             Some(path) => path.as_str(),
             None => "",
         };
-        let _ = eprintln!(self.rt; "djq: {call} the log {path} failed: {error}");
+        let _ = eprintln!(self.rt; "djq: {call} {path} failed: {error}");
         self.faults = self.faults.saturating_add(1);
+    }
+
+    /// Gives the next file the file's name, and lets that outlive a crash. The next file is the file then.
+    fn rename_next(&mut self) -> io::Result<()>
+        requires { self.old.is_open ≡ true }
+        ensures { self.new ≡ self.old }
+    {
+        let (Some(place), Some(_)) = (&self.place, &self.next) else {
+            return Err(not_begun());
+        };
+        fs::rename(&self.rt, place.next.as_path(), place.file.as_path())?;
+        self.replaced = self.file.take();
+        self.file = self.next.take();
+        sync_folder(&self.rt, place.file.as_path())
     }
 
     /// Returns what the system did, and counts a fault if it failed.
@@ -201,8 +289,10 @@ impl<R: Files<File = fs::File> + AllocGlobal + Eprint + Drop> Disk for FileDisk<
     {
         self.path = String::from_str(self.rt.alloc(), path).ok();
         match open_alone(&self.rt, path) {
-            Ok(file) => {
+            Ok((file, place)) => {
                 self.file = Some(file);
+                self.next = None;
+                self.place = Some(place);
                 DiskOpen::Ready
             }
             Err(Failure { call, error }) => {
@@ -220,7 +310,7 @@ impl<R: Files<File = fs::File> + AllocGlobal + Eprint + Drop> Disk for FileDisk<
         match self.file().metadata() {
             Ok(found) => DiskLen::Len(found.len()),
             Err(error) => {
-                self.fail("measuring", error);
+                self.fail("measuring the log", error);
                 DiskLen::Failed
             }
         }
@@ -237,7 +327,7 @@ impl<R: Files<File = fs::File> + AllocGlobal + Eprint + Drop> Disk for FileDisk<
             Ok(0) => DiskRead::End,
             Ok(n) => DiskRead::Got(n),
             Err(error) => {
-                self.fail("reading", error);
+                self.fail("reading the log", error);
                 DiskRead::Failed
             }
         }
@@ -250,7 +340,7 @@ impl<R: Files<File = fs::File> + AllocGlobal + Eprint + Drop> Disk for FileDisk<
         ensures faults { CountsDid result self.old.faults self.new.faults }
     {
         let answer = write_all(self.file(), at, piece);
-        self.did("writing", answer)
+        self.did("writing the log", answer)
     }
 
     fn sync(&mut self) -> DiskDid
@@ -259,6 +349,60 @@ impl<R: Files<File = fs::File> + AllocGlobal + Eprint + Drop> Disk for FileDisk<
         ensures faults { CountsDid result self.old.faults self.new.faults }
     {
         let answer = self.file().sync_all();
-        self.did("syncing", answer)
+        self.did("syncing the log", answer)
+    }
+
+    fn begin_next(&mut self) -> DiskDid
+        requires { self.old.is_open ≡ true }
+        ensures is_open { self.new.is_open ≡ true }
+        ensures faults { CountsDid result self.old.faults self.new.faults }
+    {
+        // One that was begun before is closed, and so unlocked.
+        self.next = None;
+        let made = match &self.place {
+            Some(place) => make_next(&self.rt, place.next.as_path(), self.file()),
+            None => Err(not_begun()),
+        };
+        match made {
+            Ok(next) => {
+                self.next = Some(next);
+                DiskDid::Done
+            }
+            Err(error) => self.did("making the new log", Err(error)),
+        }
+    }
+
+    fn write_next(&mut self, at: u64, piece: &[u8]) -> DiskDid
+        requires is_open { self.old.is_open ≡ true }
+        requires place { at + length piece.now ≤ 18446744073709551615 }
+        ensures is_open { self.new.is_open ≡ true }
+        ensures faults { CountsDid result self.old.faults self.new.faults }
+    {
+        let answer = match &self.next {
+            Some(next) => write_all(next, at, piece),
+            None => Err(not_begun()),
+        };
+        self.did("writing the new log", answer)
+    }
+
+    fn sync_next(&mut self) -> DiskDid
+        requires { self.old.is_open ≡ true }
+        ensures is_open { self.new.is_open ≡ true }
+        ensures faults { CountsDid result self.old.faults self.new.faults }
+    {
+        let answer = match &self.next {
+            Some(next) => next.sync_all(),
+            None => Err(not_begun()),
+        };
+        self.did("syncing the new log", answer)
+    }
+
+    fn replace(&mut self) -> DiskDid
+        requires { self.old.is_open ≡ true }
+        ensures is_open { self.new.is_open ≡ true }
+        ensures faults { CountsDid result self.old.faults self.new.faults }
+    {
+        let answer = self.rename_next();
+        self.did("renaming the log", answer)
     }
 }

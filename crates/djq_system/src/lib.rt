@@ -1,7 +1,7 @@
 //! What must be believed without a proof: the operating system, as the traits of djq_io and djq_disk
 //! see it.
 //!
-//! [`TcpHub`] is a hub of sessions over TCP, [`FileDisk`] a file as a disk, [`StdSource`] and
+//! [`TcpHub`] is a hub of sessions over TCP, [`FileDisk`] a file and a next one as a disk, [`StdSource`] and
 //! [`StdSink`] a reader and a writer of `std::io`, such as [`StandardInput`] and [`StandardOutput`]. Each
 //! is a few lines over std, `mio` or `libc`, and each counts its faults.
 //!
@@ -53,8 +53,15 @@
 //! A disk's `open` creates an absent file for its owner alone, and locks it, so that a second server
 //! on the same file fails. It syncs the folder, so that a file that was created outlives a crash. For a
 //! symbolic link that is the folder of the file itself. A disk has one file open at a
-//! time. The lock is advisory: a program that doesn't ask for it isn't stopped. If a sync failed,
-//! what a read returns needn't be on the disk: a caller that continues has to open the file anew.
+//! time, and a next one beside it. The lock is advisory: a program that doesn't ask for it isn't stopped. If a sync
+//! failed, what a read returns needn't be on the disk: a caller that continues has to open the file anew.
+//!
+//! The next file of `PATH` is `PATH.new`, in the folder of the file itself. It is emptied when it is begun, once it is
+//! locked, and gets the owner, the group and the mode of the file. If the system refuses that, it is for its owner
+//! alone. `replace` renames it, and syncs the folder. The file that was replaced stays locked, so that a second server
+//! that opened it before doesn't get it. And an `open` fails if, once the file is locked, its path is that of another
+//! one. A `PATH.new` that a crash leaves is used again. If `replace` failed, the caller ends: which of both files has
+//! the name after a crash isn't known then, whatever is synced later.
 //!
 //! For each call that fails standard error has a line, with the call, the path and the system's reason.
 //!
