@@ -134,7 +134,7 @@ still_there None found first all end since m n keeping kept =
     absurd (omega (arith, sizes))
   where
     from : File → History
-    from file = record { paths = m.paths; past = m.past; file = file }
+    from file = record { paths = m.paths; past = m.past; file = file; next = m.next }
 
     begun : (file : File) → IsKeeping found first end (from file) m
     begun file = record {

@@ -106,7 +106,7 @@ stays_there None found all end h h' base kept =
     absurd (omega (arith, sizes))
   where
     from : File → History
-    from file = record { paths = h.paths; past = h.past; file = file }
+    from file = record { paths = h.paths; past = h.past; file = file; next = h.next }
 
     begun : (file : File) → IsKeeping found [] end (from file) h
     begun file = record {
