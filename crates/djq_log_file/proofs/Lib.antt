@@ -11,4 +11,3 @@ pub mod Appends
 pub mod Ends
 pub mod Keeps
 pub mod Makes
-pub mod Creates

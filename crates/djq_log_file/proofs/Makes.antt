@@ -5,15 +5,17 @@ use Rattle.std.specs.List.{AllByRecursion}
 use Rattle.std.proofs.Math.Seq.{drop-append_seam, drop-append-add}
 use Rattle.djq_disk.specs.declared.disk.DiskDid.{DiskDid}
 use Rattle.djq_disk.specs.declared.disk.DiskDid.TheVariants.{Done, Failed}
-use Rattle.djq_disk.specs.File.{Span, File, IsSettled, settled, with_written, piece_put}
-use Rattle.djq_disk.specs.History.{History, moved_to, DiskWrites, Syncs}
+use Rattle.djq_disk.specs.File.{Span, File, IsSettled, settled, piece_put}
+use Rattle.djq_disk.specs.History.{History, with_next, replaced, DiskWrites, Syncs, BeginsNext}
+use Rattle.djq_disk.specs.History.{Replaces}
 use Rattle.djq_disk.proofs.Files.{all_append, leaves_none}
 use Rattle.djq_log_format.specs.Format.{RecordStored, IsRecordStored, IsGroup, log_header, log_front, record_body, content_of}
 use Rattle.djq_log_format.specs.Format.{seed, records, digest_after, digest_behind}
 use Rattle.djq_log_file.specs.Places.{LogEndPlace}
 use Rattle.djq_log_file.specs.Laying.{HasGoneOn, IsFixed, BeginsAs, Gathering, Lays, LaysMore}
-use Rattle.djq_log_file.specs.Appending.{end_behind}
-use Rattle.djq_log_file.specs.Making.{BeginsLog, WritesBehind, PutsAfter, MakesAfter, CreatesLog, first_record_place, created_up_to}
+use Rattle.djq_log_file.specs.Appending.{end_behind, IsIdleLog}
+use Rattle.djq_log_file.specs.Making.{BeginsLog, WritesBehind, PutsAfter, MakesAfter, CreatesLog, first_record_place}
+use Rattle.djq_log_file.specs.Making.{IsNewLog, WritesNewLog}
 use Rattle.djq_log_file.specs.declared.maker.LogBegun.TheVariants.{Begun}
 use Rattle.djq_log_file.specs.declared.maker.GroupPut.TheVariants.{Put, Failed as Unput, Full}
 use Rattle.djq_log_file.specs.declared.maker.LogMade.TheVariants.{Made, Failed as Unmade}
@@ -194,70 +196,77 @@ made_unsynced at place old mid new writes syncs = record {
 
 -- ---- A log without groups.
 
--- the new bytes over those of a file
-abbrev over_file : History → File
-over_file old = with_written (record { at = 0; size = 9 }) (piece_put 0 (log_header ++ 0 ∷ []) old.file.bytes) old.file
+-- the bytes of a log without groups
+abbrev new_log_bytes : List ℕ
+new_log_bytes = log_header ++ 0 ∷ []
 
-over_reads : (old : History) → (over_file old).bytes ≡ created_up_to 9 old.file.bytes
-over_reads old = put_there [] (log_header ++ 0 ∷ []) old.file.bytes
+-- The next file wasn't begun.
+pub new_log_unbegun : (old new : History) → BeginsNext Failed old new → WritesNewLog Failed old new
+new_log_unbegun old new begins = (old.next, begins)
 
--- the file and then with the new bytes
-gone_twice : (file : File) (old : History) → HasGoneOn old (moved_to file (moved_to (over_file old) old))
-gone_twice file old = record {
-  moments = old.file ∷ over_file old ∷ [];
-  past = append_assoc old.past (old.file ∷ []) (over_file old ∷ []);
-  paths = refl;
-}
+-- ---- It takes the place of the file, or not.
 
-gone_once : (file : File) (old : History) → HasGoneOn old (moved_to file old)
-gone_once file old = record { moments = old.file ∷ []; past = refl; paths = refl }
+-- Only the next file changed.
+pub stays : (old : History) (next : File) (new : History) → new ≡ with_next next old → CreatesLog Unmade old new
+stays old next new is = subst (λ (h : History). CreatesLog Unmade old h) (sym is) (record {
+  passed = record { moments = []; past = sym (append-nil old.past); paths = refl };
+  each = tt;
+  leaves = inl refl;
+  makes = tt;
+})
 
-pub created : (end : LogEndPlace) (old mid new : History) → end ≡ first_record_place
-    → DiskWrites Done 0 (log_header ++ 0 ∷ []) old mid → Syncs Done mid new → CreatesLog (Made end) old new
-unfolding records digest_after gone_twice
-created end old mid new is_end writes syncs =
-    let file : File = settled (over_file old).bytes in
-    let is_new : new ≡ moved_to file (moved_to (over_file old) old) =
-    syncs ∙ ap (λ (h : History). moved_to (settled h.file.bytes) h) writes in
-    subst (λ (h : History). CreatesLog (Made end) old h) (sym is_new) (record {
-      passed = gone_twice file old;
-      each = (inl refl, (inr (over_reads old), tt));
+is_new_log : (file : File) → file ≡ settled new_log_bytes → IsNewLog file
+unfolding records digest_after
+is_new_log file is = subst (λ (f : File). IsNewLog f) (sym is) (record {
+  idle = record {
+    ends = record {
+      stored = [];
+      opens = record { are_stored = tt; behind = []; is = refl };
+      are = refl;
+      is_at = refl;
+      is_digest = refl;
+    };
+    still = refl;
+  };
+  whole = record { stored = []; closed = record { are_stored = tt; is = refl }; are = refl };
+})
+
+-- the disk after it took the place
+taken_place : (old mid new : History) → WritesNewLog Done old mid → new ≡ replaced mid
+    → (new.file ≡ settled new_log_bytes) × (new.past ≡ old.past ++ old.file ∷ []) × (new.paths ≡ old.paths)
+taken_place old mid new writes replaces =
+    let is : new ≡ replaced (with_next (settled new_log_bytes) old) = replaces ∙ ap (λ (h : History). replaced h) writes in
+    (ap (λ (h : History). h.file) is, ap (λ (h : History). h.past) is, ap (λ (h : History). h.paths) is)
+
+gone_on : (old new : History) → new.past ≡ old.past ++ old.file ∷ [] → new.paths ≡ old.paths → HasGoneOn old new
+gone_on old new past paths = record { moments = old.file ∷ []; past = past; paths = paths }
+
+pub created : (end : LogEndPlace) (old mid new : History) → end ≡ first_record_place → WritesNewLog Done old mid
+    → Replaces Done mid new → CreatesLog (Made end) old new
+unfolding gone_on
+created end old mid new is_end writes replaces =
+    let taken = taken_place old mid new writes replaces in
+    let is_log : IsNewLog new.file = is_new_log new.file taken.0 in
+    record {
+      passed = gone_on old new taken.1 taken.2;
+      each = (refl, tt);
+      leaves = inr is_log;
       makes = (
         is_end,
-        record {
-          ends = record {
-            stored = [];
-            opens = record { are_stored = tt; behind = drop 9 old.file.bytes; is = over_reads old };
-            are = refl;
-            is_at = ap (λ (p : LogEndPlace). p.at) is_end;
-            is_digest = ap (λ (p : LogEndPlace). p.digest) is_end;
-          };
-          still = refl;
-        },
-        λ none. record {
-          stored = [];
-          closed = record { are_stored = tt; is = over_reads old ∙ ap (λ (xs : List ℕ). log_header ++ 0 ∷ xs) none };
-          are = refl;
-        },
+        subst (λ (p : LogEndPlace). IsIdleLog [] p new.file) (sym is_end) is_log.idle,
+        λ none. is_log.whole,
       );
-    })
+    }
 
-pub created_unsynced : (old mid new : History) → DiskWrites Done 0 (log_header ++ 0 ∷ []) old mid → Syncs Failed mid new
-    → CreatesLog Unmade old new
-unfolding gone_once
-created_unsynced old mid new writes syncs =
-    subst (λ (h : History). CreatesLog Unmade old h) (sym (syncs ∙ writes)) (record {
-      passed = gone_once (over_file old) old;
-      each = (inl refl, tt);
+pub not_replaced : (old mid new : History) → WritesNewLog Done old mid → Replaces Failed mid new → CreatesLog Unmade old new
+unfolding gone_on
+not_replaced old mid new writes (inl same) =
+    stays old (settled new_log_bytes) new (same ∙ writes)
+not_replaced old mid new writes (inr replaces) =
+    let taken = taken_place old mid new writes replaces in
+    record {
+      passed = gone_on old new taken.1 taken.2;
+      each = (refl, tt);
+      leaves = inr (is_new_log new.file taken.0);
       makes = tt;
-    })
-
-pub uncreated : (old new : History) → DiskWrites Failed 0 (log_header ++ 0 ∷ []) old new → CreatesLog Unmade old new
-unfolding gone_once
-uncreated old new writes =
-    let span : Span = record { at = 0; size = 9 } in
-    subst (λ (h : History). CreatesLog Unmade old h) (sym writes.2) (record {
-      passed = gone_once (with_written span writes.0 old.file) old;
-      each = (inl refl, tt);
-      makes = tt;
-    })
+    }

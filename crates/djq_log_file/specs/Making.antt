@@ -1,18 +1,17 @@
 -- A log that is made record by record, in a file whose bytes don't count until it is finished.
-use Rattle.std.specs.Prelude.{◌≡◌, ℕ, ◌+◌, ◌<◌, ◌≤◌, ◌⊎◌, List, [], ◌∷◌, ◌++◌, length, take, drop}
+use Rattle.std.specs.Prelude.{◌≡◌, ℕ, ◌+◌, ◌<◌, ◌≤◌, ◌⊎◌, List, [], ◌∷◌, ◌++◌, length, drop}
 use Rattle.std.specs.List.{AllByRecursion}
 use Rattle.djq_io.specs.Faults.{Counted}
-use Rattle.djq_disk.specs.File.{File}
-use Rattle.djq_disk.specs.History.{History}
+use Rattle.djq_disk.specs.File.{File, settled}
+use Rattle.djq_disk.specs.History.{History, with_next}
 use Rattle.djq_disk.specs.declared.disk.DiskDid.{DiskDid}
 use Rattle.djq_disk.specs.declared.disk.DiskDid.TheVariants.{Done as Did, Failed as Failing}
 use Rattle.djq_log_format.specs.Format.{RecordStored, IsRecordStored, IsClosedWhole, log_header, log_front}
 use Rattle.djq_log_format.specs.Format.{record_body, seed, digest_after}
 use Rattle.djq_log_file.specs.Places.{LogEndPlace}
-use Rattle.djq_log_file.specs.Standing.{HoldsGroups, stored_groups}
+use Rattle.djq_log_file.specs.Standing.{stored_groups}
 use Rattle.djq_log_file.specs.Laying.{HasGoneOn}
 use Rattle.djq_log_file.specs.Appending.{IsIdleLog, end_behind}
-use Rattle.djq_log_file.specs.Opening.{IsUnbegun}
 use Rattle.djq_log_file.specs.declared.maker.LogBegun.{LogBegun}
 use Rattle.djq_log_file.specs.declared.maker.LogBegun.TheVariants.{Begun, Failed as Unbegun}
 use Rattle.djq_log_file.specs.declared.maker.GroupPut.{GroupPut}
@@ -89,23 +88,23 @@ pub record MakesAfter (answer : LogMade) (place : LogEndPlace) (old new : Histor
   pub makes : (groups : List (List (List ℕ))) (rest : List ℕ) → IsMadeUpTo groups place rest old.file.bytes
       → MakesLog answer groups place (drop 1 rest) new
 
--- the first so many bytes of a log without groups, and after them what a file had there
-abbrev pub created_up_to : ℕ → List ℕ → List ℕ
-created_up_to n file = take n (log_header ++ 0 ∷ []) ++ drop n file
+-- A log without groups is the whole file, and all of it is synced.
+pub record IsNewLog (file : File) : Type 0 where
+  pub idle : IsIdleLog [] first_record_place file
+  pub whole : IsWholeLogOf [] file.bytes
 
--- A log without groups is created, whatever the file has. Until then the file reads as it did, or with all the new bytes
--- from its first one on: no moment lies between.
+-- the next file is written, whether the file is replaced by it or not
+abbrev pub WritesNewLog : DiskDid → History → History → Type 0
+WritesNewLog Did old new = new ≡ with_next (settled (log_header ++ 0 ∷ [])) old
+WritesNewLog Failing old new = (next : File) × (new ≡ with_next next old)
+
+-- A log without groups is created beside the file, and takes its place in one step. So at each moment a crash leaves the
+-- file as it was, or that log.
 pub record CreatesLog (answer : LogMade) (old new : History) : Type 0 where
   pub passed : HasGoneOn old new
-  pub each : AllByRecursion
-      (λ (file : File). (file.bytes ≡ old.file.bytes) ⊎ (file.bytes ≡ created_up_to 9 old.file.bytes)) passed.moments
-  pub makes : MakesLog answer [] first_record_place (drop 9 old.file.bytes) new
-
--- However many of the new bytes stand in an unbegun file, it is unbegun still, or a log without groups: so the next start
--- takes it.
-abbrev pub HalfCreatedIsTaken : Type 0
-HalfCreatedIsTaken = (n : ℕ) (file : List ℕ) → IsUnbegun file
-    → IsUnbegun (created_up_to n file) ⊎ HoldsGroups [] (created_up_to n file)
+  pub each : AllByRecursion (λ (file : File). file ≡ old.file) passed.moments
+  pub leaves : (new.file ≡ old.file) ⊎ IsNewLog new.file
+  pub makes : MakesLog answer [] first_record_place [] new
 
 -- The disk's count of faults rises where a log isn't begun, and stays elsewhere;
 abbrev pub CountsLogBegun : LogBegun → ℕ → ℕ → Type 0

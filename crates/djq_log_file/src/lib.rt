@@ -17,16 +17,15 @@
 //! the groups before or to those and the whole new one. No digest is a premise of that.
 //!
 //! A log is made by a [`LogMaker`], record by record, in a file whose bytes don't count: it is none before it is
-//! finished, and has exactly the groups that were put then. [`create_log`] makes one without groups in an unbegun file,
-//! which has at most 8 bytes, with which a header begins.
+//! finished, and has exactly the groups that were put then. [`create_log`] makes one without groups beside the file, which
+//! it replaces in one step, if the file is unbegun: it has at most 8 bytes then, with which a header begins.
 //!
 //! What it isn't for: it knows nothing of what a line means, and reads no log of the first format. `djq_log` reads and
 //! appends both.
 //!
 //! What surprises: what follows the closed gate doesn't count, whatever it is. After an append that failed the end is
 //! lost, since nobody knows whether the group is there: the next start tells. A record is read twice. While a log is
-//! made a crash may leave anything, since a file that grows may have any bytes then. Where the disk writes from the first
-//! byte on, what a creation leaves is unbegun or a log, so that the next start takes it.
+//! created a crash leaves the file as it was, or the new log.
 //!
 //! To read first: `specs/Standing.antt`, what was read and where a log ends, `specs/Damaged.antt`, why a log is bad,
 //! `specs/Appending.antt`, and `specs/Making.antt`.
@@ -51,7 +50,6 @@ ghost use Rattle.std.specs.Prelude.{ℕ, List};
 ghost use Rattle.djq_log_file.specs.Damaged.{DamageIsSeen};
 ghost use Rattle.djq_log_file.specs.Opening.{OneLogAlone};
 ghost use Rattle.djq_log_file.specs.Keeping.{KeepsGroups};
-ghost use Rattle.djq_log_file.specs.Making.{HalfCreatedIsTaken};
 
 pub use damage::Damage;
 pub use group::Group;
@@ -75,9 +73,4 @@ pub fn a_file_is_one_log()
 /// Groups are in a log one after another, and a crash leaves the first ones.
 pub fn groups_stay_in_order()
     ensures { KeepsGroups }
-{}
-
-/// Wherever a creation that writes from the first byte on ends, the next start takes the file.
-pub fn half_created_is_taken()
-    ensures { HalfCreatedIsTaken }
 {}

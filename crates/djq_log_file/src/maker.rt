@@ -6,7 +6,8 @@ ghost use Rattle.djq_log_format.specs.Encoding.{measured};
 ghost use Rattle.djq_log_format.specs.Format.{record_body, content_of};
 ghost use Rattle.djq_log_file.specs.Appending.{FitsLogLine};
 ghost use Rattle.djq_log_file.specs.Laying.{LaysMore, end_of_gathering};
-ghost use Rattle.djq_log_file.specs.Making.{BeginsLog, WritesBehind, PutsAfter, HasRoomToPut, MakesAfter, CreatesLog};
+ghost use Rattle.djq_log_file.specs.Making.{BeginsLog, WritesBehind, PutsAfter, HasRoomToPut, MakesAfter};
+ghost use Rattle.djq_log_file.specs.Making.{WritesNewLog, CreatesLog};
 ghost use Rattle.djq_log_file.specs.Making.{CountsLogBegun, CountsGroupPut, CountsLogMade};
 ghost use Rattle.djq_log_file.specs.declared.limits.TheConstants.{LAST_LOG_GATE};
 
@@ -174,7 +175,24 @@ impl LogMaker {
     }
 }
 
-/// Creates a log without groups in the file of the disk, by one write from its first byte on and a sync. The file is to be
+/// Writes a log without groups beside the file of the disk, and syncs it.
+fn write_new_log<D: Disk>(disk: &mut D) -> DiskDid
+    requires { D.is_open disk.old ≡ true }
+    ensures is_open { D.is_open disk.new ≡ true }
+    ensures told { WhereHistoryTold (D.told disk.old) (D.told disk.new) (WritesNewLog result) }
+    ensures faults { CountsDid result (D.faults disk.old) (D.faults disk.new) }
+{
+    match disk.begin_next() {
+        DiskDid::Done => {}
+        DiskDid::Failed => return DiskDid::Failed,
+    }
+    match disk.write_next(0, b"DJQLOG2\n\0") {
+        DiskDid::Done => disk.sync_next(),
+        DiskDid::Failed => DiskDid::Failed,
+    }
+}
+
+/// Creates a log without groups beside the file of the disk, and replaces the file by it at once. The file is to be
 /// unbegun: what it has is lost.
 pub fn create_log<D: Disk>(disk: &mut D) -> LogMade
     requires { D.is_open disk.old ≡ true }
@@ -182,8 +200,8 @@ pub fn create_log<D: Disk>(disk: &mut D) -> LogMade
     ensures told { WhereHistoryTold (D.told disk.old) (D.told disk.new) (CreatesLog result) }
     ensures faults { CountsLogMade result (D.faults disk.old) (D.faults disk.new) }
 {
-    match disk.write_at(0, b"DJQLOG2\n\0") {
-        DiskDid::Done => match disk.sync() {
+    match write_new_log(disk) {
+        DiskDid::Done => match disk.replace() {
             DiskDid::Done => LogMade::Made(LogWriter::new(8, SEED)),
             DiskDid::Failed => LogMade::Failed,
         },
