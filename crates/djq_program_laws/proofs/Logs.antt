@@ -143,7 +143,7 @@ still_there None found first all gate since m n keeping kept =
     absurd (omega (arith, sizes))
   where
     from : File → History
-    from file = record { paths = m.paths; past = m.past; file = file }
+    from file = record { paths = m.paths; past = m.past; file = file; next = m.next }
 
     begun : (file : File) → IsKeeping found first gate (from file) m
     begun file = record {

@@ -105,7 +105,7 @@ stays_there None found all gate h h' base kept =
     absurd (omega (arith, sizes))
   where
     from : File → History
-    from file = record { paths = h.paths; past = h.past; file = file }
+    from file = record { paths = h.paths; past = h.past; file = file; next = h.next }
 
     begun : (file : File) → IsKeeping found [] gate (from file) h
     begun file = record {
