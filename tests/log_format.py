@@ -18,6 +18,7 @@ def digest_after(digest, body):
     for at in range(0, len(body), 8):
         word = int.from_bytes(body[at:at + 8].ljust(8, b"\0"), "big")
         digest = (digest * FACTOR + word) % MODULUS
+        digest = (digest << 32 | digest >> 32) % MODULUS
     return digest
 
 

@@ -7,7 +7,7 @@ use Rattle.std.proofs.lemmas.Nat.{be_bytes_8, mul-mod_first, mod-mul-add}
 use Rattle.std.proofs.lemmas.Bool.{cases_eq}
 use Rattle.std.proofs.lemmas.List.{append_cancel_left, append_cancel_right}
 use Rattle.std.proofs.lemmas.List.Sums.{fold-append}
-use Rattle.djq_log_format.specs.Digest.{Digesting, carried, chained, begun, absorbed, finished, words_of, digest_word, ByteIsSeen}
+use Rattle.djq_log_format.specs.Digest.{Digesting, halves_exchanged, carried, chained, begun, absorbed, finished, words_of, digest_word, ByteIsSeen}
 use Rattle.djq_log_format.proofs.Digesting.{digests_in_pieces, absorbs_full, absorbs_part, ends_none, ends_some, length_zeros}
 
 abbrev pub IsBytes : List ℕ → Type 0
@@ -64,8 +64,23 @@ word_once a b size few all all' e =
 
 -- ---- A step is one to one in the word and in the digest.
 
+-- so is an exchange of the halves
+exchanged_once : (x y : ℕ) → x < 18446744073709551616 → y < 18446744073709551616 → halves_exchanged x ≡ halves_exchanged y
+    → x ≡ y
+exchanged_once x y x' y' e = omega arith
+
+exchanged_small : (x : ℕ) → x < 18446744073709551616 → halves_exchanged x < 18446744073709551616
+exchanged_small x x' = omega arith
+
+-- a digest before its halves are exchanged
+abbrev summed : ℕ → ℕ → ℕ
+summed d w = (d * 6364136223846793005 % 18446744073709551616 + w) % 18446744073709551616
+
+summed_same : (d e v w : ℕ) → carried d v ≡ carried e w → summed d v ≡ summed e w
+summed_same d e v w same = exchanged_once (summed d v) (summed e w) (omega arith) (omega arith) same
+
 word_seen : (d v w : ℕ) → v < 18446744073709551616 → w < 18446744073709551616 → carried d v ≡ carried d w → v ≡ w
-word_seen d v w v' w' e = omega arith
+word_seen d v w v' w' e = let same = summed_same d d v w e in omega (arith, same)
 
 added_once : (x y w : ℕ) → x < 18446744073709551616 → y < 18446744073709551616
     → (x + w) % 18446744073709551616 ≡ (y + w) % 18446744073709551616 → x ≡ y
@@ -87,11 +102,11 @@ digest_seen : (d e w : ℕ) → d < 18446744073709551616 → e < 184467440737095
 digest_seen d e w d' e' same =
     let times : d * 6364136223846793005 % 18446744073709551616 ≡ e * 6364136223846793005 % 18446744073709551616 =
     added_once (d * 6364136223846793005 % 18446744073709551616) (e * 6364136223846793005 % 18446744073709551616) w
-    (omega arith) (omega arith) same in
+    (omega arith) (omega arith) (summed_same d e w w same) in
     sym (undone d d') ∙ ap (λ (n : ℕ). n * 13877824140714322085 % 18446744073709551616) times ∙ undone e e'
 
 carried_small : (d w : ℕ) → carried d w < 18446744073709551616
-carried_small d w = omega arith
+carried_small d w = exchanged_small (summed d w) (omega arith)
 
 folded_small : (d : ℕ) (ws : List ℕ) → d < 18446744073709551616 → fold carried d ws < 18446744073709551616
 folded_small d [] low = low

@@ -1,5 +1,5 @@
 -- The digest of bytes, by words of eight.
-use Rattle.std.specs.Prelude.{◌≡◌, ℕ, ◌+◌, ◌-◌, ◌*◌, ◌%◌, ◌<◌, ◌==◌, List, [], ◌∷◌, ◌++◌, length, replicate, if◌then◌else◌}
+use Rattle.std.specs.Prelude.{◌≡◌, ℕ, ◌+◌, ◌-◌, ◌*◌, ◌/◌, ◌%◌, ◌<◌, ◌==◌, List, [], ◌∷◌, ◌++◌, length, replicate, if◌then◌else◌}
 use Rattle.std.specs.List.{fold, AllByRecursion}
 use Rattle.std.specs.Int.{from_be_bytes, w64}
 
@@ -13,9 +13,14 @@ words_of [] = []
 words_of (a ∷ b ∷ c ∷ d ∷ e ∷ f ∷ g ∷ h ∷ rest) = digest_word (a ∷ b ∷ c ∷ d ∷ e ∷ f ∷ g ∷ h ∷ []) ∷ words_of rest
 words_of (byte ∷ few) = digest_word (byte ∷ few) ∷ []
 
+-- a number of eight bytes, its upper half and its lower half exchanged
+abbrev pub halves_exchanged : ℕ → ℕ
+halves_exchanged n = n % 4294967296 * 4294967296 + n / 4294967296
+
 -- a digest carried on over a word
 abbrev pub carried : ℕ → ℕ → ℕ
-carried digest word = (digest * 6364136223846793005 % 18446744073709551616 + word) % 18446744073709551616
+carried digest word =
+    halves_exchanged ((digest * 6364136223846793005 % 18446744073709551616 + word) % 18446744073709551616)
 
 -- a digest carried on over bytes
 abbrev pub chained : ℕ → List ℕ → ℕ

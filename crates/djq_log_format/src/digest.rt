@@ -1,17 +1,24 @@
 ghost use Rattle.std.specs.Prelude.{◌≡◌, ℕ, List};
 ghost use Rattle.std.specs.List.{fold};
-ghost use Rattle.djq_log_format.specs.Digest.{carried, chained, begun, absorbed, finished};
+ghost use Rattle.djq_log_format.specs.Digest.{halves_exchanged, carried, chained, begun, absorbed, finished};
 
 use std::marker::Model;
 
 /// The multiplier of a step: odd, so that a step is one to one.
 const STEP: u64 = 6364136223846793005;
 
+/// A number with its upper half and its lower half exchanged.
+fn exchange_halves(number: u64) -> u64
+    ensures { result ≡ halves_exchanged number }
+{
+    number % 4_294_967_296 * 4_294_967_296 + number / 4_294_967_296
+}
+
 /// A digest carried on over a word.
 fn carry(digest: u64, word: u64) -> u64
     ensures { result ≡ carried digest word }
 {
-    digest.wrapping_mul(STEP).wrapping_add(word)
+    exchange_halves(digest.wrapping_mul(STEP).wrapping_add(word))
 }
 
 /// A digest on its way over bytes that come in pieces.

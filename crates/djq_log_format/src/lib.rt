@@ -8,12 +8,12 @@
 //!
 //! ```text
 //! place  0        8    9                 17                         25   27         36
-//! bytes  DJQLOG2  255  0 0 0 0 0 0 11 11 87 129 138 236 176 170 3 135  0 9  rel r int  255 ..
+//! bytes  DJQLOG2  255  0 0 0 0 0 0 11 11 13 157 200 107 208 142 127 110  0 9  rel r int  255 ..
 //! ```
 //!
-//! The digest reads the body by words of eight bytes: it is multiplied by an odd number, and the word is added,
-//! modulo 2^64. Both are one to one, so a change within one byte gives another digest, whatever
-//! precedes it and follows it. It isn't begun anew at a record: so a record is one only after those that stood
+//! The digest reads the body by words of eight bytes: it is multiplied by an odd number, the word is added,
+//! modulo 2^64, and its halves are exchanged. Each is one to one, so a change within one byte gives another digest,
+//! whatever precedes it and follows it. The halves are exchanged since a product carries a change to higher bits alone. It isn't begun anew at a record: so a record is one only after those that stood
 //! before it when it was written. A length is stored as 257 times itself, and no change within one byte
 //! leaves it a multiple of 257: so a reader refuses a wrong length before it goes by it.
 //!
