@@ -1,0 +1,67 @@
+-- Which stores their snapshots restore, and that a run comes to no other.
+use Rattle.std.specs.Prelude.{List, [], ◌∷◌, ◌++◌, ◌≡◌, true, None, Some, All, ⊤}
+use Rattle.djq_model.specs.declared.relation.Relation.{Relation}
+use Rattle.djq_model.specs.Data.{Bytes, tuples_in}
+use Rattle.djq_model.specs.Known.{knows_all, texts_in}
+use Rattle.djq_model.specs.Listed.{Listed, a_query, a_union, members_of, listed_of, queries_of}
+use Rattle.djq_protocol.specs.QueryFault.{query_fault}
+use Rattle.djq_store_spec.specs.Store.{Store}
+use Rattle.djq_machine.specs.State.{State, opening}
+use Rattle.djq_machine.specs.Run.{Did, Run}
+use Rattle.djq_machine.specs.Loading.{loading, Loads}
+use Rattle.djq_run_laws.specs.Sound.{IsSoundStore, IsSoundState}
+use Rattle.djq_run_laws.specs.Form.{listed_texts}
+use Rattle.djq_log_laws.specs.Kept.{StoreFollows}
+use Rattle.djq_snapshot.specs.Snapshot.{snapshot_of, RestoresTo}
+
+-- Over these relations no registered query has a fault.
+abbrev pub HasNoFault : List Relation → Listed → Type 0
+HasNoFault relations l = All (λ q. query_fault relations q ≡ None) (queries_of l)
+
+-- Its members are among these.
+abbrev pub HasMembersIn : List Listed → Listed → Type 0
+HasMembersIn queries l = All (λ q. listed_of queries q.name ≡ Some (a_query q)) (members_of l)
+
+-- Each of these was registered after those before it, and the members of a union are among them.
+abbrev pub FollowMembers : (before rest : List Listed) → Type 0
+FollowMembers before [] = ⊤
+FollowMembers before (l ∷ ls) = HasMembersIn before l × FollowMembers (before ++ l ∷ []) ls
+
+-- all texts of a relation's rows are among these
+abbrev pub KnowsRows : List Bytes → Relation → Type 0
+KnowsRows texts r = All (λ row. knows_all texts (texts_in row) ≡ true) (tuples_in r)
+
+-- What is more than sound of a store that commands make: no query has a fault over its relations, the
+-- members of a union were registered before it, and the texts of rows and queries are known.
+pub record IsRestorable (st : Store) : Type 0 where
+  pub faults : All (HasNoFault st.relations) st.queries
+  pub order : FollowMembers [] st.queries
+  pub rows : All (KnowsRows st.texts) st.relations
+  pub constants : All (λ l. knows_all st.texts (listed_texts l) ≡ true) st.queries
+
+-- A snapshot restores its store: the same relations, rows, copies, queries and unions in their order,
+-- and the same number of changes; of the texts those that something has.
+abbrev pub SnapshotRestores : Type 0
+SnapshotRestores = (st : Store) → IsSoundStore st → IsRestorable st → RestoresTo (snapshot_of st) st
+
+-- So does the snapshot of a store that follows it, as with its rows in another order.
+abbrev pub FollowersRestore : Type 0
+FollowersRestore = (a b : Store) → IsSoundStore a → IsRestorable a → StoreFollows a b
+    → RestoresTo (snapshot_of b) a
+
+-- A run that begins with such a store comes to no other.
+abbrev pub RunsStayRestorable : Type 0
+RunsStayRestorable = (old : State) (done : List Did) (new : State) → Run old done new → IsSoundState old
+    → IsRestorable old.store → IsRestorable new.store
+
+-- Nor do lines that are loaded from nothing.
+abbrev pub FoundIsRestorable : Type 0
+FoundIsRestorable = (found : List Bytes) (st : Store) → Loads (loading opening.store) found (loading st)
+    → IsRestorable st
+
+-- So at each point of a run that began with what lines found at its start gave, the snapshot of the
+-- store restores it.
+abbrev pub RunsRestore : Type 0
+RunsRestore = (found : List Bytes) (old : State) → Loads (loading opening.store) found (loading old.store)
+    → (done : List Did) (new : State) → Run old done new → IsSoundState old
+    → RestoresTo (snapshot_of new.store) new.store
