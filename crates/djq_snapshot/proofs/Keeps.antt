@@ -57,7 +57,7 @@ KnowsRow texts row = knows_all texts (texts_in row) ≡ true
 abbrev KnowsConstants : List Bytes → Listed → Type 0
 KnowsConstants texts l = knows_all texts (listed_texts l) ≡ true
 
-rows_still : (a b : List Bytes) → AreKnown a b → (rows : List Tuple) → All (KnowsRow a) rows → All (KnowsRow b) rows
+pub rows_still : (a b : List Bytes) → AreKnown a b → (rows : List Tuple) → All (KnowsRow a) rows → All (KnowsRow b) rows
 rows_still a b f rows h = All-weaker (KnowsRow a) (KnowsRow b) (λ row k. all_still a b (texts_in row) f k) rows h
 
 constants_still : (a b : List Bytes) → AreKnown a b → (ls : List Listed) → All (KnowsConstants a) ls
@@ -71,7 +71,7 @@ rows_in : (rs : List Relation) (n : Bytes) (texts : List Bytes) (o : Option Rela
 rows_in rs n texts None e h = All-nil (KnowsRow texts)
 rows_in rs n texts (Some r) e h = all_found (KnowsRows texts) (λ (x : Relation). bytes_eq x.name n) rs r h e
 
-rows_known : (st : Store) (n : Bytes) → IsRestorable st → All (KnowsRow st.texts) (rows_of st.relations n)
+pub rows_known : (st : Store) (n : Bytes) → IsRestorable st → All (KnowsRow st.texts) (rows_of st.relations n)
 rows_known st n w = rows_in st.relations n st.texts (relation_of st.relations n) refl w.rows
 
 faults_still : (rs rs' : List Relation) → TypesStay rs rs' → (ls : List Listed) → All (HasNoFault rs) ls

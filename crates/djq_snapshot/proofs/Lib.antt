@@ -6,3 +6,5 @@ mod Faults
 mod Order
 mod Keeps
 mod Runs
+mod Restored
+mod Example

@@ -53,7 +53,7 @@ use Rattle.djq_snapshot.proofs.Steps.{refused_never}
 is_so : (old new : Store) → new ≡ old → IsRestorable old → IsRestorable new
 is_so old new e w = subst IsRestorable (sym e) w
 
-store_restorable : (old : Store) (c : Command) (new : Store) → StoreLoads old c ran new → IsRestorable old
+pub store_restorable : (old : Store) (c : Command) (new : Store) → StoreLoads old c ran new → IsRestorable old
     → IsRestorable new
 store_restorable old (Rel name types) new (Ok u, m, e) w =
     let made = record old { relations = old.relations ++ record { name = name; types = types; rows = [] } ∷ [] } in

@@ -5,14 +5,14 @@ use Rattle.djq_model.specs.Data.{Bytes, tuples_in}
 use Rattle.djq_model.specs.Known.{knows_all, texts_in}
 use Rattle.djq_model.specs.Listed.{Listed, a_query, a_union, members_of, listed_of, queries_of}
 use Rattle.djq_protocol.specs.QueryFault.{query_fault}
-use Rattle.djq_store_spec.specs.Store.{Store}
+use Rattle.djq_store_spec.specs.Store.{Store, empty_store}
 use Rattle.djq_machine.specs.State.{State, opening}
-use Rattle.djq_machine.specs.Run.{Did, Run}
+use Rattle.djq_machine.specs.Run.{Did, Run, groups_of, lines_in}
 use Rattle.djq_machine.specs.Loading.{loading, Loads}
 use Rattle.djq_run_laws.specs.Sound.{IsSoundStore, IsSoundState}
 use Rattle.djq_run_laws.specs.Form.{listed_texts}
-use Rattle.djq_log_laws.specs.Kept.{StoreFollows}
-use Rattle.djq_snapshot.specs.Snapshot.{snapshot_of, RestoresTo}
+use Rattle.djq_log_laws.specs.Kept.{StoreFollows, LoadsTo}
+use Rattle.djq_snapshot.specs.Snapshot.{snapshot_of, RestoresAll, RestoresTo}
 
 -- Over these relations no registered query has a fault.
 abbrev pub HasNoFault : List Relation → Listed → Type 0
@@ -65,3 +65,15 @@ abbrev pub RunsRestore : Type 0
 RunsRestore = (found : List Bytes) (old : State) → Loads (loading opening.store) found (loading old.store)
     → (done : List Did) (new : State) → Run old done new → IsSoundState old
     → RestoresTo (snapshot_of new.store) new.store
+
+-- What a snapshot restores is sound again, and its own snapshot restores it.
+abbrev pub RestoredIsRestorable : Type 0
+RestoredIsRestorable = (st : Store) → IsSoundStore st → IsRestorable st → (b : Store)
+    → RestoresAll empty_store (snapshot_of st) b → IsSoundStore b × IsRestorable b
+
+-- A log that has the snapshot of a store, and then the lines that a run from there logged, gives what the
+-- run left: where its snapshot has been restored to, these lines load.
+abbrev pub RewrittenLogsLoad : Type 0
+RewrittenLogsLoad = (old : State) (done : List Did) (new : State) → Run old done new → IsSoundState old
+    → IsRestorable old.store → (b : Store) → RestoresAll empty_store (snapshot_of old.store) b
+    → LoadsTo b (lines_in (groups_of done)) new.store

@@ -29,7 +29,8 @@
 #![tactic(auto)]
 
 ghost use Rattle.djq_snapshot.specs.Restorable.{SnapshotRestores, FollowersRestore, RunsStayRestorable};
-ghost use Rattle.djq_snapshot.specs.Restorable.{FoundIsRestorable, RunsRestore};
+ghost use Rattle.djq_snapshot.specs.Restorable.{FoundIsRestorable, RunsRestore, RestoredIsRestorable};
+ghost use Rattle.djq_snapshot.specs.Restorable.{RewrittenLogsLoad};
 
 /// A snapshot restores its store, from nothing: the same relations, each with its rows and their copies in
 /// some order, the same queries and unions in their order, and the same number of changes. No condition
@@ -55,4 +56,15 @@ pub fn stays_restorable()
 /// restores it.
 pub fn runs_restore()
     ensures { RunsRestore }
+{}
+
+/// What a snapshot restores is sound again, and its own snapshot restores it.
+pub fn restored_is_restorable()
+    ensures { RestoredIsRestorable }
+{}
+
+/// A log may begin with the snapshot of a store in place of the lines that gave it: the lines that a run
+/// from there logged load after it, and give what the run left.
+pub fn rewritten_logs_load()
+    ensures { RewrittenLogsLoad }
 {}
