@@ -1,5 +1,5 @@
 -- A worked example: the snapshot of a store with one relation, two rows and one query, and that it restores it.
-use Rattle.std.specs.Prelude.{ℕ, List, [], ◌∷◌, ◌≡◌, ◌≢◌, ◌≤◌, true, false, None, Some, pos, codes, map, length, All, AllPairs}
+use Rattle.std.specs.Prelude.{ℕ, List, [], ◌∷◌, ◌≡◌, ◌≢◌, true, None, Some, pos, codes, AllPairs}
 use Rattle.std.proofs.Common.{refl, sym, subst, arith}
 use Rattle.std.proofs.lemmas.List.Elements.{All-nil, All-cons}
 use Rattle.std.proofs.lemmas.List.Kept.{AllPairs-cons}
@@ -11,14 +11,13 @@ use Rattle.djq_model.specs.declared.relation.ColumnType.TheVariants.{Int as IntC
 use Rattle.djq_model.specs.declared.relation.Relation.{Relation}
 use Rattle.djq_model.specs.declared.relation.CountedRow.{CountedRow}
 use Rattle.djq_model.specs.declared.query.Query.{Query}
-use Rattle.djq_model.specs.declared.query.Atom.{Atom}
 use Rattle.djq_model.specs.declared.query.Term.TheVariants.{Variable}
 use Rattle.djq_model.specs.declared.value.Value.TheVariants.{Int}
-use Rattle.djq_model.specs.Data.{Bytes, Tuple, tuples_in}
+use Rattle.djq_model.specs.Data.{Bytes, Tuple}
 use Rattle.djq_model.specs.Known.{knows_all, texts_in}
-use Rattle.djq_model.specs.Listed.{Listed, a_query, listed_name, listed_of}
+use Rattle.djq_model.specs.Listed.{a_query, listed_of}
 use Rattle.djq_model.specs.Typed.{fits}
-use Rattle.djq_protocol.specs.Hypergraph.{edges_of, head_of, edges_from, numbers_in}
+use Rattle.djq_protocol.specs.Hypergraph.{edges_of, edges_from, numbers_in}
 use Rattle.djq_protocol.specs.QueryFault.{query_fault}
 use Rattle.djq_store_spec.specs.Store.{Store}
 use Rattle.djq_run_laws.specs.Form.{listed_texts}

@@ -86,7 +86,7 @@ module _ (rs rs' : List Relation) where
       (λ (c : Comparison). any_place (is_miscompared c) rs q.atoms) q.comparisons
       (λ c. place_same (is_miscompared c) (is_miscompared c) q.atoms (λ t d. refl) same))
 
-  -- A query without a fault has none where each relation that is there keeps its types.
+  -- A query without a fault has none if each relation that is there keeps its types.
   pub no_fault_still : TypesStay rs rs' → (q : Query) → query_fault rs q ≡ None → query_fault rs' q ≡ None
   no_fault_still still q none =
       fault_same q

@@ -1,7 +1,7 @@
 -- What the lines that are loaded make of a store whose snapshot restores it.
-use Rattle.std.proofs.Common.{ℕ, zero, suc, List, [], ◌∷◌, ◌++◌, ◌≡◌, ◌⊎◌, inl, inr, Bool, true, false, cond, length, refl}
-use Rattle.std.proofs.Common.{sym, ap, ◌∙◌, subst}
-use Rattle.std.specs.Prelude.{Option, None, Some, Result, Ok, Err, All, map, ⊤, nat_le, is_none, is_some, ◌+◌}
+use Rattle.std.proofs.Common.{ℕ, zero, suc, List, [], ◌∷◌, ◌++◌, ◌≡◌, Bool, true, false, cond, length, refl}
+use Rattle.std.proofs.Common.{sym, ◌∙◌, subst}
+use Rattle.std.specs.Prelude.{Option, None, Some, All, nat_le, is_some, ◌+◌}
 use Rattle.std.proofs.lemmas.List.Elements.{All-nil, All-cons, All-head, All-tail, All-weaker, All-push}
 use Rattle.std.proofs.lemmas.List.Sorted.{All-permutation}
 use Rattle.djq_model.specs.declared.relation.ColumnType.{ColumnType}
@@ -15,29 +15,20 @@ use Rattle.djq_model.specs.Listed.{Listed, a_query, a_union, listed_name, listed
 use Rattle.djq_model.proofs.Copies.{tuples_with_row, tuples_with_copies, tuples_without, tuples_moved}
 use Rattle.djq_protocol.specs.declared.limits.TheConstants.{QUERIES}
 use Rattle.djq_protocol.specs.declared.answer.Refusal.{Refusal}
-use Rattle.djq_protocol.specs.declared.answer.Refusal.TheVariants.{Taken, Limit, NoMemory}
-use Rattle.djq_protocol.specs.declared.answer.AddOutcome.{AddOutcome}
-use Rattle.djq_protocol.specs.declared.answer.AddOutcome.TheVariants.{First, More}
-use Rattle.djq_protocol.specs.declared.answer.DeleteOutcome.{DeleteOutcome}
-use Rattle.djq_protocol.specs.declared.answer.DeleteOutcome.TheVariants.{Last, Left, Absent}
+use Rattle.djq_protocol.specs.declared.answer.Refusal.TheVariants.{Taken, Limit}
 use Rattle.djq_protocol.specs.declared.held.HeldRow.{HeldRow}
-use Rattle.djq_protocol.specs.declared.rest.QueryOutcome.{QueryOutcome}
-use Rattle.djq_protocol.specs.declared.rest.QueryOutcome.TheVariants.{Registered, Cyclic, NotConnex}
-use Rattle.djq_protocol.specs.Conditions.{first_refusal, OutOfMemoryWhere}
 use Rattle.djq_protocol.specs.QueryFault.{query_faults, query_fault}
 use Rattle.djq_protocol.specs.Variables.{constants_of}
 use Rattle.djq_store_spec.specs.Batch.{is_there, with_held, with_all, count_came, store_behind}
-use Rattle.djq_store_spec.specs.Relations.{with_rows, rel_refusal, MakesRelation, RefusedByTexts}
-use Rattle.djq_store_spec.specs.Registering.{query_refusal, RegistersAs, RefusedLate, RegistersQuery, is_member}
-use Rattle.djq_store_spec.specs.Registering.{drop_refusal, DropsQuery, answer_steps}
-use Rattle.djq_store_spec.specs.Rows.{copies_of, with_copies_of, add_refusal, AddsAs, AddsRow, delete_refusal, DeletesAs}
-use Rattle.djq_store_spec.specs.Rows.{DeletesRow}
+use Rattle.djq_store_spec.specs.Relations.{with_rows}
+use Rattle.djq_store_spec.specs.Registering.{query_refusal, is_member}
+use Rattle.djq_store_spec.specs.Rows.{copies_of, with_copies_of}
 use Rattle.djq_store_spec.specs.Store.{Store}
-use Rattle.djq_store_spec.specs.Union.{union_refusal, AreUnder, RegistersUnion}
+use Rattle.djq_store_spec.specs.Union.{AreUnder}
 use Rattle.djq_machine.specs.Step.{SameRelations}
 use Rattle.djq_run_laws.specs.Form.{listed_texts}
 use Rattle.djq_run_laws.proofs.Batches.{behind, is_behind}
-use Rattle.djq_run_laws.proofs.Forms.{AllFail, all_fail, done_of, none_holds, none_second}
+use Rattle.djq_run_laws.proofs.Forms.{AllFail, all_fail}
 use Rattle.djq_run_laws.proofs.Lists.{all_changed, all_dropped, all_found, without_dropped}
 use Rattle.djq_run_laws.proofs.RegisteredQueries.{under_registered}
 use Rattle.djq_run_laws.proofs.RowCommands.{more_types, types_with_rows, types_moved}

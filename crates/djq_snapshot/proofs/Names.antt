@@ -1,6 +1,6 @@
 -- Lists of things with names: what is found, changed and refused there.
-use Rattle.std.specs.Prelude.{List, [], ◌∷◌, ◌++◌, ◌≡◌, ◌≢◌, ◌||◌, Bool, true, false, cond, Option, None, Some, find, map}
-use Rattle.std.specs.Prelude.{All, AllPairs, Contains}
+use Rattle.std.specs.Prelude.{List, [], ◌∷◌, ◌++◌, ◌≡◌, ◌≢◌, Bool, true, false, cond, None, Some, find, map}
+use Rattle.std.specs.Prelude.{All, Contains}
 use Rattle.std.specs.List.{list_any}
 use Rattle.std.proofs.Common.{refl, sym, ap, ◌∙◌, subst}
 use Rattle.std.proofs.lemmas.Bool.{or_from}
@@ -15,7 +15,7 @@ use Rattle.djq_answer_laws.proofs.Lists.{first_there, mapped_there, pairs_head, 
 use Rattle.djq_run_laws.specs.Sound.{AreApart}
 use Rattle.djq_run_laws.proofs.Forms.{AllFail}
 
--- ---- what lies between others in a list
+-- ---- what is between others in a list
 
 pub it_is_there : {A : Type 0} (zs xs : List A) (y : A) (ys : List A) → zs ≡ xs ++ y ∷ ys → Contains zs y
 it_is_there zs xs y ys e =
@@ -25,7 +25,7 @@ pub holds_of_it : {A : Type 0} (P : A → Type 0) (zs xs : List A) (y : A) (ys :
     → P y
 holds_of_it P zs xs y ys e h = All-contains P zs y h (it_is_there zs xs y ys e)
 
--- it is found, and changed, where none before it passes
+-- it is found, and changed, if none before it passes
 pub found_at : {A : Type 0} (p : A → Bool) (xs : List A) (y : A) (ys : List A) → find p xs ≡ None → p y ≡ true
     → find p (xs ++ y ∷ ys) ≡ Some y
 found_at p [] y ys none e = ap (λ b. cond b (Some y) (find p ys)) e

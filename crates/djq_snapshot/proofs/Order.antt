@@ -1,7 +1,7 @@
 -- Texts stay known, and unions after their members, as commands are done.
 use Rattle.std.proofs.Common.{List, [], ◌∷◌, ◌++◌, ◌≡◌, Bool, true, false, cond, refl, sym, ap, ◌∙◌, subst}
 use Rattle.std.proofs.Common.{append_assoc, append-nil}
-use Rattle.std.specs.Prelude.{◌&&◌, Option, None, Some, find, All}
+use Rattle.std.specs.Prelude.{◌&&◌, Option, Some, All}
 use Rattle.std.specs.List.{list_any}
 use Rattle.std.specs.Option.{option_or}
 use Rattle.std.proofs.lemmas.Bool.{false≢true}

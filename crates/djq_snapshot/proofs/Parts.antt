@@ -1,27 +1,25 @@
 -- The parts of a store that the first lines of its snapshot say: each line brings the next.
-use Rattle.std.proofs.Common.{ℕ, List, [], ◌∷◌, ◌++◌, ◌≡◌, ◌≤◌, ◌<◌, ◌||◌, Bool, true, false, length, refl, sym, ap, ap₂}
+use Rattle.std.proofs.Common.{List, [], ◌∷◌, ◌++◌, ◌≡◌, ◌<◌, ◌||◌, Bool, true, false, length, refl, sym, ap, ap₂}
 use Rattle.std.proofs.Common.{◌∙◌, subst, arith, append_assoc, append-nil, length-append}
 use Rattle.std.specs.Prelude.{◌==◌, ◌≢◌, ◌&&◌, not, nat_le, nat_lt, Option, None, Some, is_none, is_some, Ok, map, All, ⊤}
 use Rattle.std.specs.Prelude.{option_map}
 use Rattle.std.specs.List.{list_any, flat_map}
 use Rattle.std.proofs.lemmas.Bool.{false≢true, le-ltb, lt-leb, or_from, eq-eqb}
 use Rattle.std.proofs.lemmas.List.{map-append, length-map}
-use Rattle.std.proofs.lemmas.List.Elements.{All-contains, All-head, All-tail, All-weaker, All-nil}
+use Rattle.std.proofs.lemmas.List.Elements.{All-head, All-tail, All-nil}
 use Rattle.djq_model.specs.declared.relation.ColumnType.{ColumnType}
 use Rattle.djq_model.specs.declared.relation.ColumnType.TheVariants.{Int as IntColumn, Text as TextColumn}
 use Rattle.djq_model.specs.declared.relation.Relation.{Relation}
 use Rattle.djq_model.specs.declared.relation.CountedRow.{CountedRow}
 use Rattle.djq_model.specs.declared.query.Query.{Query}
-use Rattle.djq_model.specs.declared.value.Value.{Value}
 use Rattle.djq_model.specs.Answer.{AreDifferent}
 use Rattle.djq_model.specs.Data.{Bytes, Tuple, bytes_eq, relation_of, tuples_in, plain_of, counted_in, counted_of}
 use Rattle.djq_model.specs.Data.{rows_of, has_row}
 use Rattle.djq_model.specs.Equality.{bytes_eq-decides}
-use Rattle.djq_model.specs.Known.{texts_in, knows_all, all_learned}
+use Rattle.djq_model.specs.Known.{texts_in, knows_all}
 use Rattle.djq_model.specs.Listed.{Listed, a_query, a_union, listed_name, listed_of}
-use Rattle.djq_model.specs.Typed.{fits, is_of, same_type}
-use Rattle.djq_protocol.specs.declared.limits.TheConstants.{RELATIONS, COLUMNS, ROWS, TEXTS, QUERIES, MEMBERS}
-use Rattle.djq_protocol.specs.declared.answer.Refusal.{Refusal}
+use Rattle.djq_model.specs.Typed.{fits, is_of}
+use Rattle.djq_protocol.specs.declared.limits.TheConstants.{RELATIONS, COLUMNS, ROWS, QUERIES, MEMBERS}
 use Rattle.djq_protocol.specs.declared.answer.Refusal.TheVariants.{Taken, NoRelation, NoQuery, Arity, WrongType, Member}
 use Rattle.djq_protocol.specs.declared.answer.Refusal.TheVariants.{Limit}
 use Rattle.djq_protocol.specs.declared.rest.QueryOutcome.TheVariants.{Registered}
@@ -40,17 +38,16 @@ use Rattle.djq_store_spec.specs.Union.{AreUnder, RegistersUnion}
 use Rattle.djq_run_laws.specs.Sound.{AreApart, IsConnex, IsCopyCount, IsSoundRelation, IsSoundUnion, IsSoundListed}
 use Rattle.djq_run_laws.specs.Sound.{IsSoundStore}
 use Rattle.djq_run_laws.specs.Form.{listed_texts}
-use Rattle.djq_run_laws.proofs.Forms.{AllFail, all_fail}
+use Rattle.djq_run_laws.proofs.Forms.{all_fail}
 use Rattle.djq_run_laws.proofs.Lists.{find_mapped, nothing_apart}
-use Rattle.djq_answer_laws.proofs.Lists.{mapped_there}
 use Rattle.djq_log_laws.specs.Kept.{HasRowsOnce, StoreFollows}
 use Rattle.djq_log_laws.proofs.Commands.{give}
-use Rattle.djq_snapshot.specs.Snapshot.{SnapshotLine, says_row, says_changes, relation_line, row_lines, listed_line}
-use Rattle.djq_snapshot.specs.Snapshot.{snapshot_of, RestoresRow, RestoresTo}
+use Rattle.djq_snapshot.specs.Snapshot.{says_row, says_changes, relation_line, row_lines, listed_line}
+use Rattle.djq_snapshot.specs.Snapshot.{snapshot_of, RestoresRow}
 use Rattle.djq_snapshot.specs.Restorable.{HasNoFault, HasMembersIn, FollowMembers, KnowsRows, IsRestorable}
 use Rattle.djq_snapshot.specs.Restorable.{SnapshotRestores}
 use Rattle.djq_snapshot.proofs.Followers.{all_there}
-use Rattle.djq_snapshot.proofs.Names.{it_is_there, holds_of_it, found_at, changed_at, none_before, not_before, any_none}
+use Rattle.djq_snapshot.proofs.Names.{holds_of_it, found_at, changed_at, none_before, not_before}
 use Rattle.djq_snapshot.proofs.Names.{not_twice, none_refuses, both_fail}
 use Rattle.djq_snapshot.proofs.Steps.{Takes, LeadsFrom, Leads, line_leads, lines_lead, leads_restore, rel_brings}
 use Rattle.djq_snapshot.proofs.Steps.{query_brings, union_brings, changes_bring, row_brings}
@@ -86,7 +83,7 @@ module _ (st : Store) (sound : IsSoundStore st) (whole : IsRestorable st) where
   abbrev begun : Relation → List CountedRow → Relation
   begun r rows = record r { rows = rows }
 
-  -- names are apart, where what there is is cut
+  -- names are apart, however the lists are cut
   relations_apart : (xs : List Relation) → st.relations ≡ xs → AreApart (map (λ (r : Relation). r.name) xs)
   relations_apart xs e = subst (λ rs. AreApart (map (λ (r : Relation). r.name) rs)) e sound.relations
 
@@ -140,7 +137,7 @@ module _ (st : Store) (sound : IsSoundStore st) (whole : IsRestorable st) where
   -- ---- a row
 
   module _ (done : List Relation) (r : Relation) (later : List Relation) (e : st.relations ≡ done ++ r ∷ later) where
-    -- where it has these rows
+    -- the part in which it has these rows
     abbrev at : List CountedRow → Store
     at rows = part (done ++ begun r rows ∷ map bare later) []
 
@@ -218,8 +215,7 @@ module _ (st : Store) (sound : IsSoundStore st) (whole : IsRestorable st) where
         let next : first ++ c ∷ [] ++ rest ≡ first ++ c ∷ rest = append_assoc first (c ∷ []) rest in
         line_leads (at first) (says_row r.name c) (at (first ++ c ∷ [])) (map (says_row r.name) rest)
         (at (first ++ c ∷ rest))
-        (λ b f. row_brings (at first) r.name c (at (first ++ c ∷ [])) (row_restored first c rest k)
-        (text_known first c rest k) sound.numbers.texts b f)
+        (row_brings (at first) r.name c (at (first ++ c ∷ [])) (row_restored first c rest k))
         (subst (λ rows. LeadsFrom (at (first ++ c ∷ [])) (map (says_row r.name) rest) (at rows)) next
         (rows_lead (first ++ c ∷ []) rest (k ∙ sym next)))
 

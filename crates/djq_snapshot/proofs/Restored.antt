@@ -1,31 +1,28 @@
 -- What a snapshot restored is as good as its store.
-use Rattle.std.proofs.Common.{ℕ, List, [], ◌∷◌, ◌++◌, ◌≡◌, ◌≤◌, length, refl, sym, ap₂, ◌∙◌, subst, arith}
-use Rattle.std.specs.Prelude.{true, Ok, All}
+use Rattle.std.proofs.Common.{ℕ, List, [], ◌∷◌, ◌++◌, refl, sym, ap₂, subst, arith}
+use Rattle.std.specs.Prelude.{Ok, All}
 use Rattle.std.proofs.lemmas.List.{map-append}
-use Rattle.std.proofs.lemmas.List.Elements.{All-nil, All-push}
+use Rattle.std.proofs.lemmas.List.Elements.{All-push}
 use Rattle.djq_model.specs.declared.relation.CountedRow.{CountedRow}
-use Rattle.djq_model.specs.Data.{Bytes, counted_of, plain_of, rows_of}
-use Rattle.djq_model.specs.Known.{texts_in, knows_all, all_learned}
+use Rattle.djq_model.specs.Data.{Bytes, counted_of, rows_of}
+use Rattle.djq_model.specs.Known.{texts_in, all_learned}
 use Rattle.djq_model.specs.Listed.{Listed}
 use Rattle.djq_protocol.specs.declared.command.Command.TheVariants.{Rel, Query as Register, Union}
-use Rattle.djq_protocol.specs.declared.limits.TheConstants.{TEXTS}
 use Rattle.djq_protocol.specs.declared.rest.QueryOutcome.TheVariants.{Registered}
 use Rattle.djq_store_spec.specs.Relations.{with_rows}
 use Rattle.djq_store_spec.specs.Store.{Store, empty_store}
 use Rattle.djq_machine.proofs.Relations.{walk_keeps}
-use Rattle.djq_run_laws.specs.Form.{listed_texts}
 use Rattle.djq_run_laws.specs.Sound.{IsSoundStore}
 use Rattle.djq_run_laws.proofs.SoundStores.{moved_store}
-use Rattle.djq_log_laws.specs.Kept.{StoreFollows}
 use Rattle.djq_log_laws.proofs.Reloads.{kept_lines_load}
 use Rattle.djq_snapshot.specs.Snapshot.{SnapshotLine, says_relation, says_row, says_query, says_union, says_changes}
-use Rattle.djq_snapshot.specs.Snapshot.{snapshot_of, Restores, RestoreStep, RestoresAll}
-use Rattle.djq_snapshot.specs.Restorable.{HasNoFault, KnowsRows, IsRestorable, RestoredIsRestorable, RewrittenLogsLoad}
+use Rattle.djq_snapshot.specs.Snapshot.{snapshot_of, Restores, RestoreStep}
+use Rattle.djq_snapshot.specs.Restorable.{IsRestorable, FollowersAreSound, RestoredIsRestorable, RewrittenLogsLoad}
 use Rattle.djq_snapshot.proofs.Followers.{no_longer}
 use Rattle.djq_snapshot.proofs.Keeps.{KnowsRow, rows_known, rows_still, changed_restorable, moved_restorable}
 use Rattle.djq_snapshot.proofs.Order.{still_known, learned_each}
 use Rattle.djq_snapshot.proofs.Parts.{snapshot_restores}
-use Rattle.djq_snapshot.proofs.Runs.{store_restorable}
+use Rattle.djq_snapshot.proofs.Runs.{opening_is_restorable, store_restorable}
 
 -- ---- it is restorable
 
@@ -61,18 +58,10 @@ step_restorable old line new h w =
     subst IsRestorable (sym h.after)
     (moved_restorable h.mid h.relations h.reordered (line_restorable old line h.mid h.restores w))
 
-nothing_restorable : IsRestorable empty_store
-nothing_restorable = record {
-  faults = All-nil (HasNoFault []);
-  order = tt;
-  rows = All-nil (KnowsRows []);
-  constants = All-nil (λ l. knows_all [] (listed_texts l) ≡ true);
-}
-
 -- ---- it is sound
 
-follower_sound : (a b : Store) → StoreFollows a b → IsSoundStore a → IsSoundStore b
-follower_sound a b f sound =
+pub followers_are_sound : FollowersAreSound
+followers_are_sound a b f sound =
     let s = moved_store a b.relations f.same.relations sound in
     let few = s.numbers.texts in
     let less = no_longer b.texts a.texts f.among f.once in
@@ -98,8 +87,8 @@ follower_sound a b f sound =
 
 pub restored_is_restorable : RestoredIsRestorable
 restored_is_restorable st sound whole b all = (
-  follower_sound st b ((snapshot_restores st sound whole).each b all) sound,
-  walk_keeps RestoreStep IsRestorable step_restorable empty_store (snapshot_of st) b all nothing_restorable,
+  followers_are_sound st b ((snapshot_restores st sound whole).each b all) sound,
+  walk_keeps RestoreStep IsRestorable step_restorable empty_store (snapshot_of st) b all opening_is_restorable,
 )
 
 -- ---- lines that were logged after it

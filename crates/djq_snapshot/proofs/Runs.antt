@@ -1,13 +1,12 @@
 -- A run comes to no store but one that its snapshot restores.
-use Rattle.std.proofs.Common.{ℕ, ◌+◌, List, [], ◌∷◌, ◌++◌, ◌≡◌, ◌⊎◌, inl, inr, Bool, true, false, refl, sym, ap₂, subst}
-use Rattle.std.specs.Prelude.{Option, None, Some, Result, Ok, Err, All, map, ⊤, is_none}
+use Rattle.std.proofs.Common.{ℕ, ◌+◌, List, [], ◌∷◌, ◌++◌, ◌≡◌, inl, inr, true, false, refl, sym, ap₂, subst}
+use Rattle.std.specs.Prelude.{Option, None, Some, Ok, Err, map, ⊤, is_none}
 use Rattle.std.specs.List.{flat_map}
 use Rattle.std.proofs.lemmas.List.Elements.{All-nil, All-weaker}
-use Rattle.djq_model.specs.declared.relation.Relation.{Relation}
 use Rattle.djq_model.specs.declared.query.Query.{Query}
-use Rattle.djq_model.specs.Data.{Bytes, Tuple, bytes_eq, drop_first, tuples_in, counted_of, with_row, without_copies}
-use Rattle.djq_model.specs.Known.{texts_in, all_learned, knows_all}
-use Rattle.djq_model.specs.Listed.{Listed, a_query, a_union, listed_name, listed_of}
+use Rattle.djq_model.specs.Data.{Bytes, bytes_eq, drop_first}
+use Rattle.djq_model.specs.Known.{texts_in, knows_all}
+use Rattle.djq_model.specs.Listed.{Listed, a_union, listed_name, listed_of}
 use Rattle.djq_protocol.specs.declared.answer.Refusal.TheVariants.{NoQuery, InUse}
 use Rattle.djq_protocol.specs.declared.answer.AddOutcome.TheVariants.{First, More}
 use Rattle.djq_protocol.specs.declared.answer.DeleteOutcome.TheVariants.{Last, Left, Absent}
@@ -21,12 +20,12 @@ use Rattle.djq_protocol.specs.Grammar.{Reading, outside, past_limit, says_comman
 use Rattle.djq_store_spec.specs.Relations.{rel_refusal, RefusedByTexts}
 use Rattle.djq_store_spec.specs.Registering.{query_refusal, RegistersAs, RefusedLate, is_member, drop_refusal}
 use Rattle.djq_store_spec.specs.Registering.{answer_steps}
-use Rattle.djq_store_spec.specs.Rows.{copies_of, add_refusal, AddsAs, delete_refusal, DeletesAs}
+use Rattle.djq_store_spec.specs.Rows.{add_refusal, AddsAs, delete_refusal, DeletesAs}
 use Rattle.djq_model.specs.Data.{rows_of, has_row}
 use Rattle.djq_store_spec.specs.Store.{Store}
 use Rattle.djq_store_spec.specs.Union.{union_refusal, AreUnder}
 use Rattle.djq_machine.specs.declared.machine.Loaded.TheVariants.{Ran as ran}
-use Rattle.djq_machine.specs.Loading.{Loading, loading, StoreLoads, CommandLoads, ReadingLoads, LoadStep, Loads}
+use Rattle.djq_machine.specs.Loading.{Loading, loading, StoreLoads, CommandLoads, ReadingLoads, LoadStep}
 use Rattle.djq_machine.specs.Run.{groups_of, lines_in}
 use Rattle.djq_machine.specs.State.{opening}
 use Rattle.djq_machine.proofs.Relations.{walk_keeps}
@@ -35,12 +34,12 @@ use Rattle.djq_run_laws.specs.Sound.{IsSoundRelation, IsSoundStore}
 use Rattle.djq_run_laws.proofs.Forms.{done_of, none_holds, none_second}
 use Rattle.djq_run_laws.proofs.SoundStates.{runs_keep_sound}
 use Rattle.djq_run_laws.proofs.SoundStores.{moved_store}
-use Rattle.djq_log_laws.specs.Kept.{AreKnown, HasRowsOnce, StoreFollows}
+use Rattle.djq_log_laws.specs.Kept.{HasRowsOnce, StoreFollows}
 use Rattle.djq_log_laws.proofs.Reloads.{kept_lines_load}
 use Rattle.djq_snapshot.specs.Snapshot.{SnapshotLine, says_changes, relation_line, row_lines, listed_line, snapshot_of}
-use Rattle.djq_snapshot.specs.Snapshot.{RestoresAll, RestoresTo}
+use Rattle.djq_snapshot.specs.Snapshot.{RestoresTo}
 use Rattle.djq_snapshot.specs.Restorable.{HasNoFault, KnowsRows, IsRestorable, FollowersRestore, RunsStayRestorable}
-use Rattle.djq_snapshot.specs.Restorable.{FoundIsRestorable, RunsRestore}
+use Rattle.djq_snapshot.specs.Restorable.{OpeningIsRestorable, LoadsStayRestorable, RunsRestore}
 use Rattle.djq_snapshot.proofs.Followers.{same_itself, same_turned, same_on}
 use Rattle.djq_snapshot.proofs.Keeps.{made_restorable, added_restorable, copied_restorable, gone_restorable}
 use Rattle.djq_snapshot.proofs.Keeps.{moved_restorable, batch_restorable, query_restorable, union_restorable}
@@ -151,11 +150,10 @@ line_restorable old line new h w =
     (moved_restorable h.mid.store h.relations h.reordered
     (reading_restorable old line (reading_of line) h.mid h.loads w))
 
-loads_restorable : (from : Loading) (lines : List Bytes) (to : Loading) → Loads from lines to
-    → IsRestorable from.store → IsRestorable to.store
-loads_restorable from lines to loads w =
-    walk_keeps (λ old line new. LoadStep old line ran new) (λ (k : Loading). IsRestorable k.store) line_restorable from
-    lines to loads w
+pub loads_stay_restorable : LoadsStayRestorable
+loads_stay_restorable from w lines to loads =
+    walk_keeps (λ old line new. LoadStep old line ran new) (λ (k : Loading). IsRestorable k.store) line_restorable
+    (loading from) lines to loads w
 
 -- ---- runs
 
@@ -181,24 +179,21 @@ runs_stay_restorable old done new run sound w =
     let lines = lines_in (groups_of done) in
     let k = (kept_lines_load old done new run sound old.store (follows_itself old.store sound.store)).can in
     followed_restorable new.store (k.0).store (k.2).store
-    (loads_restorable (loading old.store) lines k.0 k.1 w)
+    (loads_stay_restorable old.store w lines k.0 k.1)
 
-opening_restorable : IsRestorable opening.store
-opening_restorable = record {
+pub opening_is_restorable : OpeningIsRestorable
+opening_is_restorable = record {
   faults = All-nil (HasNoFault []);
   order = tt;
   rows = All-nil (KnowsRows []);
   constants = All-nil (λ l. knows_all [] (listed_texts l) ≡ true);
 }
 
-pub found_is_restorable : FoundIsRestorable
-found_is_restorable found st loads =
-    loads_restorable (loading opening.store) found (loading st) loads opening_restorable
-
 pub runs_restore : RunsRestore
 runs_restore found old loads done new run sound =
     snapshot_restores new.store (runs_keep_sound old done new run sound).store
-    (runs_stay_restorable old done new run sound (found_is_restorable found old.store loads))
+    (runs_stay_restorable old done new run sound
+    (loads_stay_restorable opening.store opening_is_restorable found (loading old.store) loads))
 
 -- ---- a store that follows another
 

@@ -1,48 +1,48 @@
 -- What restoring a line does to a store that follows another, and lines one after another.
-use Rattle.std.proofs.Common.{ℕ, List, [], ◌∷◌, ◌++◌, ◌≡◌, ◌≤◌, ◌<◌, ◌⊎◌, inl, inr, Bool, true, false, length, refl, sym}
+use Rattle.std.proofs.Common.{ℕ, List, [], ◌∷◌, ◌++◌, ◌≡◌, ◌≤◌, ◌<◌, inl, inr, false, length, refl, sym}
 use Rattle.std.proofs.Common.{ap, ◌∙◌, subst, arith}
-use Rattle.std.specs.Prelude.{Option, None, Some, Result, Ok, Err, ⊤}
-use Rattle.std.proofs.lemmas.List.Sorted.{IsPermutation-append_left, IsPermutation-sym, length_permutation}
+use Rattle.std.specs.Prelude.{◌≢◌, Result, Ok, Err, ⊤}
+use Rattle.std.proofs.lemmas.List.Elements.{All-nil}
+use Rattle.std.proofs.lemmas.List.Sorted.{IsPermutation-append_left, length_permutation}
 use Rattle.std.proofs.lemmas.List.{map-append}
 use Rattle.djq_model.specs.declared.relation.ColumnType.{ColumnType}
-use Rattle.djq_model.specs.declared.relation.Relation.{Relation}
 use Rattle.djq_model.specs.declared.relation.CountedRow.{CountedRow}
 use Rattle.djq_model.specs.declared.query.Query.{Query}
 use Rattle.djq_model.specs.Answer.{AreDifferent}
-use Rattle.djq_model.specs.Data.{Bytes, Tuple, counted_of, plain_of, rows_of, has_row}
-use Rattle.djq_model.specs.Known.{texts_in, knows_all, all_learned}
+use Rattle.djq_model.specs.Data.{Bytes, counted_of, plain_of, rows_of, has_row}
+use Rattle.djq_model.specs.Known.{texts_in, all_learned}
 use Rattle.djq_model.proofs.Copies.{has_moved}
 use Rattle.djq_protocol.specs.declared.limits.TheConstants.{ROWS, TEXTS, LAST_SEQ}
 use Rattle.djq_protocol.specs.declared.answer.Refusal.{Refusal}
 use Rattle.djq_protocol.specs.declared.answer.Refusal.TheVariants.{NoMemory}
 use Rattle.djq_protocol.specs.declared.rest.QueryOutcome.{QueryOutcome}
 use Rattle.djq_protocol.specs.declared.rest.QueryOutcome.TheVariants.{Registered, Cyclic, NotConnex}
-use Rattle.djq_protocol.specs.declared.command.Command.TheVariants.{Rel, Query as Register, Union}
 use Rattle.djq_store_spec.specs.Store.{Store, empty_store}
 use Rattle.djq_store_spec.specs.Relations.{with_rows, MakesRelation}
 use Rattle.djq_store_spec.specs.Registering.{RegistersQuery}
 use Rattle.djq_store_spec.specs.Union.{RegistersUnion}
-use Rattle.djq_machine.specs.declared.machine.Loaded.{Loaded}
-use Rattle.djq_machine.specs.declared.machine.Loaded.TheVariants.{Ran as ran, NoMem as no_memory}
+use Rattle.djq_machine.specs.declared.machine.Loaded.TheVariants.{Ran as ran}
 use Rattle.djq_machine.specs.Keeping.{is_done, is_registration}
 use Rattle.djq_machine.specs.Loading.{refused_by, loaded_by}
-use Rattle.djq_run_laws.proofs.Lists.{texts_apart, rows_more}
+use Rattle.djq_run_laws.proofs.Lists.{texts_apart, rows_more, nothing_apart}
 use Rattle.djq_run_laws.proofs.RegisteredQueries.{reordered_counted, reordered_rows}
 use Rattle.djq_run_laws.proofs.RowCommands.{types_moved, types_suit}
 use Rattle.djq_run_laws.specs.Sound.{AreApart}
-use Rattle.djq_log_laws.specs.Kept.{AreKnown, StoreFollows}
-use Rattle.djq_log_laws.proofs.Commands.{EndsWell, Respects, rel_respects, query_respects, union_respects}
+use Rattle.djq_log_laws.specs.Kept.{AreKnown, HasRowsOnce, StoreFollows}
+use Rattle.djq_log_laws.proofs.Commands.{EndsWell, rel_respects, query_respects, union_respects, follows_left}
 use Rattle.djq_snapshot.specs.Snapshot.{SnapshotLine, says_relation, says_row, says_query, says_union, says_changes}
 use Rattle.djq_snapshot.specs.Snapshot.{RestoresRow, Restores, RestoreStep, RestoresAll, RestoresTo}
-use Rattle.djq_snapshot.proofs.Followers.{same_itself, same_changed, once_changed, rows_once, follows_in_order, all_there}
-use Rattle.djq_snapshot.proofs.Followers.{all_among, no_longer}
+use Rattle.djq_snapshot.specs.Restorable.{RestoredAgain}
+use Rattle.djq_snapshot.proofs.Followers.{same_itself, same_changed, once_changed, rows_once, follows_in_order, all_among}
+use Rattle.djq_snapshot.proofs.Followers.{no_longer}
+use Rattle.djq_snapshot.proofs.Order.{still_known, learned_each}
 
 -- A line can be restored here, and whatever it comes to follows that store.
 pub record Brings (b : Store) (line : SnapshotLine) (to : Store) : Type 0 where
   pub can : (n : Store) × Restores b line n × StoreFollows to n
   pub each : (n : Store) → Restores b line n → StoreFollows to n
 
--- So it is wherever a store is followed.
+-- So it is in every store that follows one.
 abbrev pub Takes : Store → SnapshotLine → Store → Type 0
 Takes a line to = (b : Store) → StoreFollows a b → Brings b line to
 
@@ -52,7 +52,7 @@ abbrev pub Leads : Store → List SnapshotLine → Store → Type 0
 Leads b [] to = StoreFollows to b
 Leads b (l ∷ ls) to = ((n : Store) × RestoreStep b l n) × ((n : Store) → RestoreStep b l n → Leads n ls to)
 
--- So it is wherever a store is followed.
+-- So it is in every store that follows one.
 abbrev pub LeadsFrom : Store → List SnapshotLine → Store → Type 0
 LeadsFrom a lines to = (b : Store) → StoreFollows a b → Leads b lines to
 
@@ -199,8 +199,7 @@ changes_bring a n few b f = record {
 
 -- ---- a row
 
-module _ (a : Store) (name : Bytes) (c : CountedRow) (to : Store) (m : RestoresRow a name c to)
-    (known : knows_all a.texts (texts_in c.row) ≡ true) (few : length a.texts ≤ TEXTS) (b : Store)
+module _ (a : Store) (name : Bytes) (c : CountedRow) (to : Store) (m : RestoresRow a name c to) (b : Store)
     (f : StoreFollows a b) where
   -- what it makes of a store
   abbrev with_it : Store → Store
@@ -219,8 +218,10 @@ module _ (a : Store) (name : Bytes) (c : CountedRow) (to : Store) (m : RestoresR
       (sym (map-append (λ (x : CountedRow). x.row) (counted_of b.relations name) (c ∷ [])))
       (rows_more (rows_of b.relations name) c.row (rows_once b.relations name f.rows) is_absent)
 
-  new_known : AreKnown (all_learned b.texts (texts_in c.row)) a.texts
-  new_known = all_among b.texts a.texts (texts_in c.row) f.among known
+  new_known : AreKnown (all_learned b.texts (texts_in c.row)) (all_learned a.texts (texts_in c.row))
+  new_known =
+      all_among b.texts (all_learned a.texts (texts_in c.row)) (texts_in c.row)
+      (λ t h. still_known a.texts (texts_in c.row) t (f.among t h)) (learned_each a.texts (texts_in c.row))
 
   new_apart : AreApart (all_learned b.texts (texts_in c.row))
   new_apart = texts_apart b.texts (texts_in c.row) f.once
@@ -236,8 +237,7 @@ module _ (a : Store) (name : Bytes) (c : CountedRow) (to : Store) (m : RestoresR
       seq = f.same.seq;
     };
     rows = once_changed b.relations name (counted_of b.relations name ++ c ∷ []) rows_differ f.rows;
-    among = subst (AreKnown (all_learned b.texts (texts_in c.row))) (sym (all_there a.texts (texts_in c.row) known))
-        new_known;
+    among = new_known;
     once = new_apart;
   })
 
@@ -252,11 +252,48 @@ module _ (a : Store) (name : Bytes) (c : CountedRow) (to : Store) (m : RestoresR
         place = subst (λ (n : ℕ). n < ROWS)
             (sym (length_permutation (rows_of a.relations name) (rows_of b.relations name)
             (reordered_rows a.relations b.relations name f.same.relations))) m.place;
-        few = let k = no_longer (all_learned b.texts (texts_in c.row)) a.texts new_known new_apart in
-            omega (arith, k, few);
+        few =
+            let longest = subst (λ (ts : List Bytes). length ts ≤ TEXTS) (ap (λ (st : Store). st.texts) m.is) m.few in
+            let less = no_longer (all_learned b.texts (texts_in c.row)) (all_learned a.texts (texts_in c.row)) new_known
+            new_apart in
+            omega (arith, less, longest);
         is = refl;
       },
       it_follows,
     );
     each = λ n h. subst (λ (st : Store). StoreFollows to st) (sym h.is) it_follows;
   }
+
+-- ---- Lines that restored a store do so again.
+
+line_again : (a : Store) (line : SnapshotLine) (to : Store) → Restores a line to → Takes a line to
+line_again a (says_relation name types) to m = rel_brings a name types to m
+line_again a (says_row name c) to m = row_brings a name c to m
+line_again a (says_query q) to (most, m) = query_brings a q most to m
+line_again a (says_union name members) to (most, m) = union_brings a name members most to m
+line_again a (says_changes n) to (few, e) =
+    subst (λ (st : Store). Takes a (says_changes n) st) (sym e) (changes_bring a n few)
+
+step_again : (a : Store) (line : SnapshotLine) (to : Store) → RestoreStep a line to → Takes a line to
+step_again a line to s b f =
+    let r = line_again a line s.mid s.restores b f in
+    record { can = ((r.can).0, (r.can).1, on (r.can).0 (r.can).2); each = λ n k. on n (r.each n k) }
+  where
+    on : (n : Store) → StoreFollows s.mid n → StoreFollows to n
+    on n g = subst (λ (st : Store). StoreFollows st n) (sym s.after) (follows_left s.mid n s.relations s.reordered g)
+
+lines_again : (lines : List SnapshotLine) (a to : Store) → RestoresAll a lines to → LeadsFrom a lines to
+lines_again [] a to w b f = subst (λ (st : Store). StoreFollows st b) (sym w) f
+lines_again (l ∷ lines) a to w b f =
+    line_leads a l w.0 lines to (step_again a l w.0 w.1) (lines_again lines w.0 to w.2) b f
+
+pub restored_again : RestoredAgain
+restored_again lines st w = leads_restore lines st (lines_again lines empty_store st w empty_store from_itself)
+  where
+    from_itself : StoreFollows empty_store empty_store
+    from_itself = record {
+      same = record { relations = tt; queries = refl; seq = refl };
+      rows = All-nil HasRowsOnce;
+      among = λ t h. h;
+      once = nothing_apart (λ (a b : Bytes). a ≢ b);
+    }

@@ -3,16 +3,16 @@ use Rattle.std.specs.Prelude.{List, [], ◌∷◌, ◌++◌, ◌≡◌, true, No
 use Rattle.djq_model.specs.declared.relation.Relation.{Relation}
 use Rattle.djq_model.specs.Data.{Bytes, tuples_in}
 use Rattle.djq_model.specs.Known.{knows_all, texts_in}
-use Rattle.djq_model.specs.Listed.{Listed, a_query, a_union, members_of, listed_of, queries_of}
+use Rattle.djq_model.specs.Listed.{Listed, a_query, members_of, listed_of, queries_of}
 use Rattle.djq_protocol.specs.QueryFault.{query_fault}
 use Rattle.djq_store_spec.specs.Store.{Store, empty_store}
 use Rattle.djq_machine.specs.State.{State, opening}
 use Rattle.djq_machine.specs.Run.{Did, Run, groups_of, lines_in}
-use Rattle.djq_machine.specs.Loading.{loading, Loads}
+use Rattle.djq_machine.specs.Loading.{Loading, loading, Loads}
 use Rattle.djq_run_laws.specs.Sound.{IsSoundStore, IsSoundState}
 use Rattle.djq_run_laws.specs.Form.{listed_texts}
 use Rattle.djq_log_laws.specs.Kept.{StoreFollows, LoadsTo}
-use Rattle.djq_snapshot.specs.Snapshot.{snapshot_of, RestoresAll, RestoresTo}
+use Rattle.djq_snapshot.specs.Snapshot.{SnapshotLine, snapshot_of, RestoresAll, RestoresTo}
 
 -- Over these relations no registered query has a fault.
 abbrev pub HasNoFault : List Relation → Listed → Type 0
@@ -40,7 +40,7 @@ pub record IsRestorable (st : Store) : Type 0 where
   pub constants : All (λ l. knows_all st.texts (listed_texts l) ≡ true) st.queries
 
 -- A snapshot restores its store: the same relations, rows, copies, queries and unions in their order,
--- and the same number of changes; of the texts those that something has.
+-- and the same number of changes. No text is known that its store didn't know.
 abbrev pub SnapshotRestores : Type 0
 SnapshotRestores = (st : Store) → IsSoundStore st → IsRestorable st → RestoresTo (snapshot_of st) st
 
@@ -49,15 +49,23 @@ abbrev pub FollowersRestore : Type 0
 FollowersRestore = (a b : Store) → IsSoundStore a → IsRestorable a → StoreFollows a b
     → RestoresTo (snapshot_of b) a
 
--- A run that begins with such a store comes to no other.
+-- Lines that restored a store do so whenever they are restored.
+abbrev pub RestoredAgain : Type 0
+RestoredAgain = (lines : List SnapshotLine) (st : Store) → RestoresAll empty_store lines st → RestoresTo lines st
+
+-- The store in which nothing has happened is restorable.
+abbrev pub OpeningIsRestorable : Type 0
+OpeningIsRestorable = IsRestorable opening.store
+
+-- A run that begins with a restorable store comes to no other.
 abbrev pub RunsStayRestorable : Type 0
 RunsStayRestorable = (old : State) (done : List Did) (new : State) → Run old done new → IsSoundState old
     → IsRestorable old.store → IsRestorable new.store
 
--- Nor do lines that are loaded from nothing.
-abbrev pub FoundIsRestorable : Type 0
-FoundIsRestorable = (found : List Bytes) (st : Store) → Loads (loading opening.store) found (loading st)
-    → IsRestorable st
+-- Nor do lines that are loaded into one.
+abbrev pub LoadsStayRestorable : Type 0
+LoadsStayRestorable = (from : Store) → IsRestorable from → (lines : List Bytes) (to : Loading)
+    → Loads (loading from) lines to → IsRestorable to.store
 
 -- So at each point of a run that began with what lines found at its start gave, the snapshot of the
 -- store restores it.
@@ -66,13 +74,17 @@ RunsRestore = (found : List Bytes) (old : State) → Loads (loading opening.stor
     → (done : List Did) (new : State) → Run old done new → IsSoundState old
     → RestoresTo (snapshot_of new.store) new.store
 
--- What a snapshot restores is sound again, and its own snapshot restores it.
+-- What follows a sound store is sound.
+abbrev pub FollowersAreSound : Type 0
+FollowersAreSound = (a b : Store) → StoreFollows a b → IsSoundStore a → IsSoundStore b
+
+-- So what a snapshot restores is sound, and its own snapshot restores it.
 abbrev pub RestoredIsRestorable : Type 0
 RestoredIsRestorable = (st : Store) → IsSoundStore st → IsRestorable st → (b : Store)
     → RestoresAll empty_store (snapshot_of st) b → IsSoundStore b × IsRestorable b
 
 -- A log that has the snapshot of a store, and then the lines that a run from there logged, gives what the
--- run left: where its snapshot has been restored to, these lines load.
+-- run left: these lines load into whatever the snapshot restored.
 abbrev pub RewrittenLogsLoad : Type 0
 RewrittenLogsLoad = (old : State) (done : List Did) (new : State) → Run old done new → IsSoundState old
     → IsRestorable old.store → (b : Store) → RestoresAll empty_store (snapshot_of old.store) b

@@ -72,7 +72,7 @@ pub record RestoresRow (old : Store) (name : Bytes) (c : CountedRow) (new : Stor
     texts = all_learned old.texts (texts_in c.row);
   }
 
--- What a line does to a store, where none of its conditions refuses it.
+-- What a line does to a store, if none of its conditions refuses it.
 abbrev pub Restores : Store → SnapshotLine → Store → Type 0
 Restores old (says_relation name types) new = MakesRelation old name types (Ok tt) new
 Restores old (says_row name c) new = RestoresRow old name c new
@@ -93,7 +93,7 @@ abbrev pub RestoresAll : Store → List SnapshotLine → Store → Type 0
 RestoresAll = Walk RestoreStep
 
 -- Lines restore a store, from nothing: they can be restored, and whatever they come to follows that
--- store. No condition refuses a line: wherever those before it have come to, it can be restored.
+-- store. No condition refuses a line: after those before it, whatever they came to, it can be restored.
 pub record RestoresTo (lines : List SnapshotLine) (st : Store) : Type 0 where
   pub can : (b : Store) × RestoresAll empty_store lines b × StoreFollows st b
   pub each : (b : Store) → RestoresAll empty_store lines b → StoreFollows st b

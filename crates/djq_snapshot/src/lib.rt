@@ -28,8 +28,9 @@
 //! store that they say: each line takes a store that follows one part to a store that follows the next.
 #![tactic(auto)]
 
-ghost use Rattle.djq_snapshot.specs.Restorable.{SnapshotRestores, FollowersRestore, RunsStayRestorable};
-ghost use Rattle.djq_snapshot.specs.Restorable.{FoundIsRestorable, RunsRestore, RestoredIsRestorable};
+ghost use Rattle.djq_snapshot.specs.Restorable.{SnapshotRestores, FollowersRestore, RestoredAgain};
+ghost use Rattle.djq_snapshot.specs.Restorable.{OpeningIsRestorable, RunsStayRestorable, LoadsStayRestorable};
+ghost use Rattle.djq_snapshot.specs.Restorable.{RunsRestore, FollowersAreSound, RestoredIsRestorable};
 ghost use Rattle.djq_snapshot.specs.Restorable.{RewrittenLogsLoad};
 
 /// A snapshot restores its store, from nothing: the same relations, each with its rows and their copies in
@@ -44,12 +45,18 @@ pub fn followers_restore()
     ensures { FollowersRestore }
 {}
 
+/// Lines that restored a store do so whenever they are restored.
+pub fn restored_again()
+    ensures { RestoredAgain }
+{}
+
 /// A run that begins with a store whose snapshot restores it reaches no other, nor do lines that are loaded
-/// from nothing. No registered query has a fault, the members of a union were registered before it, and the
-/// texts of rows and queries are known.
+/// into one. No registered query has a fault, the members of a union were registered before it, and the
+/// texts of rows and queries are known. The store in which nothing has happened is such a one.
 pub fn stays_restorable()
+    ensures opening { OpeningIsRestorable }
     ensures runs { RunsStayRestorable }
-    ensures found { FoundIsRestorable }
+    ensures loads { LoadsStayRestorable }
 {}
 
 /// At each point of a run that began with what lines, found at its start, gave, the snapshot of its store
@@ -58,9 +65,11 @@ pub fn runs_restore()
     ensures { RunsRestore }
 {}
 
-/// What a snapshot restores is sound again, and its own snapshot restores it.
+/// What follows a sound store is sound. So what a snapshot restores is sound, and its own snapshot restores
+/// it.
 pub fn restored_is_restorable()
-    ensures { RestoredIsRestorable }
+    ensures followers { FollowersAreSound }
+    ensures restored { RestoredIsRestorable }
 {}
 
 /// A log may begin with the snapshot of a store in place of the lines that gave it: the lines that a run

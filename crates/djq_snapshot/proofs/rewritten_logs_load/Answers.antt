@@ -1,4 +1,4 @@
--- What was restored follows the store, and the lines that a run logged load where its start is followed.
+-- What was restored follows the store, and the lines that a run logged load into what follows its start.
 use Rattle.djq_snapshot.proofs.Restored.{rewritten_logs_load}
 use Rattle.djq_snapshot.proofs.rewritten_logs_load.Goals as goal
 
