@@ -1,0 +1,10 @@
+mod Followers
+mod Steps
+mod Names
+mod Parts
+mod Faults
+mod Order
+mod Keeps
+mod Runs
+mod Restored
+mod Example
