@@ -1,6 +1,7 @@
 ghost use Rattle.std.specs.Prelude.{◌≡◌, [], None, IfOk, length};
 ghost use Rattle.djq_model.specs.Data.{rows_of};
 ghost use Rattle.djq_machine.specs.State.{opening};
+ghost use Rattle.djq_engine.specs.Sizes.{rows_together};
 
 use crate::sessions::Sessions;
 use crate::tell::tell_change;
@@ -86,6 +87,20 @@ impl Core {
         ensures { result ≡ self.now.state.store.seq }
     {
         self.engine.seq()
+    }
+
+    /// How many relations there are.
+    pub fn relation_count(&self) -> usize
+        ensures { result ≡ length self.now.state.store.relations }
+    {
+        self.engine.relation_count()
+    }
+
+    /// How many different rows all relations have together.
+    pub fn row_total(&self) -> u128
+        ensures { result ≡ rows_together self.now.state.store.relations }
+    {
+        self.engine.row_total()
     }
 
     /// The number of rows of a relation, 0 where there is none of the name.

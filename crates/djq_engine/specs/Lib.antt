@@ -15,3 +15,4 @@ pub mod Laws
 pub mod Putting
 pub mod Taking
 pub mod Cursors
+pub mod Sizes

@@ -1,8 +1,10 @@
 ghost use Rattle.std.specs.Prelude.{◌≡◌, [], length, IfOk};
 ghost use Rattle.djq_model.specs.Data.{rows_of};
 ghost use Rattle.djq_store_spec.specs.Store.{empty_store};
+ghost use Rattle.djq_engine.specs.Sizes.{rows_together};
 
 use crate::parts::Parts;
+use crate::sizes::row_total;
 use djq_database::Catalog;
 use djq_live_query::LiveQuery;
 use djq_model::{Name, NoMem};
@@ -76,6 +78,20 @@ impl Engine {
             Some(id) => self.parts.catalog.row_count(id) as u64,
             None => 0,
         }
+    }
+
+    /// How many relations there are.
+    pub fn relation_count(&self) -> usize
+        ensures { result ≡ length self.now.store.relations }
+    {
+        self.parts.catalog.len()
+    }
+
+    /// How many different rows all relations have together.
+    pub fn row_total(&self) -> u128
+        ensures { result ≡ rows_together self.now.store.relations }
+    {
+        row_total(&self.parts.catalog)
     }
 
     /// The queries in their places: that of an id stands in its place, and a place without one is

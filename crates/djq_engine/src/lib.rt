@@ -71,4 +71,5 @@ mod putting;
 mod reading;
 mod registering;
 mod rows;
+mod sizes;
 mod watching;

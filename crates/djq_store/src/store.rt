@@ -2,6 +2,7 @@ ghost use Rattle.std.specs.Prelude.{◌≡◌, [], false, map, option_map, lengt
 ghost use Rattle.djq_model.specs.Data.{bytes_eq, rows_of};
 ghost use Rattle.djq_model.specs.Listed.{listed_name};
 ghost use Rattle.djq_store_spec.specs.Store.{empty_store};
+ghost use Rattle.djq_engine.specs.Sizes.{rows_together};
 ghost use Rattle.djq_engine.specs.Kept.{registered_of, registered_at, same_query, IsRegistered};
 ghost use Rattle.djq_store.specs.Lending.{LendsEngine};
 
@@ -62,6 +63,20 @@ impl Store {
         ensures { result ≡ self.now.store.seq }
     {
         self.parts.engine.seq()
+    }
+
+    /// How many relations there are.
+    pub fn relation_count(&self) -> usize
+        ensures { result ≡ length self.now.store.relations }
+    {
+        self.parts.engine.relation_count()
+    }
+
+    /// How many different rows all relations have together.
+    pub fn row_total(&self) -> u128
+        ensures { result ≡ rows_together self.now.store.relations }
+    {
+        self.parts.engine.row_total()
     }
 
     /// The number of rows of a relation, 0 where there is none of the name.
