@@ -273,8 +273,7 @@ module _ (st : Store) (sound : IsSoundStore st) (whole : IsRestorable st) where
 
       free : query_refusal (asked front) q ≡ None
       free = none_refuses ((is_some (listed_of front q.name), Taken) ∷ query_faults st.relations q
-          ++ (nat_le QUERIES (length front), Limit) ∷ [])
-          (
+          ++ (nat_le QUERIES (length front), Limit) ∷ []) (
             name_free front (a_query q) back e,
             both_fail (query_faults st.relations q) ((nat_le QUERIES (length front), Limit) ∷ [])
                 (all_fail (query_faults st.relations q) no_fault) (has_room front (a_query q) back e, tt),
@@ -363,8 +362,7 @@ module _ (st : Store) (sound : IsSoundStore st) (whole : IsRestorable st) where
           )
           ∷ (nat_lt MEMBERS (length members), Limit)
           ∷ (nat_le QUERIES (length front), Limit)
-          ∷ [])
-          (
+          ∷ []) (
             name_free front (a_union name qs) back e,
             (
               of_names (λ n. is_none (listed_of front n)) front qs (λ q h. ap is_none h) are_in,
