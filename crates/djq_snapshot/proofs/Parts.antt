@@ -301,7 +301,8 @@ module _ (st : Store) (sound : IsSoundStore st) (whole : IsRestorable st) where
 
   -- what holds of each member's name
   of_names : (P : Bytes → Bool) (front : List Listed) (qs : List Query)
-      → ((q : Query) → IsIn front q → P q.name ≡ false) → All (IsIn front) qs → list_any P (map (λ (q : Query). q.name) qs) ≡ false
+      → ((q : Query) → IsIn front q → P q.name ≡ false) → All (IsIn front) qs
+      → list_any P (map (λ (q : Query). q.name) qs) ≡ false
   of_names P front [] each h = refl
   of_names P front (q ∷ qs) each h =
       or_from (P q.name) (list_any P (map (λ (p : Query). p.name) qs)) (each q (All-head (IsIn front) q qs h))
