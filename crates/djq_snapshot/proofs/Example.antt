@@ -147,4 +147,5 @@ is_restorable = record {
 
 -- These five lines restore it.
 pub example_restores : RestoresTo lines store
-example_restores = subst (λ (ls : List SnapshotLine). RestoresTo ls store) says_this (snapshot_restores store is_sound is_restorable)
+example_restores = subst (λ (ls : List SnapshotLine). RestoresTo ls store) says_this
+    (snapshot_restores store is_sound is_restorable)

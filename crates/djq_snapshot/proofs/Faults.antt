@@ -68,10 +68,12 @@ module _ (rs rs' : List Relation) where
 
   fault_same : (q : Query) → All ReadsSame q.atoms → query_fault rs' q ≡ query_fault rs q
   fault_same q same =
-      ap (λ (x : Bool). fault_by x (has_wrong_arity rs' q) (has_misfit rs' q) (has_clash rs' q) (has_miscompared rs' q) q)
+      ap (λ (x : Bool). fault_by x (has_wrong_arity rs' q) (has_misfit rs' q) (has_clash rs' q)
+      (has_miscompared rs' q) q)
       (any_atom (λ (a : Atom). is_none (relation_of rs' a.relation)) (λ (a : Atom). is_none (relation_of rs a.relation))
       q.atoms (λ a s. s.0) same)
-      ∙ ap (λ (x : Bool). fault_by (reads_unknown rs q) x (has_misfit rs' q) (has_clash rs' q) (has_miscompared rs' q) q)
+      ∙ ap (λ (x : Bool). fault_by (reads_unknown rs q) x (has_misfit rs' q) (has_clash rs' q)
+      (has_miscompared rs' q) q)
       (any_atom (λ (a : Atom). not (length a.terms == length (columns_of rs' a.relation)))
       (λ (a : Atom). not (length a.terms == length (columns_of rs a.relation))) q.atoms
       (λ a s. ap (λ (cs : List ColumnType). not (length a.terms == length cs)) s.1) same)

@@ -259,5 +259,6 @@ drop_restorable st name free w = record {
   faults = all_dropped (HasNoFault st.relations) (λ (l : Listed). bytes_eq (listed_name l) name) st.queries w.faults;
   order = follow_dropped name st.queries free w.order;
   rows = w.rows;
-  constants = all_dropped (KnowsConstants st.texts) (λ (l : Listed). bytes_eq (listed_name l) name) st.queries w.constants;
+  constants = all_dropped (KnowsConstants st.texts) (λ (l : Listed). bytes_eq (listed_name l) name) st.queries
+      w.constants;
 }

@@ -1,8 +1,8 @@
 -- The parts of a store that the first lines of its snapshot say: each line brings the next.
 use Rattle.std.proofs.Common.{List, [], ◌∷◌, ◌++◌, ◌≡◌, ◌<◌, ◌||◌, Bool, true, false, length, refl, sym, ap, ap₂}
 use Rattle.std.proofs.Common.{◌∙◌, subst, arith, append_assoc, append-nil, length-append}
-use Rattle.std.specs.Prelude.{◌==◌, ◌≢◌, ◌&&◌, not, nat_le, nat_lt, Option, None, Some, is_none, is_some, Ok, map, All, ⊤}
-use Rattle.std.specs.Prelude.{option_map}
+use Rattle.std.specs.Prelude.{◌==◌, ◌≢◌, ◌&&◌, not, nat_le, nat_lt, Option, None, Some, is_none, is_some, Ok, map, All}
+use Rattle.std.specs.Prelude.{option_map, ⊤}
 use Rattle.std.specs.List.{list_any, flat_map}
 use Rattle.std.proofs.lemmas.Bool.{false≢true, le-ltb, lt-leb, or_from, eq-eqb}
 use Rattle.std.proofs.lemmas.List.{map-append, length-map}
@@ -151,7 +151,8 @@ module _ (st : Store) (sound : IsSoundStore st) (whole : IsRestorable st) where
     is_sound = holds_of_it IsSoundRelation st.relations done r later e sound.rows
 
     found : (rows : List CountedRow) → relation_of (at rows).relations r.name ≡ Some (begun r rows)
-    found rows = found_at (λ (x : Relation). bytes_eq x.name r.name) done (begun r rows) (map bare later) none_done itself
+    found rows =
+        found_at (λ (x : Relation). bytes_eq x.name r.name) done (begun r rows) (map bare later) none_done itself
 
     counted : (rows : List CountedRow) → counted_of (at rows).relations r.name ≡ rows
     counted rows = ap counted_in (found rows)
@@ -163,8 +164,8 @@ module _ (st : Store) (sound : IsSoundStore st) (whole : IsRestorable st) where
 
       text_known : knows_all st.texts (texts_in c.row) ≡ true
       text_known =
-          holds_of_it (λ row. knows_all st.texts (texts_in row) ≡ true) (tuples_in r) (plain_of first) c.row (plain_of rest)
-          plain_cut (holds_of_it (KnowsRows st.texts) st.relations done r later e whole.rows)
+          holds_of_it (λ row. knows_all st.texts (texts_in row) ≡ true) (tuples_in r) (plain_of first) c.row
+          (plain_of rest) plain_cut (holds_of_it (KnowsRows st.texts) st.relations done r later e whole.rows)
 
       it_fits : fits r.types c.row ≡ true
       it_fits =
@@ -178,7 +179,10 @@ module _ (st : Store) (sound : IsSoundStore st) (whole : IsRestorable st) where
           (found first)
           ∙ none_refuses ((false, NoRelation) ∷ (not (length c.row == length r.types), Arity)
           ∷ (not (fits r.types c.row), WrongType) ∷ [])
-          (refl, (ap not (eq-eqb (length c.row) (length r.types) (as_long r.types c.row it_fits)), (ap not it_fits, tt)))
+          (refl, (ap not (eq-eqb (length c.row) (length r.types) long), (ap not it_fits, tt)))
+        where
+          long : length c.row ≡ length r.types
+          long = as_long r.types c.row it_fits
 
       it_is_new : has_row (rows_of (at first).relations r.name) c.row ≡ false
       it_is_new =
@@ -273,8 +277,7 @@ module _ (st : Store) (sound : IsSoundStore st) (whole : IsRestorable st) where
 
       free : query_refusal (asked front) q ≡ None
       free = none_refuses ((is_some (listed_of front q.name), Taken) ∷ query_faults st.relations q
-          ++ (nat_le QUERIES (length front), Limit) ∷ [])
-          (
+          ++ (nat_le QUERIES (length front), Limit) ∷ []) (
             name_free front (a_query q) back e,
             both_fail (query_faults st.relations q) ((nat_le QUERIES (length front), Limit) ∷ [])
                 (all_fail (query_faults st.relations q) no_fault) (has_room front (a_query q) back e, tt),
@@ -297,8 +300,9 @@ module _ (st : Store) (sound : IsSoundStore st) (whole : IsRestorable st) where
       (all_under front qs (All-tail (IsIn front) q qs h))
 
   -- what holds of each member's name
-  of_names : (P : Bytes → Bool) (front : List Listed) (qs : List Query) → ((q : Query) → IsIn front q → P q.name ≡ false)
-      → All (IsIn front) qs → list_any P (map (λ (q : Query). q.name) qs) ≡ false
+  of_names : (P : Bytes → Bool) (front : List Listed) (qs : List Query)
+      → ((q : Query) → IsIn front q → P q.name ≡ false) → All (IsIn front) qs
+      → list_any P (map (λ (q : Query). q.name) qs) ≡ false
   of_names P front [] each h = refl
   of_names P front (q ∷ qs) each h =
       or_from (P q.name) (list_any P (map (λ (p : Query). p.name) qs)) (each q (All-head (IsIn front) q qs h))
@@ -363,8 +367,7 @@ module _ (st : Store) (sound : IsSoundStore st) (whole : IsRestorable st) where
           )
           ∷ (nat_lt MEMBERS (length members), Limit)
           ∷ (nat_le QUERIES (length front), Limit)
-          ∷ [])
-          (
+          ∷ []) (
             name_free front (a_union name qs) back e,
             (
               of_names (λ n. is_none (listed_of front n)) front qs (λ q h. ap is_none h) are_in,

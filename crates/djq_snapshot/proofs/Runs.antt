@@ -11,8 +11,8 @@ use Rattle.djq_protocol.specs.declared.answer.Refusal.TheVariants.{NoQuery, InUs
 use Rattle.djq_protocol.specs.declared.answer.AddOutcome.TheVariants.{First, More}
 use Rattle.djq_protocol.specs.declared.answer.DeleteOutcome.TheVariants.{Last, Left, Absent}
 use Rattle.djq_protocol.specs.declared.command.Command.{Command}
-use Rattle.djq_protocol.specs.declared.command.Command.TheVariants.{Rel, Add, Del, Query as Register, Union, Drop, Batch}
-use Rattle.djq_protocol.specs.declared.command.Command.TheVariants.{Done, Abandon}
+use Rattle.djq_protocol.specs.declared.command.Command.TheVariants.{Rel, Add, Del, Query as Register, Union, Drop}
+use Rattle.djq_protocol.specs.declared.command.Command.TheVariants.{Batch, Done, Abandon}
 use Rattle.djq_protocol.specs.declared.held.HeldRow.{HeldRow}
 use Rattle.djq_protocol.specs.declared.rest.QueryOutcome.TheVariants.{Registered, Cyclic, NotConnex}
 use Rattle.djq_protocol.specs.Conditions.{OutOfMemoryWhere}
@@ -62,8 +62,8 @@ store_restorable old (Rel name types) new (Ok u, m, e) w =
 store_restorable old (Rel name types) new (Err r, m, e) w = absurd (refused_never r e)
 store_restorable old (Register q) new (Ok (Registered most), m, e) w =
     let d = done_of (query_refusal old q) (Registered most) (RegistersAs old q new) (RefusedLate old q new) m.answer in
-    let none = none_holds (query_refusal old q) (Registered most) (RegistersAs old q new) (RefusedLate old q new) m.answer
-    in
+    let none = none_holds (query_refusal old q) (Registered most) (RegistersAs old q new) (RefusedLate old q new)
+    m.answer in
     subst IsRestorable (sym d.3) (query_restorable old q none w)
 store_restorable old (Register q) new (Ok (Cyclic rest), m, e) w = absurd (cc (e))
 store_restorable old (Register q) new (Ok (NotConnex rest), m, e) w = absurd (cc (e))

@@ -33,8 +33,8 @@ use Rattle.djq_log_laws.proofs.Commands.{EndsWell, rel_respects, query_respects,
 use Rattle.djq_snapshot.specs.Snapshot.{SnapshotLine, says_relation, says_row, says_query, says_union, says_changes}
 use Rattle.djq_snapshot.specs.Snapshot.{RestoresRow, Restores, RestoreStep, RestoresAll, RestoresTo}
 use Rattle.djq_snapshot.specs.Restorable.{RestoredAgain}
-use Rattle.djq_snapshot.proofs.Followers.{same_itself, same_changed, once_changed, rows_once, follows_in_order, all_among}
-use Rattle.djq_snapshot.proofs.Followers.{no_longer}
+use Rattle.djq_snapshot.proofs.Followers.{same_itself, same_changed, once_changed, rows_once, follows_in_order}
+use Rattle.djq_snapshot.proofs.Followers.{all_among, no_longer}
 use Rattle.djq_snapshot.proofs.Order.{still_known, learned_each}
 
 -- A line can be restored here, and whatever it comes to follows that store.
