@@ -28,7 +28,7 @@ use Rattle.djq_transaction.specs.declared.net.Copies.{Copies}
 use Rattle.djq_transaction.specs.declared.net.Net.{Net}
 use Rattle.djq_transaction.specs.declared.judge.LineRefusal.TheVariants.{Limit, NoMemory}
 use Rattle.djq_transaction.specs.Lines.{same_row, with_naming, first_lines, after_verb, copies_before, copies_after}
-use Rattle.djq_transaction.specs.Judging.{texts_by, texts_added, names_row_before, is_new, rows_together, limit_if}
+use Rattle.djq_transaction.specs.Judging.{texts_by, texts_added, names_row_before, is_new, rows_reached, limit_if}
 use Rattle.djq_transaction.specs.Judging.{refusal_by, row_refusal, StopsAtLine, HasItsPlace}
 use Rattle.djq_transaction.specs.LookUp.{AreSame, Looked}
 use Rattle.djq_transaction.specs.Net.{key_cells, SuitsAt, SetsCopies, IsNet}
@@ -76,7 +76,7 @@ named_before relations lines h None c l =
 
 pub add_refusal : (relations : List Relation) (lines : List HeldLine) (h : HeldLine) (many new full : Bool)
     → h.verb ≡ Add → nat_le COPIES (copies_after relations lines h) ≡ many → is_new relations lines h ≡ new
-    → nat_le ROWS (rows_together relations lines h.relation) ≡ full
+    → nat_le ROWS (rows_reached relations lines h.relation) ≡ full
     → row_refusal relations lines h ≡ limit_if (many || (new && full))
 add_refusal relations lines h many new full e m n f =
     ap (λ (v : Verb). refusal_by v relations lines h) e
@@ -88,7 +88,7 @@ pub add_many : (relations : List Relation) (lines : List HeldLine) (h : HeldLine
     → row_refusal relations lines h ≡ limit_if true
 add_many relations lines h place c e l many =
     add_refusal relations lines h true (is_new relations lines h)
-    (nat_le ROWS (rows_together relations lines h.relation)) e
+    (nat_le ROWS (rows_reached relations lines h.relation)) e
     (le-leb COPIES (copies_after relations lines h) (omega (arith, l.after, many))) refl refl
 
 few_copies : (relations : List Relation) (lines : List HeldLine) (h : HeldLine) (place : Option ℕ) (c : Copies)
@@ -101,7 +101,7 @@ pub add_further : (relations : List Relation) (lines : List HeldLine) (h : HeldL
     → h.verb ≡ Add → Looked relations lines h place c → c.after < COPIES → (is_some place ≡ true) ⊎ (c.before ≢ 0)
     → row_refusal relations lines h ≡ limit_if false
 add_further relations lines h place c e l few old =
-    add_refusal relations lines h false false (nat_le ROWS (rows_together relations lines h.relation)) e
+    add_refusal relations lines h false false (nat_le ROWS (rows_reached relations lines h.relation)) e
     (few_copies relations lines h place c l few) (by old) refl
   where
     right : (b : Bool) → (b && false) ≡ false
@@ -118,7 +118,7 @@ add_further relations lines h place c e l few old =
 -- a new row
 pub add_first : (relations : List Relation) (lines : List HeldLine) (h : HeldLine) (place : Option ℕ) (c : Copies)
     (full : Bool) → h.verb ≡ Add → Looked relations lines h place c → c.after < COPIES → is_some place ≡ false
-    → c.before ≡ 0 → full ≡ nat_le ROWS (rows_together relations lines h.relation)
+    → c.before ≡ 0 → full ≡ nat_le ROWS (rows_reached relations lines h.relation)
     → row_refusal relations lines h ≡ limit_if full
 add_first relations lines h place c full e l few none zero f =
     add_refusal relations lines h false true full e (few_copies relations lines h place c l few)

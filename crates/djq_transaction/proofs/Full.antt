@@ -17,7 +17,7 @@ use Rattle.djq_transaction.specs.Held.{HeldLine}
 use Rattle.djq_transaction.specs.declared.net.Copies.{Copies}
 use Rattle.djq_transaction.specs.declared.net.Net.{Net}
 use Rattle.djq_transaction.specs.Lines.{first_lines, copies_before}
-use Rattle.djq_transaction.specs.Judging.{rows_together}
+use Rattle.djq_transaction.specs.Judging.{rows_reached}
 use Rattle.djq_transaction.specs.Net.{keys, is_new_in, relation_place, row_key, copies_by, Suits, SuitsAt, IsNet}
 use Rattle.djq_transaction.proofs.NamedRows.{place_is, found_named}
 
@@ -76,7 +76,7 @@ all_tell relations texts width lines at name firsts differ below named suit =
 -- the rows together, counted in a table
 pub together_is : (c : Catalog) (width : ℕ) (lines : List HeldLine) (h : HeldLine) (at : ℕ) (net : Net)
     → AllPairs (λ r s. r.name ≢ s.name) c.relations → IsNet c.relations c.texts width lines net
-    → SuitsAt c.relations h at → rows_together c.relations lines h.relation
+    → SuitsAt c.relations h at → rows_reached c.relations lines h.relation
     ≡ length (rows_at c.relations at) + length (filter (is_new_in at) (zip (keys net) net.copies.items))
 together_is c width lines h at net differ n s =
     ap₂ (λ (a b : ℕ). a + b) (ap (λ (o : Option Relation). length (plain_of (counted_in o))) s.found)

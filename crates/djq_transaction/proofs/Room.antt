@@ -25,7 +25,7 @@ use Rattle.djq_transaction.specs.Held.{HeldLine}
 use Rattle.djq_transaction.specs.Lines.{same_row, first_lines, copies_before, copies_after, line_comes, with_so_many}
 use Rattle.djq_transaction.specs.Lines.{with_copies_left}
 use Rattle.djq_transaction.specs.LookUp.{AreSame, IsRowNamed}
-use Rattle.djq_transaction.specs.Judging.{names_row_before, is_new, rows_together, limit_if, refusal_by, row_refusal}
+use Rattle.djq_transaction.specs.Judging.{names_row_before, is_new, rows_reached, limit_if, refusal_by, row_refusal}
 use Rattle.djq_transaction.specs.Judging.{texts_refusal, texts_after, line_refusal, refused_at, refusal_behind, lines_refusal}
 use Rattle.djq_transaction.proofs.NamedRows.{same_are, firsts_step}
 use Rattle.djq_transaction.proofs.FirstLines.{not_named, lines_named, unnamed_copies, same_trans}
@@ -41,7 +41,7 @@ abbrev pub news : List Relation → List HeldLine → Bytes → ℕ
 news base front name = length (filter (is_new_of base name) (first_lines front))
 
 abbrev pub HaveRoom : List Relation → List HeldLine → Type 0
-HaveRoom base front = (name : Bytes) → 0 < news base front name → rows_together base front name ≤ ROWS
+HaveRoom base front = (name : Bytes) → 0 < news base front name → rows_reached base front name ≤ ROWS
 
 news_more : (base : List Relation) (front : List HeldLine) (h : HeldLine) (name : Bytes)
     → news base (front ++ h ∷ []) name
@@ -89,7 +89,7 @@ or_second false b e = e
 -- a row that no line names yet, and that wasn't there, has room
 new_room : (base : List Relation) (front : List HeldLine) (h : HeldLine)
     → list_any (λ g. same_row g h) (first_lines front) ≡ false → copies_before base h ≡ 0
-    → row_refusal base front h ≡ None → rows_together base front h.relation < ROWS
+    → row_refusal base front h ≡ None → rows_reached base front h.relation < ROWS
 new_room base front h e before passes = by h.verb passes
   where
     none : IsRowNamed (first_lines front) h → ⊥
@@ -109,15 +109,15 @@ new_room base front h e before passes = by h.verb passes
     fresh : is_new base front h ≡ true
     fresh = ap₂ (λ (a b : Bool). a && not b) (eq-eqb (copies_before base h) 0 before) unnamed
 
-    by : (v : Verb) → refusal_by v base front h ≡ None → rows_together base front h.relation < ROWS
+    by : (v : Verb) → refusal_by v base front h ≡ None → rows_reached base front h.relation < ROWS
     by Add p =
-        let full : (is_new base front h && nat_le ROWS (rows_together base front h.relation)) ≡ false =
+        let full : (is_new base front h && nat_le ROWS (rows_reached base front h.relation)) ≡ false =
         or_second (nat_le COPIES (copies_after base front h))
-        (is_new base front h && nat_le ROWS (rows_together base front h.relation))
+        (is_new base front h && nat_le ROWS (rows_reached base front h.relation))
         (no_limit (nat_le COPIES (copies_after base front h)
-        || (is_new base front h && nat_le ROWS (rows_together base front h.relation))) p) in
-        leb-false ROWS (rows_together base front h.relation)
-        (sym (ap (λ (b : Bool). b && nat_le ROWS (rows_together base front h.relation)) fresh) ∙ full)
+        || (is_new base front h && nat_le ROWS (rows_reached base front h.relation))) p) in
+        leb-false ROWS (rows_reached base front h.relation)
+        (sym (ap (λ (b : Bool). b && nat_le ROWS (rows_reached base front h.relation)) fresh) ∙ full)
     by Delete p =
         let none_left : cond (copies_after base front h == 0) (Some Absent) None ≡ Some Absent =
         ap (λ (b : Bool). let o : Option LineRefusal = cond b (Some Absent) None in o)
@@ -131,7 +131,7 @@ room_more base texts front h room passes name some =
     by (list_any (λ (g : HeldLine). same_row g h) (first_lines front)) refl (is_new_of base name h) refl
   where
     by : (b : Bool) → list_any (λ (g : HeldLine). same_row g h) (first_lines front) ≡ b → (q : Bool)
-        → is_new_of base name h ≡ q → rows_together base (front ++ h ∷ []) name ≤ ROWS
+        → is_new_of base name h ≡ q → rows_reached base (front ++ h ∷ []) name ≤ ROWS
     by true e q k =
         let same : news base (front ++ h ∷ []) name ≡ news base front name = news_more base front h name
         ∙ ap (λ (b : Bool). cond b (news base front name) (news base front name + cond (is_new_of base name h) 1 0)) e in
@@ -147,8 +147,8 @@ room_more base texts front h room passes name some =
         (first_holds (bytes_eq h.relation name) (copies_before base h == 0) k) in
         let before : copies_before base h ≡ 0 = eqb-true (copies_before base h) 0
         (second_true (bytes_eq h.relation name) (copies_before base h == 0) k) in
-        let less : rows_together base front name < ROWS =
-        subst (λ (n : Bytes). rows_together base front n < ROWS) its
+        let less : rows_reached base front name < ROWS =
+        subst (λ (n : Bytes). rows_reached base front n < ROWS) its
         (new_room base front h e before
         (none_first (row_refusal base front h) (texts_refusal (texts_after texts front) h) passes)) in
         omega (arith, more, less)

@@ -38,8 +38,8 @@ abbrev pub is_new : List Relation → List HeldLine → HeldLine → Bool
 is_new relations front h = (copies_before relations h == 0) && not (names_row_before front h)
 
 -- how many rows a relation has together with those that lines have added, still there or not
-abbrev pub rows_together : List Relation → List HeldLine → Bytes → ℕ
-rows_together relations front name = length (rows_of relations name)
+abbrev pub rows_reached : List Relation → List HeldLine → Bytes → ℕ
+rows_reached relations front name = length (rows_of relations name)
     + length (filter (λ g. bytes_eq g.relation name && (copies_before relations g == 0)) (first_lines front))
 
 -- a limit is reached, or isn't
@@ -50,7 +50,7 @@ limit_if b = if b then Some Limit else None
 -- may, or its relation as many rows; or a row that is to be deleted has no copy.
 abbrev pub refusal_by : Verb → List Relation → List HeldLine → HeldLine → Option LineRefusal
 refusal_by Add relations front h = limit_if (nat_le COPIES (copies_after relations front h)
-    || (is_new relations front h && nat_le ROWS (rows_together relations front h.relation)))
+    || (is_new relations front h && nat_le ROWS (rows_reached relations front h.relation)))
 refusal_by Delete relations front h = if copies_after relations front h == 0 then Some Absent else None
 
 abbrev pub row_refusal : List Relation → List HeldLine → HeldLine → Option LineRefusal

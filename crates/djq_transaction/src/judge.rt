@@ -2,7 +2,7 @@
 ghost use Rattle.std.specs.Prelude.{◌≡◌, ◌++◌, ◌∷◌, ◌<◌, List, false, length, nat_le, IfOk, IfErr};
 ghost use Rattle.djq_transaction.specs.Held as spec;
 ghost use Rattle.djq_transaction.specs.declared.lines.Verb.TheVariants.{Add as Adds, Delete as Deletes};
-ghost use Rattle.djq_transaction.specs.Judging.{rows_together, row_refusal, limit_if};
+ghost use Rattle.djq_transaction.specs.Judging.{rows_reached, row_refusal, limit_if};
 ghost use Rattle.djq_transaction.specs.LookUp.{Looked};
 ghost use Rattle.djq_transaction.specs.Net.{IsNetTable, IsNet, SuitsAt, line_at, CanBeJudged, PassesLine, RefusesLine};
 ghost use Rattle.djq_model.specs.Data.{has_row};
@@ -102,7 +102,7 @@ fn is_full(catalog: &Catalog, net: &Net, width: usize, id: RelationId) -> bool
     requires below { id.at < length catalog.now.relations }
     ensures { (lines : List spec.HeldLine) (h : spec.HeldLine)
         → IsNet catalog.now.relations catalog.now.texts width lines net.now → SuitsAt catalog.now.relations h id.at
-        → result ≡ nat_le ROWS (rows_together catalog.now.relations lines h.relation) }
+        → result ≡ nat_le ROWS (rows_reached catalog.now.relations lines h.relation) }
 {
     catalog.laws();
     let rows = catalog.row_count(id);
