@@ -1,15 +1,26 @@
 -- Without a path nothing is loaded; with one, its lines are loaded before the batch they leave open is ended.
 use Rattle.std.proofs.Common.{[], Bor, refl, sym, ap, subst, arith}
-use Rattle.std.specs.Prelude.{Option, Ok, Err}
+use Rattle.std.specs.Prelude.{Option, None, Some, Result, Ok, Err, IfOk, IfSome}
 use Rattle.std.proofs.lemmas.Result.{MatchResult-weaker}
 use Rattle.djq_model.specs.Data.{Bytes}
 use Rattle.djq_machine.specs.State.{State}
 use Rattle.djq_machine.specs.Call.{counts}
+use Rattle.djq_log.specs.declared.end.LogEnd.{LogEnd}
+use Rattle.djq_run.specs.declared.status.Status.{Status}
 use Rattle.djq_commands.specs.Views.{loading_in}
 use Rattle.djq_program_laws.specs.Logged.{disk_seen, log_seen}
 use Rattle.djq_program_laws.specs.Parts.{OpensLog}
 use Rattle.djq_program_laws.proofs.Logs.{begins_empty, never_began, ended_begins, unended_begins}
 use Rattle.djq_program.proofs.log.open_log.Goals as goal
+
+-- what holds of the disk holds if a log was opened
+if_opened : {P : Type 0} (opened : Result (Option LogEnd) Status) → P → IfOk opened (λ log. IfSome log (λ _. P))
+if_opened (Ok None) p = tt
+if_opened (Ok (Some end)) p = p
+if_opened (Err status) p = tt
+
+pub returns-in-Ok-read_log-clause-is_open : goal.returns-in-Ok-read_log-clause-is_open
+returns-in-Ok-read_log-clause-is_open g c = if_opened c.end_batch.result c.end_batch.ensures.is_open
 
 pub returns-in_default-clause-opens : goal.returns-in_default-clause-opens
 returns-in_default-clause-opens g c =
@@ -64,8 +75,8 @@ returns-in-Ok-read_log-clause-opens g c =
     (λ status cant. unended_begins path first mid last c.in-Ok-read_log.end status end state counted loaded then.listing
     c.in-Ok-read_log.ensures.reads cant ended.listing))
 
-pub returns-in-Err-clause-opens : goal.returns-in-Err-clause-opens
-returns-in-Err-clause-opens g c =
+pub returns-clause-opens : goal.returns-clause-opens
+returns-clause-opens g c =
     let told = g.D.Disk.told in
     let faults = g.D.Disk.faults in
     let before = c.args.steps.now in

@@ -80,7 +80,7 @@ returns g c =
       first = begun.1;
       start = c.open_log.new.machine.state;
       begins = begun.2;
-      gate = c.in-Ok-open_log.log;
+      end = c.in-Ok-open_log.log;
       lines = begun.3;
       listens = record { past = unheard.past; script = unheard.script; ids = unheard.ids };
       faults = unheard.faults;
