@@ -8,7 +8,7 @@ use std::test::Fail;
 
 /// The file after two rounds: the lines in the order in which they were run.
 const ROUNDS_FILE: &[u8] =
-    b"DJQLOG2\n\xff\0\0\0\0\0\0//\x15\xabD\x95\xe3\xd1\x15\xd3\0\x09rel r int\0\x07add r 3\0\x07add r 1\0\x07add r 4\0\x07add r 2\xff\0\0\0\0\0\0\x09\x09{\xcaF}G\xdbc\xab\0\x07add r 5\0";
+    b"DJQLOG2\n\xff\0\0\0\0\0\0//\xb4\x07\x13\xde\x0fR\xe8\xb4\0\x09rel r int\0\x07add r 3\0\x07add r 1\0\x07add r 4\0\x07add r 2\xff\0\0\0\0\0\0\x09\x09\xff\xb6\x93ZB\xb1\xc7\x13\0\x07add r 5\0";
 
 /// Three lines that are logged, and one that isn't.
 const ROW: &[u8] = b"open 1\nsay 1 rel r int\nsay 1 add r 7\nsay 1 add r 7\nsay 1 del r 9\n";
@@ -39,7 +39,7 @@ const BATCH_LINES: &[u8] = b"1< ok\n1< ok batch\n1< ok held 1\n1< ok held 2\n1< 
 
 /// The file after them.
 const BATCH_FILE: &[u8] =
-    b"DJQLOG2\n\xff\0\0\0\0\0\0\x0b\x0bW\x81\x8a\xec\xb0\xaa\x03\x87\0\x09rel r int\xff\0\0\0\0\0\0\x1f\x1fA\xceh<Y&\xc7\xa6\0\x05batch\0\x07add r 7\0\x07add r 8\0\x04done\0";
+    b"DJQLOG2\n\xff\0\0\0\0\0\0\x0b\x0b\x0d\x9d\xc8k\xd0\x8e\x7fn\0\x09rel r int\xff\0\0\0\0\0\0\x1f\x1f\xff\xa6\x9d\xc1 \xa8v\xc0\0\x05batch\0\x07add r 7\0\x07add r 8\0\x04done\0";
 
 /// Lines whose answers tell which of them were found: none, the first, or all.
 const BATCH_PROBE: &[u8] = b"open 1\nsay 1 del r 7\nsay 1 del r 8\n";

@@ -6,12 +6,11 @@ use djq_log_file::{Damage, Group, LogAppended, LogLine, LogOpened, Window, open_
 use std::test::Fail;
 
 /// A log of one group of one line.
-const ONE: &[u8] =
-    b"DJQLOG2\n\xff\0\0\0\0\0\0\x0b\x0bW\x81\x8a\xec\xb0\xaa\x03\x87\0\x09rel r int\0";
+const ONE: &[u8] = b"DJQLOG2\n\xff\0\0\0\0\0\0\x0b\x0b\x0d\x9d\xc8k\xd0\x8e\x7fn\0\x09rel r int\0";
 
 /// The same with a group of two lines behind it.
 const TWO: &[u8] =
-    b"DJQLOG2\n\xff\0\0\0\0\0\0\x0b\x0bW\x81\x8a\xec\xb0\xaa\x03\x87\0\x09rel r int\xff\0\0\0\0\0\0\x12\x12*\xf5\x12\xfb\xbeY9]\0\x07add r 7\0\x07add r 8\0";
+    b"DJQLOG2\n\xff\0\0\0\0\0\0\x0b\x0b\x0d\x9d\xc8k\xd0\x8e\x7fn\0\x09rel r int\xff\0\0\0\0\0\0\x12\x12L[)(\x84mH\xe7\0\x07add r 7\0\x07add r 8\0";
 
 /// Two lines that are appended together.
 struct Rows;
