@@ -86,30 +86,47 @@ fn groups_found(
     Ok(None)
 }
 
+/// Whether a call is a sync that was done, of the file or of the next one.
+fn is_sync(call: &DiskCall) -> bool {
+    matches!(
+        call,
+        DiskCall::Syncing(DiskDid::Done) | DiskCall::SyncingNext(DiskDid::Done)
+    )
+}
+
 /// How many syncs were done.
 fn syncs(calls: &[DiskCall]) -> u64 {
     let mut done = 0u64;
     for call in calls {
-        if let DiskCall::Syncing(DiskDid::Done) = call {
+        if is_sync(call) {
             done = done.saturating_add(1);
         }
     }
     done
 }
 
-/// The bytes after these calls, with what was written since the last sync or without it.
+/// The bytes after these calls, with what was written since the last sync or without it. The next file counts from
+/// its replacement on.
 fn image(rt: &HostRuntime, calls: &[DiskCall], unsynced: bool) -> Result<Vec<u8>, Fail> {
     let all = syncs(calls);
     let mut done = 0u64;
     let mut bytes = Vec::new(rt.alloc());
+    let mut next = Vec::new(rt.alloc());
     for call in calls {
+        if is_sync(call) {
+            done = done.saturating_add(1);
+        }
         match call {
             DiskCall::Writing(at, piece, _) => {
                 if unsynced || done < all {
                     put(&mut bytes, *at as usize, piece.as_slice())?;
                 }
             }
-            DiskCall::Syncing(DiskDid::Done) => done = done.saturating_add(1),
+            DiskCall::WritingNext(at, piece, _) => put(&mut next, *at as usize, piece.as_slice())?,
+            DiskCall::Replacing(DiskDid::Done) => {
+                bytes.clear();
+                bytes.extend_from_slice(&next)?;
+            }
             _ => {}
         }
     }
@@ -231,7 +248,7 @@ fn a_log_of_the_first_format_goes_on(rt: HostRuntime) -> Result<(), Fail> {
     let mut disk = MemDisk::of(rt.alloc(), FIRST_FORMAT)?;
     let (status, lines) = replay_logged(&rt, &mut disk, b"open 1\nsay 1 add r 7\n")?;
     assert_eq!(rt; status, Status::Done);
-    assert_eq!(rt; lines.as_slice(), b"1< ok added 1 1\n");
+    assert!(rt; lines.as_slice() == b"1< ok added 1 1\n".as_slice());
     let file = b"DJQLOG1\n\x01\0\x09rel r int\x01\0\x07add r 7\0".as_slice();
     assert!(rt; disk.bytes() == file);
     Ok(())
