@@ -365,8 +365,8 @@ def a_first_line_that_is_no_request_is_run_in_whatever_pieces():
 # ---------------------------------------------------------------- the disk
 
 
-def failed(call, path, reason):
-    return f"djq: {call} the log {path} failed: {reason}\n".encode()
+def failed(call, path, reason, file="the log"):
+    return f"djq: {call} {file} {path} failed: {reason}\n".encode()
 
 
 def system_reason(number):
@@ -416,7 +416,7 @@ def behind_a_link_the_folder_of_the_file_is_synced():
             expect((done.stdout, done.returncode), (b"", 0), path)
             with open(trace, encoding="utf-8") as file:
                 synced = re.findall(r"f(?:data)?sync\(\d+<(.*?)>\)\s+= 0", file.read())
-            expect(set(synced), {os.path.dirname(log), log}, path)
+            expect(set(synced), {os.path.dirname(log), log, f"{log}.new"}, path)
 
 
 @test
@@ -542,7 +542,7 @@ def a_write_of_the_log_past_the_limit_isnt_made():
         log = os.path.join(here, "log")
         for limit in (0, HEADER - 1):
             done = run(["replay", "--log", log], **limited(limit))
-            expect(done, (b"", 9, failed("writing", log, LIMIT_SAID)), f"a limit of {limit}")
+            expect(done, (b"", 9, failed("writing", log, LIMIT_SAID, "the new log")), f"a limit of {limit}")
             expect(os.path.getsize(log), 0, "nothing was written, so a later start takes it")
         expect(run(["replay", "--log", log], b"open 1\nsay 1 rel r int\n"), (b"1< ok\n", 0, b""))
         empty = os.path.getsize(log)
