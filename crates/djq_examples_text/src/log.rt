@@ -26,10 +26,10 @@ impl Group for Rows {
 
 /// The end of the log that is made in the file.
 fn made(rt: &HostRuntime, disk: &mut MemDisk) -> Result<Option<LogEnd>, Fail> {
-    match find_log(disk, Window::new(rt.alloc())?) {
-        LogFound::Made(end) => Ok(Some(end)),
-        LogFound::Ready(_) | LogFound::Unknown | LogFound::Failed => Ok(None),
-    }
+    let LogFound::Made(end) = find_log(disk, Window::new(rt.alloc())?) else {
+        return Ok(None);
+    };
+    Ok(Some(end))
 }
 
 /// The lines of the log that the file is, each after a bar and the last digit of its record's place, and its end, or
