@@ -25,11 +25,12 @@ import time
 sys.path.insert(0, os.path.join(os.path.dirname(os.path.abspath(__file__)), "..", "clients", "python"))
 import djq  # noqa: E402
 
-HELD = 1000  # rows of a batch
+HELD = 1000  # rows of a transaction
+UPDATES = 5000  # rows that are replaced
 LOGGED = 200  # rows that are added alone to a server with a log
 REGISTERED = 2_000_000  # rows over which a query is registered while another session waits
-SENTINEL = b"watch nothing_is_named_so"  # a line that is answered by LAST alone
-LAST = b"err 4 no query\n"
+SENTINEL = b"no command"  # a line that is answered by LAST alone, within a batch too
+LAST = b"err 1 syntax\n"
 LOG = "create table log(sign, a, b, c, d);"
 
 
@@ -273,6 +274,45 @@ def batches(program, count):
         same(len(deltas), -(-half // at_once), "batches")
         same(set().union(*deltas), {row[:4] for row in log}, "batches")
         yield f"batches: add a row below a watched join, {how}", ours / half, theirs / half, "ns"
+
+
+UPDATE_BASE = (
+    PAIR.format("r") + PAIR.format("s") + """
+    create trigger rd after delete on r begin
+      insert into log select '-', old.x, old.y, y, null from s where x = old.y; end;
+    create trigger ri after insert on r begin
+      insert into log select '+', new.x, new.y, y, null from s where x = new.y;
+      insert into log(sign) values ('at'); end;"""
+)  # fmt: skip
+
+
+def update_changes(count):
+    """The rows of the two relations of a join, and changes of which each two replace a row of the first one."""
+    half, chance, changes = count // 2, random.Random(7), []
+    rows = dict(pairs(half, half, 2))
+    fill = [("add", "r", row) for row in rows.items()] + [("add", "s", (w, z)) for z, w in pairs(half, half, 3)]
+    for _ in range(min(half, UPDATES)):
+        x = chance.randrange(half)
+        changes.append(("del", "r", (x, rows[x])))
+        rows[x] = (rows[x] + 1 + chance.randrange(half - 1)) % half
+        changes.append(("add", "r", (x, rows[x])))
+    return fill, changes
+
+
+def updates(program, count):
+    """Rows below a watched join that are replaced, each by a transaction, of which one delta is told."""
+    fill, changes = update_changes(count)
+    lines = lines_of(changes)
+    said = [line for at in range(0, len(lines), 2) for line in ["batch", *lines[at : at + 2], "done 2"]]
+    with Session(program) as session:
+        session.feed(JOIN + lines_of(fill) + ["watch q"])
+        ours, told = session.feed(said)
+    base = base_of(UPDATE_BASE)
+    apply(base, fill)
+    theirs, log = apply(base, changes, 2)
+    deltas = deltas_of_lines([line for line in told if not line.startswith(("ok batch", "ok held "))])
+    same(deltas, deltas_of_log(log, 3), "updates")
+    yield "updates: replace a row below a watched join", ours / len(deltas), theirs / len(deltas), "ns"
 
 
 def register(program, count):
@@ -552,6 +592,7 @@ PARTS = {
     "join": join,
     "copies": copies,
     "batches": batches,
+    "updates": updates,
     "register": register,
     "dead-ends": dead_ends,
     "fan-out": fan_out,
@@ -741,7 +782,7 @@ def logging(program, _count):
             taken["batch"].append(time.perf_counter() - begin)
     median = {what: statistics.median(times) * 1e6 for what, times in taken.items()}
     yield "with a log: an add, median", median["alone"], "us"
-    yield f"with a log: a batch of {HELD:,} rows, median", median["batch"], "us"
+    yield f"with a log: a transaction of {HELD:,} rows, median", median["batch"], "us"
     yield "  of that its `done`", median["done"], "us"
 
 

@@ -3,7 +3,7 @@
 
     bench/beside_c.py PROGRAM [--rows N] [--runs R] [--write]
 
-Three rows of bench.py's first table, with N rows (200,000): each the best of R runs. The same statements are given to SQLite by
+Four rows of bench.py's first table, with N rows (200,000): each the best of R runs. The same statements are given to SQLite by
 beside_c/sqlite.c, which is compiled with cc and SQLite's library (on Debian, gcc and libsqlite3-dev), and the rows that its
 triggers log are held against those that Python saw. `--write` puts the table into docs/PERFORMANCE.md.
 """
@@ -75,6 +75,16 @@ def join_in_c(program, count):
     return seconds / count
 
 
+def updates_in_c(program, count):
+    fill, changes = bench.update_changes(count)
+    said = InC(bench.UPDATE_BASE, fill + changes)
+    said.make(fill)
+    said.make(changes)
+    _, (seconds, *log) = said.told(program)
+    bench.same(tuple(log), logged(bench.UPDATE_BASE, fill, changes), "SQLite from C, updates")
+    return seconds / (len(changes) // 2)
+
+
 def fan_out_in_c(program, count):
     fill, changes = bench.fan_changes(count)
     said = InC(bench.FAN_BASE, fill + changes)
@@ -98,6 +108,7 @@ def dead_ends_in_c(program, count):
 
 ROWS = [
     ("insert below a join of two relations", "join", "join: add a row below q(x,y,z) <- r(x,y), s(y,z)", join_in_c),
+    ("a row replaced below a watched join", "updates", "updates: replace a row below a watched join", updates_in_c),
     ("a change that publishes 16 answers", "fan-out", "fan-out: a watched change that tells 16 answers", fan_out_in_c),
     ("the first ten answers of a join of three, most rows being dead ends", "dead-ends",
      "dead ends: open, first 10 answers, close", dead_ends_in_c),

@@ -12,7 +12,7 @@ process before its first row. What is left then is relations without rows, and w
     registrations   1,000 queries and 250 unions over 20,000 rows, some 200 at a time, watched and listed
     texts           1,000,000 different texts, each in a row that is deleted again
     sessions        60 sessions with 16 cursors, a batch of 1,000 long rows and half a line each, 30 times
-    random          rows, texts, batches, queries, unions, cursors, watches and sessions at random, for N minutes (60)
+    random          rows, texts, transactions, queries, unions, cursors, watches and sessions at random, for N minutes (60)
 
 S scales these numbers, but not the minutes. A table is printed, and with `--hold MIB` the status is 1 if any third leaves
 more than that. A wrong reply ends it with status 1 too: replies are compared with a model of the rows and of who uses
@@ -524,17 +524,36 @@ class Model:
             self.run_lines(client, [self.delete(name, self.chance.choice(bag.rows)) for _ in range(BURST) if bag.rows])
         self.run_line(client, b"del e -1", b"ok absent %d" % self.seq)
 
-    def batch(self, client):
-        count, before = self.chance.randrange(1, 1000), self.seq
+    def transaction(self, client):
+        """Rows are inserted and deleted as one change; now and then it is abandoned."""
+        count = self.chance.randrange(1, 1000)
         if self.chance.random() < 0.3:
-            rows = [b"add e %d" % self.chance.randrange(self.most) for _ in range(count)]
+            lines = [b"%s e %d" % (self.chance.choice((b"add", b"del")), self.chance.randrange(self.most)) for _ in range(count)]
             ends = (b"abandon", b"ok")
         else:
-            rows = [self.add(self.chance.choice(list(RELATIONS)))[0] for _ in range(count)]
-            new, self.seq = self.seq - before, min(self.seq, before + 1)
-            self.changed = {name: min(seq, self.seq) for name, seq in self.changed.items()}
-            ends = (b"done", b"ok done %d %d" % (self.seq, new))
-        self.run_lines(client, [(b"batch", b"ok batch"), *((row, b"ok held %d" % at) for at, row in enumerate(rows, 1)), ends])
+            lines, moved = self.moved(count)
+            ends = (b"done %d" % count, b"ok done %d %d" % (self.seq, moved))
+        self.run_lines(client, [(b"batch", b"ok batch"), *((line, b"ok held %d" % at) for at, line in enumerate(lines, 1)), ends])
+
+    def moved(self, count):
+        """So many lines that insert and delete rows, and how many rows are inserted or deleted once all are done."""
+        lines, copies, seq, changed = [], {}, self.seq, self.changed.copy()
+        for _ in range(count):
+            name = self.chance.choice(list(RELATIONS))
+            bag = self.bags[name]
+            if bag.rows and self.chance.random() < 0.4:
+                row = self.chance.choice(bag.rows)
+                copies.setdefault((name, row), bag.copies[row])
+                line, _ = self.delete(name, row)
+            else:
+                line, _ = self.add(name)
+                row = line.split(b" ", 2)[2]
+                copies.setdefault((name, row), bag.copies[row] - 1)
+            lines.append(line)
+        moved = [name for (name, row), before in copies.items() if (before == 0) != (row not in self.bags[name].copies)]
+        self.seq = seq + bool(moved)
+        self.changed = {**changed, **dict.fromkeys(moved, self.seq)}
+        return lines, len(moved)
 
     # queries
 
@@ -636,7 +655,7 @@ class Model:
     # all of it
 
     def step(self):
-        ways = {self.insert_some: 5, self.delete_some: 5, self.batch: 4, self.register: 4, self.unite: 1, self.drop: 4,
+        ways = {self.insert_some: 5, self.delete_some: 5, self.transaction: 4, self.register: 4, self.unite: 1, self.drop: 4,
                 self.open: 6, self.read: 2, self.close: 2, self.watch: 3, self.unwatch: 3, self.connect: 2, self.disconnect: 1}
         self.chance.choices(list(ways), list(ways.values()))[0](self.chance.choice(self.clients))
 

@@ -1,4 +1,4 @@
-"""The streams whose instructions `count.py` counts: nineteen kinds of work, each made for a number of rows.
+"""The streams whose instructions `count.py` counts: twenty-two kinds of work, each made for a number of rows.
 
 The letters name them in what `count.py` tells. Each stream is the same on every machine.
 """
@@ -49,6 +49,13 @@ def by_batches(rows):
     groups = [stream.counted[at : at + 1000] for at in range(0, rows, 1000)]
     stream.counted = [line for group in groups for line in ["batch", *group, "done"]]
     return stream
+
+
+def done_alone(rows):
+    """A thousand rows more below the same, of which `done` alone is counted."""
+    stream = below_a_join(rows + 1000)
+    before, held = stream.counted[:rows], stream.counted[rows:]
+    return Stream([*stream.before, *before, "batch", *held], ["done"], len(held))
 
 
 def filled_path(rows):
@@ -230,6 +237,34 @@ def watched_union(rows):
     return Stream([*filled_union(rows)[0], "watch u"], counted, len(counted), told)
 
 
+def updated(rows):
+    """Rows below a watched join that are replaced, each by a transaction, with two partners before and two others after."""
+    chance, keys, count = random.Random(11), rows // 4, 300
+    keyed = [chance.randrange(keys) for _ in range(rows // 2)]
+    lines = relations("rs") + [JOIN] + [add("r", at, key) for at, key in enumerate(keyed)]
+    lines += [add("s", at // 2, at) for at in range(2 * keys)]
+    counted = []
+    for _ in range(count):
+        at = chance.randrange(len(keyed))
+        old = keyed[at]
+        keyed[at] = (old + 1 + chance.randrange(keys - 1)) % keys
+        counted += ["batch", delete("r", at, old), add("r", at, keyed[at]), "done 2"]
+    return Stream([*lines, "watch q"], counted, count, 4 * count)
+
+
+def updated_unshown(rows):
+    """The same of a column that the query doesn't show: each row has 999 partners, which stay, so nothing is listed."""
+    chance, values, count = random.Random(12), [0] * rows, 300
+    lines = ["rel r int int int", "rel s int int", "query q(x,y,z) <- r(x,y,_), s(y,z)"]
+    lines += [add("s", 0, at) for at in range(999)] + [add("r", at, 0, 0) for at in range(rows)]
+    counted = []
+    for _ in range(count):
+        at = chance.randrange(rows)
+        values[at] += 1
+        counted += ["batch", delete("r", at, 0, values[at] - 1), add("r", at, 0, values[at]), "done 2"]
+    return Stream([*lines, "watch q"], counted, count)
+
+
 @dataclass
 class Workload:
     """A kind of work, how it is made for a number of rows, and that number."""
@@ -242,6 +277,7 @@ class Workload:
 WORKLOADS = {
     "A": Workload("an add below a join of two", below_a_join, 2000),
     "A2": Workload("a row of a batch of a thousand below the same", by_batches, 2000),
+    "A3": Workload("of that its `done` alone", done_alone, 2000),
     "B": Workload("the first ten answers of a path of three", first_ten, 3000),
     "B2": Workload("the same, most matches being dead ends", first_ten_behind_dead_ends, 4000),
     "C": Workload("an answer of a listing", listing, 4000),
@@ -259,6 +295,8 @@ WORKLOADS = {
     "L": Workload("the first ten answers of a union of four", first_ten_of_a_union, 4000),
     "L2": Workload("an answer of a union of four, most of two members", listing_of_a_union, 4000),
     "L3": Workload("a watched change of a union of four", watched_union, 4000),
+    "M": Workload("a row replaced below a watched join, 4 answers", updated, 4000),
+    "M2": Workload("the same in a column that isn't shown, 999 partners", updated_unshown, 1000),
 }
 
 BY_HAND = ["A", "B", "B2", "C", "D", "E", "F", "Fu", "G", "H", "I", "I2", "J"]  # those that the program by hand has

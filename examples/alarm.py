@@ -10,13 +10,20 @@ rule looks at three relations, so an alarm also moves when somebody else goes on
 In another terminal, `nc 127.0.0.1 7007` and then
 
     add readings 7 "heat" 95
+    batch
+    del readings 7 "heat" 95
+    add readings 7 "heat" 97
+    done 2
+    batch
     del oncall "heating" "Ada"
     add oncall "heating" "Cai"
-    del readings 7 "heat" 95
+    done 2
+    del readings 7 "heat" 97
 
-Where two gateways report the same reading, its row has two copies, and the alarm is cleared once both took it back.
-Where the connection was lost, what was missed is told as one change. With `--once` it prints the alarms that stand and
-ends; with `--lines N` it ends after N lines.
+A row that replaces another is one change with it, by a transaction: the alarm stands, and is told as changed. Where two
+gateways report the same reading, its row has two copies, and the alarm is cleared once both took it back. Where the
+connection was lost, what was missed is told as one change. With `--once` it prints the alarms that stand and ends; with
+`--lines N` it ends after N lines.
 """
 
 import argparse
@@ -53,15 +60,17 @@ def prepare(server):
 
 
 def lines(live):
-    """The alarms that stand, then those that are raised and cleared, without end."""
+    """The alarms that stand, then those that are raised, changed and cleared, without end."""
     for answer in sorted(live.answers):
         yield tell("stands", live.seq, answer)
     for change in live.changes():
-        # an alarm that moves from one person to another is cleared first
+        # what one change takes of a sensor and brings again stands
+        went, came = ({answer[:2] for answer in answers} for answers in (change.went, change.came))
         for answer in sorted(change.went):
-            yield tell("cleared", change.seq, answer)
+            if answer[:2] not in came:
+                yield tell("cleared", change.seq, answer)
         for answer in sorted(change.came):
-            yield tell("raised", change.seq, answer)
+            yield tell("changed" if answer[:2] in went else "raised", change.seq, answer)
 
 
 def tell(word, seq, answer):

@@ -8,10 +8,13 @@ It makes two relations, `machines` and `jobs`, with a few rows where they aren't
 beside its machine's name. In another terminal, `nc 127.0.0.1 7007` and then
 
     add jobs 13 2 "waiting"
+    batch
     del jobs 11 1 "running"
+    add jobs 11 1 "done"
+    done 2
 
-change the table at once. A `+` stands before the answers that came by the last change. With `--once` it prints the
-table as it is and ends; with `--changes N` it ends after N changes.
+change the table at once, the last four lines as one change. A `+` stands before the answers that came by the last change.
+With `--once` it prints the table as it is and ends; with `--changes N` it ends after N changes.
 """
 
 import argparse

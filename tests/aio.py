@@ -41,7 +41,7 @@ def random_commands(count, seed):
     for _ in range(count):
         yield chance.choice(["add", "delete"]), random_row(chance)
         if chance.random() < 0.1:
-            yield "batch", [random_row(chance) for _ in range(chance.randrange(6))]
+            yield "transaction", [random_line(chance) for _ in range(chance.randrange(6))]
         if chance.random() < 0.2:
             yield chance.choice([("has", ("q", 1, 2, "a")), ("has", ("p", "ü")), ("snapshot", ("q",)), ("has", ("z",))])
         if chance.random() < 0.1:
@@ -62,18 +62,27 @@ def random_row(chance):
     return relation, *row
 
 
-def batch_of(client, rows):
-    with client.batch() as batch:
-        for row in rows:
-            batch.add(*row)
-    return batch.result()
+def random_line(chance):
+    """A call within a transaction."""
+    name, row = chance.choice(["add", "add", "add", "delete", "update"]), random_row(chance)
+    if name != "update":
+        return name, *row
+    values = [chance.randrange(6) if isinstance(value, int) else chance.choice(TEXTS) for value in row[1:]]
+    return name, row[0], row[1:], values
 
 
-async def awaited_batch_of(client, rows):
-    async with client.batch() as batch:
-        for row in rows:
-            batch.add(*row)
-    return batch.result()
+def carried_out(client, lines):
+    with client.transaction() as change:
+        for name, *given in lines:
+            getattr(change, name)(*given)
+    return change.result()
+
+
+async def awaited_carried_out(client, lines):
+    async with client.transaction() as change:
+        for name, *given in lines:
+            getattr(change, name)(*given)
+    return change.result()
 
 
 def plain(result):
@@ -86,7 +95,7 @@ def one_after_another(server, commands):
     with server.connect() as client:
         for name, given in commands:
             try:
-                told.append(batch_of(client, given) if name == "batch" else getattr(client, name)(*given))
+                told.append(carried_out(client, given) if name == "transaction" else getattr(client, name)(*given))
             except djq.Error as error:
                 told.append(plain(error))
         rest = [change for query in "qu" for change in client.changes(query, 0.2)]
@@ -99,8 +108,8 @@ async def awaited(server, commands):
     async with djq.aio.connect("127.0.0.1", server.port, SECONDS) as client:
         for name, given in commands:
             try:
-                is_batch = name == "batch"
-                told.append(await (awaited_batch_of(client, given) if is_batch else getattr(client, name)(*given)))
+                is_own = name != "transaction"
+                told.append(await (getattr(client, name)(*given) if is_own else awaited_carried_out(client, given)))
             except djq.Error as error:
                 told.append(plain(error))
         rest = [change for query in "qu" async for change in client.changes(query, 0.2)]
@@ -122,7 +131,9 @@ def test_the_same_script(program):
 
 def test_the_same_methods(program):
     """What one has, the other has too, and with the same parameters."""
-    for kind in ("Batch", "Connection", "Cursor", "Expiring", "Live", "Lives", "Pipeline", "PipelinedBatch", "Table"):
+    for kind in (
+        "Connection", "Cursor", "Expiring", "Live", "Lives", "Pipeline", "PipelinedTransaction", "Table", "Transaction",
+    ):  # fmt: skip
         own, other = getattr(djq, kind), getattr(djq.aio, kind)
         for name, method in inspect.getmembers(own, inspect.isfunction):
             if not name.startswith("_") and name != "fileno":  # what is waited for is the loop's business
@@ -169,35 +180,65 @@ def test_pipelines_and_cursors(program):
         asyncio.run(pipelines(server))
 
 
-async def batches(server):
+async def transactions(server):
     async with djq.aio.connect("127.0.0.1", server.port, SECONDS) as client:
         await client.relation("r", int)
         await client.query("q(x) <- r(x)")
-        # what other tasks say meanwhile is answered, and put before or behind the batch
+        # what other tasks say meanwhile is answered, and sent before or after the transaction
         adds = [asyncio.create_task(client.add("r", -number)) for number in range(1, 101)]
-        both = [asyncio.create_task(awaited_batch_of(client, [("r", number) for number in range(n)])) for n in (10, 20)]
+        lines = [[("add", "r", number) for number in range(n)] for n in (10, 20)]
+        both = [asyncio.create_task(awaited_carried_out(client, some)) for some in lines]
         assert [(await one).rows for one in both] == [10, 10]
         assert [(await one).copies for one in adds] == [1] * 100
         seq = (await client.add("r", 0)).seq
         assert seq == 102
         # one that is cancelled is done whole or not at all, and leaves none open
-        rows = [("r", 1000 + number) for number in range(1000)]
+        lines = [("add", "r", 1000 + number) for number in range(1000)]
         for pause in (0, 0, 0.0005, 0.001, 0.002, 0.004, 0.008, 0.016, 0.032):
-            task = asyncio.create_task(awaited_batch_of(client, rows))
+            task = asyncio.create_task(awaited_carried_out(client, lines))
             await asyncio.sleep(pause)
             task.cancel()
             await asyncio.wait([task])
             there = len(await client.snapshot("q"))
             assert there in (120, 1120), there
-            for number in range(1000, 1000 + there - 120):
-                while (await client.delete("r", number)).copies:
-                    pass
-        assert (await awaited_batch_of(client, rows)).rows == 1000
+            if there == 1120:
+                gone = await awaited_carried_out(client, [("delete", "r", 1000 + number) for number in range(1000)])
+                assert gone.rows == 1000
+        assert (await awaited_carried_out(client, lines)).rows == 1000
 
 
-def test_batches(program):
+def test_transactions(program):
     with Server(program) as server:
-        asyncio.run(batches(server))
+        asyncio.run(transactions(server))
+
+
+async def updates(server):
+    """Tasks that add to one number each read it and replace it: none of them overwrites another's."""
+    async with client_of(server) as client, client_of(server) as other:
+        sums = [await one.table("sums", int, int, key=1) for one in (client, other)]
+        await sums[0].upsert(1, 0)
+
+        async def count(table):
+            for _ in range(10):
+                while True:
+                    old = table.get(1)
+                    try:
+                        await table.update(old or (1, 0), (1, (old or (1, 0))[1] + 1))
+                        break
+                    except djq.RowAbsent as error:
+                        assert error.number == 19
+
+        await asyncio.gather(*(count(table) for table in sums for _ in range(5)))
+        assert await client.snapshot("sums_rows") == {(1, 100)} == set(sums[0])
+        # a key that has a row keeps one, whoever replaces it
+        values = [(table, 1000 * place + turn) for turn in range(20) for place, table in enumerate(sums)]
+        await asyncio.gather(*(table.upsert(1, value) for table, value in values))
+        assert len(await client.snapshot("sums_rows")) == 1
+
+
+def test_updates_beside_each_other(program):
+    with Server(program) as server:
+        asyncio.run(updates(server))
 
 
 async def tasks(server):
@@ -225,19 +266,23 @@ async def tasks(server):
         assert {number for (number,) in await client.snapshot("every")} >= {n for n in range(500) if n % 3}
 
 
-async def batches_in_a_pipeline(server):
+async def transactions_in_a_pipeline(server):
     async with djq.aio.connect("127.0.0.1", server.port, SECONDS) as client:
         await client.relation("r", int)
         await client.query("q(x) <- r(x)")
         told = []
         async with client.pipeline(raises=False) as many:
             for rows in ([1, 2], [3, "four"], [5]):
-                async with many.batch() as order:
+                async with many.transaction() as order:
                     for row in rows:
                         order.add("r", row)
                 told.append(order)
+            async with many.transaction() as order:
+                order.update("r", (5,), (6,))
+                order.delete("r", 7)
+            told.append(order)
             one = await many.add("r", 6)
-            # other tasks' lines stand before or behind a batch, never in one
+            # other tasks' lines are before or after a transaction, never in one
             await asyncio.gather(*(client.add("r", 100 + number) for number in range(20)))
         assert [told[0].result(), told[2].result()] == [djq.Done(1, 2), djq.Done(2, 1)] and one.result().seq == 3
         try:
@@ -245,20 +290,21 @@ async def batches_in_a_pipeline(server):
             raise AssertionError("not raised")
         except djq.SomeRefused as error:
             assert (error.sent, error.refused, error.first[0].line) == (2, 1, 'add r "four"')
-        assert (many.sent, many.refused) == (4 + 3 + 3 + 1, 1), (many.sent, many.refused)
+        assert isinstance(many.first[1], djq.RowAbsent) and many.first[1].why == "one of 2 rows has no copy"
+        assert (many.sent, many.refused) == (4 + 4 + 3 + 5 + 1, 2), (many.sent, many.refused)
         assert len(await client.snapshot("q")) == 4 + 20
         try:
             async with client.pipeline() as many:
-                async with many.batch() as order:
+                async with many.transaction() as order:
                     order.add("r", "seven")
             raise AssertionError("not raised")
         except djq.SomeRefused as error:
-            assert (error.sent, error.refused) == (2, 1)
+            assert (error.sent, error.refused) == (3, 1)
 
 
-def test_batches_in_a_pipeline(program):
+def test_transactions_in_a_pipeline(program):
     with Server(program) as server:
-        asyncio.run(batches_in_a_pipeline(server))
+        asyncio.run(transactions_in_a_pipeline(server))
 
 
 async def rows_expire(server):
@@ -535,7 +581,7 @@ async def keyed(server):
         await other.add("keyed", 8, 8, "new")
         await table.upsert(8, 8, "newest")
         assert {row for row in await other.snapshot("keyed_rows") if row[0] == 8} == {(8, 8, "newest")}
-        # a row goes with all copies that others gave it, and comes back with them where the new one is refused
+        # a row goes with all copies that others gave it, and stays where the new one is refused
         assert await other.load("keyed", [(8, 8, "newest")] * 1500) == 0
         try:
             await table.upsert(8, 8, 8)
@@ -577,7 +623,8 @@ def test_a_reply_that_doesnt_come(program):
 
 
 TESTS = [
-    test_the_same_script, test_the_same_methods, test_pipelines_and_cursors, test_batches, test_batches_in_a_pipeline,
+    test_the_same_script, test_the_same_methods, test_pipelines_and_cursors, test_transactions,
+    test_updates_beside_each_other, test_transactions_in_a_pipeline,
     test_a_live_set_waits_for_its_first_start, test_rows_expire, test_tasks_share_a_connection,
     test_a_live_set_starts_while_rows_change, test_a_live_set_comes_back, test_several_live_sets,
     test_live_sets_find_out_that_a_server_is_stopped, test_a_table_with_a_key, test_a_reply_that_doesnt_come,

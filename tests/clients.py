@@ -103,6 +103,8 @@ def test_refusals_by_their_lines():
         ("err 16 unbound", djq.ComparisonUnbound),
         ("err 17 member", djq.MemberRefused),
         ("err 18 batch", djq.Misplaced),
+        ("err 19 absent", djq.RowAbsent),
+        ("err 20 held", djq.WrongCount),
         ("err 99 else", djq.Refused),
         ("no cyclic x,y x,z y,z", djq.Cyclic),
         ("no connex x,y x,z y,z", djq.NotFreeConnex),
@@ -132,14 +134,38 @@ def test_many_replies_are_counted():
             assert rows.done and (rows.changed, rows.replies) == (changed, len(replies)), (replies, rows.changed)
 
 
-def test_a_reply_to_a_batch():
+def test_replies_to_a_transaction():
+    lines = ["add r 1", "add r 2", "del r 3"]
+    held = b"ok batch\nok held 1\nok held 2\nok held 3\n"
+    for size in (1, 7, 1000):
+        for text, result, refused in (
+            (held + b"+ q 1\n- q 3\n+ q 2\nat q 7\nok done 7 3\n", djq.Done(7, 3), []),
+            (b"ok batch\nok held 1\nerr 7 type\nok held 2\nerr 20 held\n", djq.SomeRefused, [djq.WrongType]),
+            (held + b"err 19 absent\n", djq.RowAbsent, [djq.RowAbsent]),
+            (held + b"err 20 held\n", djq.WrongCount, [djq.WrongCount]),
+            (held + b"err 12 memory\n", djq.OutOfMemory, [djq.OutOfMemory]),
+            (held + b"end memory\n", djq.Ended, [djq.Ended]),
+        ):
+            protocol, failed = djq.Protocol(), []
+            commit = protocol.say_transaction(lines, failed.append)
+            assert protocol.outgoing == b"batch\nadd r 1\nadd r 2\ndel r 3\ndone 3\n" and protocol.due == 5
+            raises(djq.Error, commit.result)
+            for at in range(0, len(text), size):
+                protocol.feed(text[at : at + size])
+            assert commit.done and protocol.due == 0 and [type(error) for error in failed] == refused
+            if isinstance(result, djq.Done):
+                assert commit.result() == result and result.changed and not djq.Done(7, 0).changed
+                assert protocol.changes["q"][0][1] == djq.Change(7, {(1,), (2,)}, {(3,)})
+            else:
+                raises(result, commit.result)
     protocol = djq.Protocol()
-    rows = protocol.say_rows(["add r 1", "add r 2", "add r"], b"")
-    done = protocol.say("done", djq.protocol.READ_DONE)
-    protocol.feed(b"ok held 1\nok held 2\nerr 1 syntax\n+ q 1\n+ q 2\nat q 7\nok done 7 2\n")
-    assert (rows.replies, rows.changed, rows.refused) == (3, 0, 1) and rows.first[0].line == "add r"
-    assert done.result() == djq.Done(7, 2) and done.result().changed and not djq.Done(7, 0).changed
-    assert len(protocol.changes["q"]) == 1 and protocol.due == 0
+    commit = protocol.say_transaction(lines)
+    protocol.feed(held + b"err 19 absent\n")
+    assert raises(djq.RowAbsent, commit.result).why == "no copy for: del r 3"
+    protocol = djq.Protocol()
+    commit = protocol.say_transaction(lines)
+    protocol.lose(djq.Disconnected("lost"))
+    assert raises(djq.Unanswered, commit.result).line == "done 3"
 
 
 def test_replies_about_a_union():
@@ -215,7 +241,7 @@ def test_refusals(server):
 
 def test_an_error_class_for_each_number(server):
     # 12 needs a machine without memory; 13 comes only behind bytes without a line end, which this client doesn't send
-    assert set(djq.REFUSALS) == set(range(1, 19)) - {13, 15}
+    assert set(djq.REFUSALS) == set(range(1, 21)) - {13, 15}
     with server.connect() as client:
         client.relation("n", int, str)
         client.query("qn(x) <- n(x,_)")
@@ -236,6 +262,8 @@ def test_an_error_class_for_each_number(server):
             (16, lambda: client.query("qm(x) <- n(x,_), y < 5")),
             (17, lambda: client.union("qm", "qn", "qn")),
             (18, lambda: client._do("done", djq.protocol.READ_DONE)),
+            (19, lambda: carried_out(client, ("delete", "n", 7, "x"))),
+            (20, lambda: (client._do("batch", djq.protocol.READ_OK), client._do("done 1", djq.protocol.READ_DONE))),
         ):
             error = raises(djq.Refused, call)
             assert type(error) is djq.REFUSALS[number] and error.number == number, (number, error)
@@ -296,13 +324,21 @@ def test_unions(server):
         client.add("vb", 1, "a")
         client.add("vb", -1, "b")
         assert [told(), told()] == [(2, set(), set()), (3, set(), set())]
-        with client.batch() as batch:
+        with client.transaction() as change:
             for row in (("va", 2, "b"), ("vb", 2, "b"), ("vb", 3, "c")):
-                batch.add(*row)
-        assert batch.result() == djq.Done(seq + 4, 3) and told() == (4, {(2, "b"), (3, "c")}, set())
+                change.add(*row)
+        assert change.result() == djq.Done(seq + 4, 3) and told() == (4, {(2, "b"), (3, "c")}, set())
         client.delete("va", 1, "a")
         client.delete("vb", 1, "a")
         assert [told(), told()] == [(5, set(), set()), (6, set(), {(1, "a")})]
+        # an answer that one member loses and another one gains stays one
+        with client.transaction() as change:
+            change.delete("va", 2, "b")
+            change.update("vb", (3, "c"), (3, "d"))
+        assert change.result() == djq.Done(seq + 7, 3) and told() == (7, {(3, "d")}, {(3, "c")})
+        with client.transaction() as change:
+            change.update("vb", (3, "d"), (3, "c"))
+        assert told() == (8, {(3, "c")}, {(3, "d")})
         assert client.snapshot("qv") == set(client.answers("qv", page=1)) == {(2, "b"), (3, "c")}
         assert client.has("qv", 2, "b") and not client.has("qv", 1, "a")
         with client.cursor("qv") as cursor:
@@ -359,7 +395,7 @@ def test_a_live_union_beside_fresh_listings(server):
                 if draw.random() < 0.4:
                     table.upsert(key, value)
                 elif draw.random() < 0.3:
-                    batch_of(client, *[("vs", draw.randrange(4), key, draw.randrange(2)) for _ in range(3)])
+                    added_by(client, *[("vs", draw.randrange(4), key, draw.randrange(2)) for _ in range(3)])
                 else:
                     client.delete("vs", value, key, draw.randrange(2))
                 if draw.random() < 0.2:
@@ -386,7 +422,7 @@ def test_pipelines(server):
         assert set(client.answers("qc", page=7)) == {(y, x) for x, y in rows[1:500]}
 
 
-def test_batches_in_a_pipeline(server):
+def test_transactions_in_a_pipeline(server):
     with server.connect() as client, server.connect() as other:
         client.relation("po", int, str)
         client.query("qpo(o,who) <- po(o,who)")
@@ -394,7 +430,7 @@ def test_batches_in_a_pipeline(server):
         with client.pipeline() as many:
             first = many.add("po", 0, "alone")
             for number in range(1, 6):
-                with many.batch() as order:
+                with many.transaction() as order:
                     for row in range(number):
                         order.add("po", 10 * number + row, "bo")
                 orders.append(order)
@@ -407,17 +443,20 @@ def test_batches_in_a_pipeline(server):
         assert [len(change.came) for change in changes] == [1, 1, 2, 3, 4, 5]
 
 
-def test_batches_in_a_pipeline_that_are_refused(server):
+def test_transactions_in_a_pipeline_that_are_refused(server):
     with server.connect() as client:
         client.relation("pr", int)
         client.query("qpr(x) <- pr(x)")
 
         def orders(many):
             for rows in ([1, 2], [3, "four", "five"], [6], [7] * (djq.MOST_HELD + 1), [8]):
-                with many.batch() as order:
+                with many.transaction() as order:
                     for row in rows:
                         order.add("pr", row)
                 yield order
+            with many.transaction() as order:
+                order.update("pr", (99,), (100,))
+            yield order
 
         with client.pipeline(raises=False) as many:
             told = list(orders(many))
@@ -426,14 +465,15 @@ def test_batches_in_a_pipeline_that_are_refused(server):
         error = raises(djq.SomeRefused, told[1].result)
         assert (error.sent, error.refused, error.first[0].line) == (3, 2, 'add pr "four"')
         assert isinstance(raises(djq.SomeRefused, told[3].result).first[0], djq.LimitReached)
+        assert raises(djq.RowAbsent, told[5].result).why == "no copy for: del pr 99"
         raises(djq.NoRelation, refused.result)
         assert client.snapshot("qpr") == {(1,), (2,), (6,), (8,)}
         with_all = lambda many: (list(orders(many)), many.add("none", 1))
         error = raises(djq.SomeRefused, lambda: in_pipeline(client, with_all))
-        assert error.refused == 4 and error.sent == 5 + 1008 + 3 + 1, (error.sent, error.refused)
-        # a block that raises sends nothing of its batch, and the pipeline goes on
+        assert (error.refused, error.sent) == (5, 2 + 3 + 1 + djq.MOST_HELD + 1 + 1 + 2 + 6 * 2 + 1), error
+        # a block that raises sends nothing of its transaction, and the pipeline goes on
         with client.pipeline() as many:
-            with contextlib.suppress(ZeroDivisionError), many.batch() as order:
+            with contextlib.suppress(ZeroDivisionError), many.transaction() as order:
                 order.add("pr", 9)
                 order.add("pr", 1 // 0)
             more = many.add("pr", 10)
@@ -446,35 +486,77 @@ def in_pipeline(client, say):
         say(many)
 
 
-def batch_of(client, *rows):
-    """What becomes of a batch of these rows, each behind the name of its relation."""
-    with client.batch() as batch:
-        for row in rows:
-            batch.add(*row)
-    return batch.result()
+def carried_out(client, *lines):
+    """What becomes of a transaction of these calls, each a method's name and what it is given."""
+    with client.transaction() as change:
+        for name, *given in lines:
+            getattr(change, name)(*given)
+    return change.result()
 
 
-def test_batches(server):
+def added_by(client, *rows):
+    """What becomes of a transaction that adds these rows, each after the name of its relation."""
+    return carried_out(client, *[("add", *row) for row in rows])
+
+
+def test_transactions(server):
     with server.connect() as client, server.connect() as other:
         client.relation("bo", int, str)
         client.relation("bl", int, int, str)
         client.query("qbo(o,who,l,what) <- bo(o,who), bl(o,l,what)")
         seq = other.watch("qbo")
-        with client.batch() as batch:
+        with client.transaction() as change:
             for row in (("bl", 7, 1, "bolt"), ("bl", 7, 2, "nut"), ("bo", 7, "bo"), ("bo", 7, "bo")):
-                batch.add(*row)
+                change.add(*row)
             assert not client.has("qbo", 7, "bo", 1, "bolt"), "nothing is sent in the block"
-            raises(djq.Error, batch.result)
-        assert batch.result() == djq.Done(seq + 1, 3) and batch.result().changed
-        raises(djq.Error, lambda: batch.add("bo", 7, "bo"))
+            raises(djq.Error, change.result)
+        assert change.result() == djq.Done(seq + 1, 3) and change.result().changed
+        raises(djq.Error, lambda: change.add("bo", 7, "bo"))
         came = {(7, "bo", 1, "bolt"), (7, "bo", 2, "nut")}
         assert other.next_change("qbo", SECONDS) == djq.Change(seq + 1, came, set())
         assert client.delete("bo", 7, "bo") == djq.Removed(seq + 1, 1)
-        assert batch_of(client, ("bo", 7, "bo")) == djq.Done(seq + 1, 0)
-        assert batch_of(client) == djq.Done(seq + 1, 0) and not batch_of(client).changed
+        assert added_by(client, ("bo", 7, "bo")) == djq.Done(seq + 1, 0)
+        assert added_by(client) == djq.Done(seq + 1, 0) and not added_by(client).changed
 
 
-def test_batches_of_which_nothing_comes(server):
+def test_an_update_is_one_change(server):
+    """A row is replaced, moved and deleted by transactions, each of which watchers and live sets see as one change."""
+    with server.connect() as client, server.connect() as other:
+        client.relation("up", int, str)
+        client.relation("old", int, str)
+        client.query("qup(x,y) <- up(x,y)")
+        client.query("qkeys(x) <- up(x,_)")
+        client.load("up", [(1, "new"), (2, "new")])
+        seq = other.watch("qkeys")
+        with client.live("qup") as live:
+            with client.transaction() as change:
+                change.update("up", (1, "new"), (1, "paid"))
+            assert change.result() == djq.Done(seq + 1, 2) and change.result().changed
+            assert live.next(SECONDS) == djq.Change(seq + 1, {(1, "paid")}, {(1, "new")})
+            assert live.answers == {(1, "paid"), (2, "new")} == client.snapshot("qup")
+            assert other.next_change("qkeys", SECONDS) == djq.Change(seq + 1, set(), set()), "its answers stay"
+            with client.transaction() as change:  # a move
+                change.delete("up", 1, "paid")
+                change.add("old", 1, "paid")
+                change.update("up", (2, "new"), (2, "new"))  # which is there, and stays
+            assert change.result() == djq.Done(seq + 2, 2)
+            assert live.next(SECONDS) == djq.Change(seq + 2, set(), {(1, "paid")})
+            # what isn't there any more refuses all of it
+            lines = [("add", "up", 3, "new"), ("update", "up", (1, "paid"), (1, "sent"))]
+            error = raises(djq.RowAbsent, lambda: carried_out(client, *lines))
+            assert (error.number, error.line, error.why) == (19, "done 3", 'no copy for: del up 1 "paid"')
+            error = raises(djq.RowAbsent, lambda: carried_out(client, *[("delete", "up", 2, "new")] * 2))
+            assert error.why == "one of 2 rows has no copy" and live.next(0.2) is None
+            # half an update isn't said
+            change = client.transaction()
+            raises(TypeError, lambda: change.update("up", (2, "new"), (2, 0.5)))
+            raises(djq.BadName, lambda: change.update("Up", (2, "new"), (2, "old")))
+            with change:
+                change.add("up", 4, "new")
+            assert change.result().rows == 1 and client.snapshot("qup") == {(2, "new"), (4, "new")}
+
+
+def test_transactions_that_are_refused(server):
     with server.connect() as client:
         client.relation("bn", int, str)
         client.query("qbn(x,y) <- bn(x,y)")
@@ -483,17 +565,22 @@ def test_batches_of_which_nothing_comes(server):
             ([(8, "x"), (9, 9), (10, "y"), ("a", "b")], 2, "value 2 is an int, and its column text"),
             ([(8, "x"), (8, "x", 1)], 1, "3 values were given, and bn has 2 columns"),
         ):
-            error = raises(djq.SomeRefused, lambda: batch_of(client, *[("bn", *row) for row in rows]))
+            error = raises(djq.SomeRefused, lambda: added_by(client, *[("bn", *row) for row in rows]))
             assert (error.sent, error.refused, error.first[0].why) == (len(rows), refused, why), error
         for count in (1, 5000):
             rows = [("bn", number, "x") for number in range(djq.MOST_HELD + count)]
-            error = raises(djq.SomeRefused, lambda: batch_of(client, *rows))
+            error = raises(djq.SomeRefused, lambda: added_by(client, *rows))
             assert isinstance(error.first[0], djq.LimitReached) and error.first[0].line == f'add bn {djq.MOST_HELD} "x"'
+            assert (error.sent, error.refused) == (len(rows), count)
+        long = [("bn", number, 250 * "x") for number in range(djq.MOST_HELD)]
+        size = sum(len(f'add bn {number} ""') + 250 for number in range(djq.MOST_HELD))
+        error = raises(djq.SomeRefused, lambda: added_by(client, *long))
+        assert size > djq.HELD_BYTES and isinstance(error.first[0], djq.LimitReached), error
         # what can't be said ends the block, of which nothing is sent
         for kind, row in ((djq.BadName, ("No", 8)), (UnicodeError, ("bn", 8, "\ud800")), (TypeError, ("bn", 1.5, "x"))):
-            raises(kind, lambda: batch_of(client, ("bn", 8, "x"), row))
+            raises(kind, lambda: added_by(client, ("bn", 8, "x"), row))
         assert client.snapshot("qbn") == set() and client.watch("qbn") == seq
-        assert batch_of(client, *rows[: djq.MOST_HELD]) == djq.Done(seq + 1, djq.MOST_HELD)
+        assert added_by(client, *rows[: djq.MOST_HELD]) == djq.Done(seq + 1, djq.MOST_HELD)
         assert client.snapshot("qbn") == {(number, "x") for number in range(djq.MOST_HELD)}
 
 
@@ -505,8 +592,9 @@ def interrupt(*_):
     raise Interrupted
 
 
-def test_a_batch_that_is_interrupted(program):
-    """An interrupted call leaves no batch open, and of one whose server goes away it is known that nothing came."""
+def test_a_transaction_that_is_interrupted(program):
+    """An interrupted call leaves no transaction open: it is carried out whole. Of one whose server goes away it isn't
+    known whether it was."""
     before = signal.signal(signal.SIGALRM, interrupt)
     with Server(program) as server, server.connect() as client:
         client.relation("r", int)
@@ -514,16 +602,19 @@ def test_a_batch_that_is_interrupted(program):
         for _ in range(3):
             os.kill(server.process.pid, signal.SIGSTOP)
             signal.setitimer(signal.ITIMER_REAL, 0.2)
-            raises(Interrupted, lambda: batch_of(client, ("r", 1)))
+            raises(Interrupted, lambda: added_by(client, ("r", 1), ("r", 2)))
             os.kill(server.process.pid, signal.SIGCONT)
-            assert client.snapshot("q") == set()
-        assert batch_of(client, ("r", 1)) == djq.Done(1, 1)
-        batch = client.batch()
-        batch.add("r", 2)
-        server.process.kill()
-        server.process.wait()
-        error = raises(djq.Disconnected, lambda: batch.__exit__(None, None, None))
-        assert not isinstance(error, djq.Unanswered), error
+            assert client.snapshot("q") == {(1,), (2,)}
+            with client.transaction() as change:
+                change.delete("r", 1)
+                change.delete("r", 2)
+        assert added_by(client, ("r", 1)).rows == 1
+        os.kill(server.process.pid, signal.SIGSTOP)
+        killing = threading.Timer(0.3, server.process.kill)
+        killing.start()
+        error = raises(djq.Disconnected, lambda: added_by(client, ("r", 2)))
+        assert isinstance(error, djq.Unanswered) and error.line == "done 1", error
+        killing.join()
     signal.signal(signal.SIGALRM, before)
 
 
@@ -1050,7 +1141,17 @@ def test_a_table_with_a_key(server):
         other.add("keyed", 9, 9, "new")
         table.upsert(9, 9, "last")
         assert {row for row in other.snapshot("keyed_rows") if row[0] == 9} == {(9, 9, "last")}
-        # a row goes with all copies that others gave it, and comes back with them where the new one is refused
+        # an update is one change, and overwrites nothing that another client did
+        seq = other.watch("keyed_rows")
+        table.update((9, 9, "last"), (9, 9, "later"))
+        assert other.next_change("keyed_rows", SECONDS) == djq.Change(seq + 1, {(9, 9, "later")}, {(9, 9, "last")})
+        raises(djq.RowAbsent, lambda: table.update((9, 9, "last"), (9, 9, "lost")))
+        raises(ValueError, lambda: table.update((9, 9, "later"), (9, 8, "later")))
+        raises(djq.WrongType, lambda: table.update((9, 9, "later"), (9, 9, 9)))
+        table.upsert(9, 9, "last")
+        assert other.next_change("keyed_rows", SECONDS) == djq.Change(seq + 2, {(9, 9, "last")}, {(9, 9, "later")})
+        assert table.get(9, 9) == (9, 9, "last")
+        # a row goes with all copies that others gave it, and stays where the new one is refused
         assert other.load("keyed", [(9, 9, "last")] * 2500) == 0
         raises(djq.WrongType, lambda: table.upsert(9, 9, 9))
         assert other.add("keyed", 9, 9, "last").copies == 2502
@@ -1129,20 +1230,22 @@ def test_alarm(program):
         client.add("readings", 7, "heat", 95)
         stands = "stands 6: sensor 7 has heat at 95 %, heating calls Ada\n"
         assert output(server, "alarm.py", "--once") == stands
-        with example(server, "alarm.py", "--lines", "5") as process:
+        with example(server, "alarm.py", "--lines", "6") as process:
             hear(process, stands)
             # a second gateway reports the same, and takes it back: nothing is told
             row = ("readings", 7, "heat", 95)
             assert client.add(*row).copies == 2 and client.delete(*row).copies == 1
             client.add("readings", 8, "heat", 89)  # below the threshold
-            client.delete("oncall", "heating", "Ada")
-            client.add("oncall", "heating", "Cai")
+            carried_out(client, ("update", "readings", (7, "heat", 95), (7, "heat", 97)))
+            carried_out(client, ("update", "oncall", ("heating", "Ada"), ("heating", "Cai")))
             client.add("minds", "heat", "plumbing")
             client.add("readings", 9, "damp", 90)
-            said = "sensor 7 has heat at 95 %, heating calls"
-            hear(process, f"cleared 8: {said} Ada\nraised 9: {said} Cai")
-            hear(process, "raised 10: sensor 7 has heat at 95 %, plumbing calls Bo")
+            carried_out(client, ("update", "readings", (9, "damp", 90), (9, "damp", 20)))
+            hear(process, "changed 8: sensor 7 has heat at 97 %, heating calls Ada")
+            hear(process, "changed 9: sensor 7 has heat at 97 %, heating calls Cai")
+            hear(process, "raised 10: sensor 7 has heat at 97 %, plumbing calls Bo")
             hear(process, "raised 11: sensor 9 has damp at 90 %, plumbing calls Bo")
+            hear(process, "cleared 12: sensor 9 has damp at 90 %, plumbing calls Bo")
             assert process.wait(SECONDS) == 0
 
 
@@ -1161,7 +1264,7 @@ def test_rules(program):
             client.delete("levels", 11, 5)
             client.delete("bearings", 1, 85)
             hear(process, "cleared 11: pump 1 may run")
-            batch_of(client, ("bearings", 1, 85), ("levels", 11, 5))
+            added_by(client, ("bearings", 1, 85), ("levels", 11, 5))
             hear(process, "raised 12: pump 1 has to stop, it is dry and hot")
             client.delete("pumps", 2, 12, "running")
             hear(process, "cleared 13: pump 2 may run")
@@ -1246,24 +1349,24 @@ def test_stop(program):
 
 ALONE = [
     test_values_there_and_back, test_answers_there_and_back, test_deltas_between_replies, test_changes_up_to_one,
-    test_refusals_by_their_lines, test_many_replies_are_counted, test_a_reply_to_a_batch,
+    test_refusals_by_their_lines, test_many_replies_are_counted, test_replies_to_a_transaction,
     test_replies_about_a_union, test_an_end_fails_what_is_due,
 ]  # fmt: skip
 SERVED = [
     test_commands, test_refusals, test_an_error_class_for_each_number, test_comparisons, test_texts_and_joins,
-    test_unions, test_unions_are_refused, test_a_live_union_beside_fresh_listings, test_pipelines, test_batches,
-    test_batches_of_which_nothing_comes, test_random_rows_by_two_clients, test_ends,
+    test_unions, test_unions_are_refused, test_a_live_union_beside_fresh_listings, test_pipelines, test_transactions, test_an_update_is_one_change,
+    test_transactions_that_are_refused, test_random_rows_by_two_clients, test_ends,
     test_watch_and_unwatch, test_a_watched_query_is_in_use, test_two_queries_are_told_in_order_of_registration,
     test_live_beside_a_fresh_listing, test_live_begins_while_rows_change, test_a_stalled_reader_comes_back,
     test_errors_tell_what_is_wrong, test_what_isnt_sent, test_unwatch_forgets,
     test_several_live_sets_over_one_connection, test_more_descriptors_than_select_takes, test_loads,
-    test_a_table_with_a_key, test_batches_in_a_pipeline, test_batches_in_a_pipeline_that_are_refused, test_two_threads,
+    test_a_table_with_a_key, test_transactions_in_a_pipeline, test_transactions_in_a_pipeline_that_are_refused, test_two_threads,
     test_queries_over_several_lines,
 ]  # fmt: skip
 # each with a server of its own
 APART = [
     test_explain, test_stop, test_dashboard, test_alarm, test_rules, test_cache, test_a_reply_that_doesnt_come,
-    test_a_server_that_is_started_again_with_its_log, test_a_batch_that_is_interrupted,
+    test_a_server_that_is_started_again_with_its_log, test_a_transaction_that_is_interrupted,
     test_a_live_set_waits_for_its_first_start, test_a_live_set_says_what_it_waits_for,
     test_what_ends_a_live_set_names_its_query, test_an_end_of_a_live_set_by_the_server_names_its_query,
     *pages.TESTS, *busy.TESTS,

@@ -9,11 +9,13 @@ It needs Python's standard library alone. One line is printed for each place tha
 
 A block of a page that begins with ```lines is a session, and the ```replies behind it what is answered. In a block
 ```session each line has its reply beside it, at least two spaces away, and further replies stand alone below, also behind
-spaces. A block ```session more goes on with the session before it. In all, answers (`= ..`) that stand together come in any order.
+spaces. A block ```session more goes on with the session before it. In all, answers (`= ..`) that stand together come in any order,
+and so do the lines of a delta (`+ ..`, `- ..`).
 The Python sessions of docs/CLIENT.md are run over one server, and the page has to name each method and error of the client.
 """
 
 import glob
+import itertools
 import os
 import re
 import subprocess
@@ -273,14 +275,11 @@ def sessions(page):
 
 
 def in_any_order(replies):
-    """The replies, the answers that stand together in order."""
-    ordered, run = [], []
-    for reply in replies + [None]:
-        if reply is not None and reply.startswith("= "):
-            run.append(reply)
-        else:
-            ordered += sorted(run) + ([reply] if reply is not None else [])
-            run = []
+    """The replies, with the answers that stand together in order, and the lines of each delta."""
+    of_one_block = lambda reply: "=" if reply.startswith("= ") else "+" if reply.startswith(("+ ", "- ")) else None
+    ordered = []
+    for block, run in itertools.groupby(replies, of_one_block):
+        ordered += sorted(run) if block else run
     return ordered
 
 
@@ -297,7 +296,7 @@ def shown_sessions(program):
 # The client's page
 
 
-KINDS = ("Connection", "Cursor", "Pipeline", "Batch", "Live", "Lives", "Index", "Table", "Expiring")
+KINDS = ("Connection", "Cursor", "Pipeline", "Transaction", "Live", "Lives", "Index", "Table", "Expiring")
 
 
 def client_page(program):

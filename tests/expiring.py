@@ -55,8 +55,8 @@ def test_ten_thousand_rows(program):
             clock.now += 0.001
             assert sorted(seen.expire()) == rows[1::2] and seen.expire() == []
             assert set(seen.table) == set(rows[::2]) and seen.left(1) is None
-            seqs = [change.seq for change in live.changes(0.5)]
-            assert len(seqs) == ROWS // 2 and live.answers == set(rows[::2])
+            gone = [len(change.went) for change in live.changes(0.5)]
+            assert sum(gone) == ROWS // 2 and len(gone) == ROWS // 2000 and live.answers == set(rows[::2]), gone
         # nothing stays of those that went
         assert {key for key, _ in client.snapshot("seen_due_rows")} == {key for key, _ in rows[::2]}
         clock.now += 1000
@@ -182,7 +182,7 @@ def test_a_renewal_beside_an_expiry(program):
 
 
 def test_a_renewal_just_before_a_row_goes(program):
-    """A row that was renewed behind the look at what is due, and before it went, comes back."""
+    """A row that is renewed after the look at what is due, and before it goes, stays: watchers see nothing of it."""
     clock = Clock()
     with Server(program) as server:
         with (
@@ -192,16 +192,31 @@ def test_a_renewal_just_before_a_row_goes(program):
             rows = [(number, "") for number in range(20)]
             two.renew_all(rows)
             clock.now += 10
-            send = one._send
+            carry_out, tries = one._carry_out, []
 
-            def renewed_first(relation, come, go):
-                if relation == "seen" and go:
+            def renewed_first(edit):
+                if not tries:
                     assert two.renew_all(rows[:15]) == 0
-                send(relation, come, go)
+                tries.append(len(edit.rows))
+                return carry_out(edit)
 
-            one._send = renewed_first
-            assert sorted(one.expire()) == rows[15:]
+            one._carry_out = renewed_first
+            with client.live("seen_rows") as live:
+                assert sorted(one.expire()) == rows[15:] and tries == [20, 5], tries
+                assert [(len(change.came), change.went) for change in live.changes(0.3)] == [(0, set(rows[15:]))]
             assert client.snapshot("seen_rows") == set(rows[:15]) == set(two.table) and two.left(3) == 10
+            # a renewal that comes second is made anew too: the rows are there again
+            carry_out, tries = two._carry_out, []
+
+            def expired_first(edit):
+                if not tries:
+                    assert len(one.expire()) == 15
+                tries.append(len(edit.rows))
+                return carry_out(edit)
+
+            two._carry_out, one._carry_out = expired_first, type(one)._carry_out.__get__(one)
+            clock.now += 10
+            assert two.renew_all(rows[:15]) == 15 and tries == [0, 15] and set(one.table) == set(rows[:15]), tries
 
 
 def test_keys_of_several_columns(program):

@@ -222,12 +222,12 @@ QUERIES = ["a(x) <- ra(x)", "ab(x) <- ra(x), rb(x)", "b(x) <- rb(x)"]
 def moved(client, draw, rows, states):
     """One random change of rows, with what the queries answer behind it by its number."""
     if draw.random() < 0.3:
-        with client.batch() as batch:
-            some = {(draw.choice(["ra", "rb"]), draw.randrange(6)) for _ in range(3)} - rows
+        with client.transaction() as change:
+            some = {(draw.choice(["ra", "rb"]), draw.randrange(6)) for _ in range(4)}
             for row in some:
-                batch.add(*row)
-        rows |= some
-        seq = batch.result().seq
+                (change.delete if row in rows else change.add)(*row)
+        rows ^= some
+        seq = change.result().seq
     else:
         row = (draw.choice(["ra", "rb"]), draw.randrange(6))
         seq = (client.delete if row in rows else client.add)(*row).seq

@@ -244,6 +244,22 @@ add orders 6 "flo"
 done
 next a 1000
 batch
+del items 4 "washer"
+add items 4 "gear"
+del orders 4 "dee"
+add stock "gear" 2
+del stock "gear" 2
+done 5
+next a 1000
+next g 1000
+close a
+open a placed
+batch
+add items 6 "gear"
+del orders 9 "no"
+done
+next a 1000
+batch
 add orders 4 "dee"
 done
 unwatch placed
@@ -362,9 +378,9 @@ class Refused:
         return replies
 
     def kind(self, at):
-        """The word of a command; an `add` in a batch is its own kind."""
+        """The word of a command; a line that a batch holds is its own kind."""
         word = self.lines[at].split(b" ")[0]
-        return b"hold" if word == b"add" and self.before[at][1] is not None else word
+        return b"hold" if word in (b"add", b"del") and self.before[at][1] is not None else word
 
     def allowed(self, at):
         """The lists of replies of which one follows if command `at` has the reply `err 12 memory`."""

@@ -5,7 +5,7 @@
 
 A server with a log is killed by SIGKILL while changes arrive, many times over; then a new one is started on the same
 file. It has to have every change that was answered, and nothing that wasn't sent: the changes are of such a kind that
-the number of changes alone determines which rows there are. Some are batches of several rows, which are there all or
+the number of changes alone determines which rows there are. Some are transactions, whose rows come and go all or
 none. Then logs of both formats are cut at each byte, and each bit is flipped in which a start looks for damage; what a
 start does of it is compared with what tests/log_format.py reads. A disk is full, and a second server is started on the
 same file. One line is printed for each test that fails, and last `N passed, N failed`; the status is 0 if none failed.
@@ -139,19 +139,20 @@ def ask(connection, lines):
 BEGIN = b"rel r int int\nquery q(x) <- r(x,y), y >= 0\nquery p(x) <- r(x,y), y >= 0, x < 50\nunion u p q\n"
 
 
-def of_batch(at):
-    """The rows of a batch, one of them twice."""
+def inserted_by(at):
+    """The rows that a transaction inserts, one of them with two copies."""
     return [at, at + 1000000, at, at + 2000000]
 
 
 def change(number):
-    """The change of this number, from 1: three rows come, then several by a batch, and then the first of the three
-    goes."""
+    """The change of this number, from 1: three rows come, then a transaction replaces the last of them by several, and then
+    the first of the three goes."""
     at = number - 1
     if at % 5 == 4:
         return b"del r %d 0\n" % (at - 4)
     if at % 5 == 3:
-        return b"batch\n" + b"".join(b"add r %d 0\n" % row for row in of_batch(at)) + b"done\n"
+        held = [b"del r %d 0\n" % (at - 1), *(b"add r %d 0\n" % row for row in inserted_by(at))]
+        return b"batch\n" + b"".join(held) + b"done %d\n" % len(held)
     return b"add r %d 0\n" % at
 
 
@@ -161,8 +162,11 @@ def rows_after(count):
     for at in range(count):
         if at % 5 == 4:
             kept.discard(at - 4)
+        elif at % 5 == 3:
+            kept.discard(at - 1)
+            kept.update(inserted_by(at))
         else:
-            kept.update(of_batch(at) if at % 5 == 3 else [at])
+            kept.add(at)
     return kept
 
 
@@ -287,27 +291,32 @@ def a_schedule_is_kept(program, folder, options):
 
 
 @test
-def a_batch_is_kept_whole(program, folder, options):
+def a_transaction_is_kept_whole(program, folder, options):
     for form in FORMATS:
-        a_batch_in_a_log(program, os.path.join(folder, form.__name__), form)
+        a_transaction_in_a_log(program, os.path.join(folder, form.__name__), form)
 
 
-def a_batch_in_a_log(program, log, form):
+def a_transaction_in_a_log(program, log, form):
     begin = [[b"rel r int int"]]
-    held = [b"add r 1 2", b" add  r 2 03 ", b"add r 1 2"]
+    held = [b"add r 1 2", b" add  r 2 03 ", b"del r 1 2", b"add r 1 2", b"  del r  2 3", b"add r 2 3", b"add r 1 2"]
     said = [b"rel r int int", b"batch", *held, b"add r 1", b"has q 1"]
-    told = [b"ok", b"ok batch", b"ok held 1", b"ok held 2", b"ok held 3", b"err 6 arity", b"err 18 batch"]
-    for open_still in ([], [b"done"], [b"batch"], [b"batch", b"add r 5 5"], [b"batch", b"add r 5 5", b"abandon"]):
-        lines = [*said, b"done", b"batch", b"done", b"batch", b"add r 9 9", b"abandon", *open_still]
+    told = [b"ok", b"ok batch", *(b"ok held %d" % (at + 1) for at in range(len(held))), b"err 6 arity", b"err 18 batch"]
+    for open_still in ([], [b"done"], [b"batch"], [b"batch", b"del r 5 5"], [b"batch", b"add r 5 5", b"abandon"]):
+        lines = [*said, b"done 07", b"batch", b"done", b"batch", b"add r 9 9", b"abandon", *open_still]
         write(log, form(begin))
         schedule = b"open 1\n" + b"".join(b"say 1 %s\n" % line for line in lines[1:])
         written, status, _ = replay(program, log, schedule)
         expect(status, 0, "status")
-        expect(written.splitlines()[:8], [b"1< " + line for line in [*told[1:], b"ok done 1 2", b"ok batch"]], "replies")
+        want = [*told[1:], b"ok done 1 2", b"ok batch"]
+        expect(written.splitlines()[: len(want)], [b"1< " + line for line in want], "replies")
         whole = form([*begin, [b"batch", *held, b"done"], [b"batch", b"done"]])
-        expect(read(log), whole, "the batches that were done, as their lines were sent")
+        expect(read(log), whole, "what was done, as its lines were sent")
     expect(replay(program, log, b"open 1\nsay 1 del r 1 2\nsay 1 del r 2 3\n")[:2],
            (b"1< ok removed 1 1\n1< ok removed 2 0\n", 0), "the copies")
+    # a change and its copies alone
+    write(log, form([*begin, [b"add r 1 2"], [b"batch", b"del r 1 2", b"add r 1 3", b"done"], [b"batch", b"add r 1 3", b"done 1"]]))
+    expect(replay(program, log, b"open 1\nsay 1 del r 1 2\nsay 1 del r 1 3\nsay 1 del r 1 3\n")[:2],
+           (b"1< ok absent 2\n1< ok removed 2 1\n1< ok removed 3 0\n", 0), "loaded")
 
 
 @test
@@ -331,11 +340,13 @@ def unions_are_kept(program, folder, options):
 
 
 @test
-def a_refused_batch_isnt_kept(program, folder, options):
+def a_refused_transaction_isnt_kept(program, folder, options):
     log = os.path.join(folder, "refused")
     schedule = b"open 1\nopen 2\nsay 1 rel r int\nsay 1 done\nsay 1 batch\nsay 2 batch\nsay 1 rel s int\nsay 1 add r 1\n" \
-        b"say 2 add r 7\nsay 1 abandon\nsay 2 quit\n"
-    expect(replay(program, log, schedule)[1], 0, "status")
+        b"say 2 add r 7\nsay 1 abandon\nsay 2 quit\n" \
+        b"say 1 batch\nsay 1 add r 1\nsay 1 del r 2\nsay 1 done\nsay 1 batch\nsay 1 add r 1\nsay 1 done 2\n"
+    told, status, _ = replay(program, log, schedule)
+    expect((status, told.splitlines()[-1], told.count(b"err 19 absent")), (0, b"1< err 20 held", 1), "replies")
     expect(read(log), log_format.write([[b"rel r int"]]), "the file")
 
 
@@ -343,7 +354,7 @@ def a_refused_batch_isnt_kept(program, folder, options):
 def a_file_that_ends_within_a_batch(program, folder, options):
     log = os.path.join(folder, "within")
     for form in FORMATS:
-        for held in ([], [b"add r 2"], [b"add r 2", b"add r 1", b"add r 3"]):
+        for held in ([], [b"add r 2"], [b"add r 2", b"add r 1", b"add r 3"], [b"del r 1"], [b"del r 9", b"add r 2", b"del r 1"]):
             begun = [*singles([b"rel r int", b"add r 1"]), [b"batch", *held]]
             write(log, form(begun))
             expect(replay(program, log)[:2], (b"", 0), f"{held}: loaded")
@@ -353,7 +364,7 @@ def a_file_that_ends_within_a_batch(program, folder, options):
             expect(read(log), whole, f"{held}: nothing more is logged")
             told, status, _ = replay(program, log, b"open 1\nsay 1 done\nsay 1 add r 1\nsay 1 add r 2\n")
             want = b"1< err 18 batch\n1< ok added 1 2\n1< ok added 2 1\n"
-            expect((told, status), (want, 0), f"{held}: none of its rows was inserted")
+            expect((told, status), (want, 0), f"{held}: nothing of it was carried out")
 
 
 @test
@@ -374,8 +385,10 @@ def a_refused_line(program, folder, options):
 @test
 def a_refused_line_of_a_batch(program, folder, options):
     log = os.path.join(folder, "refused")
-    full = [b"add r 1"] * 1000
-    for lines in ([b"done"], [b"abandon"], [b"batch", b"batch"], [b"batch", b"rel s int"], [b"batch", b"del r 1"],
+    full = [b"add r 1"] * 65536
+    for lines in ([b"done"], [b"abandon"], [b"batch", b"batch"], [b"batch", b"rel s int"], [b"batch", b"del r 1", b"done"],
+                  [b"batch", b"add r 1", b"del r 2", b"done"], [b"batch", b"del r 1", b"add r 1", b"done 2"], [b"batch", b"del z 1"],
+                  [b"batch", b"add r 1", b"done 2"], [b"batch", b"done 1"], [b"done 0"], [b"batch", b"del r 1 1"],
                   [b"batch", b"quit"], [b"batch", b"union u q q"], [b"batch", b"add z 1"],
                   [b"batch", b"add r 1", b"add r 1 1"], [b"batch", b"done", b"done"],
                   [b"batch", b"add r 1", b"abandon", b"abandon"], [b"batch", *full, b"add r 1"], [b"batch", b"add r 1", b"drop q"]):
@@ -386,7 +399,7 @@ def a_refused_line_of_a_batch(program, folder, options):
             expect(read(log), content, "the file")
     for content, _ in shapes([b"rel r int", b"batch", *full, b"done", b"batch", b"abandon"]):
         write(log, content)
-        expect(replay(program, log, b"open 1\nsay 1 add r 1\n")[:2], (b"1< ok added 1 1001\n", 0), "a batch at its limit")
+        expect(replay(program, log, b"open 1\nsay 1 add r 1\n")[:2], (b"1< ok added 1 65537\n", 0), "a batch at its limit")
 
 
 # ---------------------------------------------------------------- the formats
@@ -440,7 +453,7 @@ def an_unbegun_file_is_made_a_log(program, folder, options):
 
 @test
 def a_log_of_format_1_is_continued_as_one(program, folder, options):
-    log, more = os.path.join(folder, "first"), [b"rel more int", b"add more 7", b"batch", b"add more 7", b"add more 8", b"done"]
+    log, more = os.path.join(folder, "first"), [b"rel more int", b"add more 7", b"batch", b"add more 7", b"add more 8", b"del more 7", b"done"]
     schedule = b"open 1\n" + b"".join(b"say 1 %s\n" % line for line in more)
     for name in ("format-1", "format-1-crash", "format-1-cut"):
         content = read(os.path.join(HERE, "logs", name + ".log"))
@@ -452,7 +465,7 @@ def a_log_of_format_1_is_continued_as_one(program, folder, options):
         expect((status, b"err" in told, told.count(b"1< ok")), (0, False, len(more)), f"{name}: continued")
         expect(groups_of(log, log_format.FIRST), lines + abandoned + singles(more), f"{name}: its lines and more")
         told, status, _ = replay(program, log, b"open 1\nsay 1 add more 7\n")
-        expect((status, told.split()[-1]), (0, b"3"), f"{name}: loaded again")
+        expect((status, told.split()[-1]), (0, b"2"), f"{name}: loaded again")
 
 
 # ---------------------------------------------------------------- cuts and flips
@@ -465,7 +478,7 @@ SAMPLE = [
     [b"union u p q", b"query gone(x) <- r(x,_)", b"union v q p"],
     *singles([b"add r 1 2", b'add s 7 "a \\"b\\"\\n"']),
     [b"add r 3 4", b"add r 1 2", b"del r 3 4", b"add r 60 1"],
-    [b"batch", b"add r 5 6", b' add  s 8 "c"', b"add r 5 6", b"done", b"drop gone"],
+    [b"batch", b"add r 5 6", b' add  s 8 "c"', b"del r 60 1", b"add r 61 1", b"add r 5 6", b"done", b"drop gone"],
     *singles([b"drop v", b"del r 5 6"]),
 ]
 
@@ -596,7 +609,7 @@ def a_log_of_many_pieces(program, folder, options):
 @test
 def each_cut_of_format_1(program, folder, options):
     log = os.path.join(folder, "cut")
-    lines = [b"rel r int", b"add r 7", b"batch", b"add r 7", b"add r 9", b"done"]
+    lines = [b"rel r int", b"add r 7", b"batch", b"add r 7", b"add r 9", b"del r 7", b"done"]
     gates, whole = log_format.gates_first(lines), log_format.write_first(lines)
     for size in range(9, len(whole)):
         write(log, whole[:size])

@@ -141,9 +141,9 @@ def first_all_answers_come_then_each_change(program):
         seq = client.add("r", 3, "three").seq
         stream.until_answers((1, "one"), (2, 'a "b"\n\\c'), (3, "three"))
         expect(stream.events[-1], ("change", {"seq": seq, "came": [[3, "three"]], "went": []}))
-        with client.batch() as batch:  # one change is one event
-            batch.add("r", 4, "four")
-            batch.add("r", 5, "five")
+        with client.transaction() as change:  # one change is one event
+            change.add("r", 4, "four")
+            change.add("r", 5, "five")
         stream.until(lambda: (5, "five") in stream.answers)
         expect((stream.names(), len(stream.events[-1][1]["came"])), (["answers", "change", "change"], 2))
         client.delete("r", 1, "one")

@@ -158,7 +158,7 @@ del r 3 3
 next c 50
 """)
 
-BATCHES = lines(b"""
+TRANSACTIONS = lines(b"""
 rel r int int
 rel s int text
 query q(x,y,z) <- r(x,y), s(y,z)
@@ -197,6 +197,27 @@ add r 6 2
 add s 9 "third"
 add r 6 9
 done
+batch
+del s 9 "third"
+add s 9 "fourth"
+add s 9 "fifth"
+del s 9 "fifth"
+done 4
+next c 9
+batch
+add r 6 3
+del r 6 9
+del s 9 "none"
+done
+batch
+del r 6 2
+add r 6 3
+done 3
+batch
+del r 6 2
+add r 6 3
+del r 6 9
+done 3
 next c 9
 next d 9
 next e 9
@@ -525,8 +546,8 @@ def self_joins_that_are_watched():
 
 
 @test
-def batches_that_are_watched():
-    each_growth_refused("batches", BATCHES)
+def transactions_that_are_watched():
+    each_growth_refused("transactions", TRANSACTIONS)
 
 
 @test
@@ -535,10 +556,12 @@ def unions_that_are_listed_and_watched():
 
 
 @test
-def a_long_batch():
+def a_long_transaction():
     rows = b"".join(b'add r %d "text %d"\n' % (at, at) for at in range(50))
     text = b"rel r int text\nquery q(x,y) <- r(x,y)\nopen c q\nbatch\n" + rows + b"done\nnext c 1\nclose c\nopen c q\nnext c 1000\n"
-    each_growth_refused("a long batch", text)
+    updates = b"".join(b'del r %d "text %d"\nadd r %d "other %d"\n' % (at, at, at, at) for at in range(0, 50, 2))
+    text += b"watch q\nbatch\n" + updates + b"done\nnext c 1\nclose c\nopen c q\nnext c 1000\n"
+    each_growth_refused("a long transaction", text)
 
 
 @test
@@ -595,11 +618,12 @@ def changed(rows, word, row, seq, reply):
 
 
 @test
-def batches_come_whole_or_not_at_all_where_memory_ends():
+def transactions_come_whole_or_not_at_all_where_memory_ends():
     each, count = 500, 2000
     row = lambda at: b"%d %d" % (at, at * 7 % MILLION)
     text = b"rel r int int\nquery q(x,y) <- r(x,y)\nopen c q\nnext c 10\n" + b"".join(
-        b"batch\n" + b"".join(b"add r %s\n" % row(each * number + at) for at in range(each)) + b"done\n" for number in range(count))
+        b"batch\n" + b"".join(b"add r %s\n" % row(each * number + at) for at in range(each)) + (b"done 500\n" if number % 3 else b"done\n")
+        for number in range(count))
     text += b"close c\nopen c q\n" + b"next c 10\n" * (each * count // 10 + 1)
     output, status = run_within(60 << 20, text)
     expect(status, 0, output[-200:])
@@ -615,18 +639,21 @@ def batches_come_whole_or_not_at_all_where_memory_ends():
         if not is_open:  # its rows came each alone
             expect((opened, done), (b"err 12 memory", b"err 18 batch"), "a batch that isn't opened")
             seq += len(came)
+        elif number % 3 and len(came) < each:
+            expect(done in (b"err 20 held", b"err 12 memory"), True, done)
+            came = []
         elif done != b"err 12 memory":
             seq += len(came) > 0
-            expect(done, b"ok done %d %d" % (seq, len(came)), "a batch that is done")
+            expect(done, b"ok done %d %d" % (seq, len(came)), "a transaction that is done")
         else:
             came = []
         refused += came == []
         rows.update(came)
-    expect(10 < refused < count - 10, True, f"{refused} of {count} batches are refused")
+    expect(10 < refused < count - 10, True, f"{refused} of {count} transactions are refused")
     listed = [reply[2:] for reply in replies if reply.startswith(b"= ")]
     expect(len(listed), len(rows), "how many rows are listed")
-    expect(set(listed) == rows, True, "exactly the rows of the batches that were done are listed")
-    print(f"{refused} of {count} batches of {each} rows are refused in 60 MiB, and {len(rows)} rows are listed in the end")
+    expect(set(listed) == rows, True, "exactly the rows of the transactions that were done are listed")
+    print(f"{refused} of {count} transactions of {each} rows are refused in 60 MiB, and {len(rows)} rows are listed in the end")
 
 
 @test

@@ -49,11 +49,12 @@ def random_change(draw):
 
 
 def random_batch(draw):
-    """A batch; lines that aren't for one, or that open a second one, are refused in it."""
-    held = [f"add {random_row(draw)}" for _ in range(draw.randrange(6))]
+    """A batch; lines that aren't for one, or that open a second one, are refused in it. Some are refused as a whole, for a row
+    that isn't there, or another number of lines."""
+    held = [f"{draw.choice(['add', 'add', 'del'])} {random_row(draw)}" for _ in range(draw.randrange(6))]
     if draw.random() < 0.2:
-        held.insert(draw.randrange(len(held) + 1), draw.choice(["batch", "next c 3", "open d q", "del r 1 1", "add r"]))
-    return ["batch", *held, draw.choice(["done", "done", "done", "abandon"])]
+        held.insert(draw.randrange(len(held) + 1), draw.choice(["batch", "next c 3", "open d q", "has q 1 1", "add r", "del r"]))
+    return ["batch", *held, draw.choice(["done", "done", "done", f"done {len(held)}", "abandon"])]
 
 
 def random_schedule(draw):
@@ -130,16 +131,21 @@ def lines_that_cant_be_followed_are_told(program, options):
         b"ok union\n", b"ok union 01\n", b"ok union a\n", b"m\n", b"m A\n", b"m a b\n", b"union q\n",
         b"err 17 unbound\n",
         b"ok batch 1\n", b"ok held\n", b"ok held 01\n", b"ok done 1\n", b"ok done 1 01\n", b"err 18\n",
+        b"err 19\n", b"err 19 held\n", b"err 20\n", b"err 20 absent\n", b"err 21 held\n",
         b"stale c r\n", b"= \"\xff\"\n", b"ok\r\n", b"no cyclic\n", b"n 0 leaf r\n", b"x" * 16385 + b"\n", b"x" * 20000,
     ]:
         expect(mirror(program, known + line), (b"mirror 5\n", 12), repr(line[:40]))
     for line in [b"end\n", b"at q 7\n", b"+ p 1\n", b"- p 1\n", b"at p 7\n", b"ok\n", b"ok added 18446744073709551615 4294967295\n",
                  b"ok query 33\n", b"no cyclic x,y y,z z,x\n", b"no connex x,_ y\n", b"yes\n", b"flat\n",
                  b"union\n", b"ok union 8\n", b"m a\n", b"m union_1\n", b"err 17 member\n",
-                 b"err 16 unbound\n", b"err 18 batch\n",
-                 b"ok batch\n", b"ok held 1\n", b"ok held 1000\n", b"ok done 0 0\n", b"ok done 18446744073709551615 1000\n", b"bye\n", b"end slow\n",
+                 b"err 16 unbound\n", b"err 18 batch\n", b"err 19 absent\n", b"err 20 held\n",
+                 b"ok batch\n", b"ok held 1\n", b"ok held 65536\n", b"ok done 0 0\n", b"ok done 18446744073709551615 65536\n", b"bye\n",
+                 b"end slow\n",
                  b"n 0 leaf r x,_\n", b"n 12 trim 3 - out\n", b"n 3 meet 0 1 x out\n"]:
         expect(mirror(program, known + line), (b"= 1 \"a\"\nend\n", 0), repr(line))
+    # a delta of both signs, in any order
+    for lines in (b"+ q 2 \"b\"\n- q 1 \"a\"\nat q 7\n", b"- q 1 \"a\"\n+ q 2 \"b\"\nat q 7\n"):
+        expect(mirror(program, known + lines), (b"= 2 \"b\"\nend\n", 0), "an update")
     expect(mirror(program, known + b"stale c r 1\n"), (b"none\n", 0), "stale")
     expect(mirror(program, b""), (b"none\n", 0), "nothing")
 

@@ -19,13 +19,14 @@ MOST_ATOMS, MOST_VARIABLES, MOST_HEAD, MOST_COMPARISONS = 32, 128, 16, 32
 MOST_MEMBERS = 8
 MOST_ANSWERS = 1000
 MOST_COPIES = (1 << 32) - 1
-MOST_HELD = 1000
+MOST_HELD, HELD_BYTES = 65_536, 16_777_216
 
 SYNTAX, TAKEN, NO_RELATION, NO_QUERY = b"err 1 syntax", b"err 2 taken", b"err 3 no relation", b"err 4 no query"
 NO_CURSOR, ARITY, TYPE, UNBOUND = b"err 5 no cursor", b"err 6 arity", b"err 7 type", b"err 8 head unbound"
 REPEATED, VARIABLE_TYPE, LIMIT = b"err 9 head repeated", b"err 10 variable type", b"err 11 limit"
 MEMORY, CUT, IN_USE = b"err 12 memory", b"err 13 cut", b"err 14 in use"
 COMPARES_UNBOUND, MEMBER, MISPLACED = b"err 16 unbound", b"err 17 member", b"err 18 batch"
+NO_COPY, OTHER_COUNT = b"err 19 absent", b"err 20 held"
 END_MEMORY = b"end memory"
 
 # bytes of a reply that are kept before its line is run
@@ -130,6 +131,14 @@ class Reader:
     def rest(self):
         return self.at < len(self.tokens)
 
+    def number(self):
+        """An integer of digits alone, of any size."""
+        text = self.take("integer")[2]
+        if text.startswith(b"-"):
+            raise Syntax
+        digits = text.lstrip(b"0")
+        return int(digits or b"0") if len(digits) <= 30 else 1 << 99
+
     def literals(self):
         values = []
         while self.rest():
@@ -200,7 +209,9 @@ def command_of(line):
         said = (name, count)
     elif word in (b"drop", b"close", b"watch", b"unwatch", b"explain", b"shape"):
         said = (reader.name(),)
-    elif word in (b"batch", b"done", b"abandon", b"quit", b"stop"):
+    elif word == b"done":
+        said = (reader.number() if reader.rest() else None,)
+    elif word in (b"batch", b"abandon", b"quit", b"stop"):
         said = ()
     else:
         raise Syntax
@@ -462,11 +473,16 @@ class Relation:
     def __init__(self, types):
         self.types, self.rows, self.version = types, {}, 0
 
-    def count(self, row, change):
-        """Gives a row one copy more, or one less, and answers how many it has then."""
-        copies = self.rows.pop(row, 0) + change
+    def put(self, row, copies):
+        """Gives a row so many copies: without any it is gone."""
+        self.rows.pop(row, None)
         if copies:
             self.rows[row] = copies
+
+    def count(self, row, change):
+        """Gives a row one copy more, or one less, and answers how many it has then."""
+        copies = self.rows.get(row, 0) + change
+        self.put(row, copies)
         return copies
 
     def refuse(self, values):
@@ -501,8 +517,8 @@ class Session:
         self.number, self.lines, self.places, self.at = number, lines, places, 0
         self.held, self.cause = b"", None
         self.cursors, self.watches = {}, set()
-        # the rows that its batch holds, each with its relation, or None
-        self.batch = None
+        # the lines that its batch holds, each as a relation, a row and the change of its copies, or None; and their bytes
+        self.batch, self.batch_bytes = None, 0
         self.pending, self.pending_bytes, self.blocked = 0, 0, False
         self.memory, self.begun, self.may_stop = False, 0, False
 
@@ -559,8 +575,8 @@ class Session:
         self.queued(END_MEMORY)
         self.end("memory")
 
-    def end(self, cause, line=None):
-        if line is not None:
+    def end(self, cause, *lines):
+        for line in lines:
             self.say(line)
         self.cause = cause
         self.cursors, self.watches, self.batch = {}, set(), None
@@ -602,7 +618,7 @@ class Machine:
 
     def finish(self, session):
         if session.cause is None:
-            session.end("input", CUT if session.held else None)
+            session.end("input", *([CUT] if session.held else []), *self.lost(session))
 
     def line(self, session, line):
         if not line.strip(b" "):
@@ -617,8 +633,8 @@ class Machine:
             session.begin(word)
             if self.misplaced(session, word):
                 session.say(MISPLACED)
-            elif word == b"add" and session.batch is not None:
-                self.hold(session, *said)
+            elif word in (b"add", b"del") and session.batch is not None:
+                self.hold(session, *said, 1 if word == b"add" else -1, len(line))
             else:
                 getattr(self, word.decode())(session, *said)
         except Syntax:
@@ -661,28 +677,31 @@ class Machine:
             return session.say(b"ok absent %d" % self.seq)
         if comes and copies == MOST_COPIES:
             return session.say(LIMIT)
-        self.count([(name, row)], 1 if comes else -1)
+        self.carry_out([(name, row, 1 if comes else -1)])
         if session.cause is None:
             copies = relation.rows.get(row, 0)
             session.say(b"ok %s %d %d" % (b"added" if comes else b"removed", self.seq, copies))
 
-    def count(self, rows, change):
-        """Gives each of these rows one copy more, or one less, and answers how many first copies came, or last ones
-        went: these alone are a change, and all of them are one."""
-        edge = 0 if change > 0 else 1
-        moved = {(name, row) for name, row in rows if self.relations[name].rows.get(row, 0) == edge}
+    def carry_out(self, lines):
+        """Lines add and delete copies of rows as one change. Answers how many rows came, which had no copy before and
+        have one now, and how many went: these alone are a change."""
+        before = {(name, row): self.relations[name].rows.get(row, 0) for name, row, _ in lines}
+        after = dict(before)
+        for name, row, change in lines:
+            after[name, row] += change
+        moved = [key for key in before if (before[key] == 0) != (after[key] == 0)]
         changed = {name for name, _ in moved}
         watched = [query for query in self.queries.values() if query.reads & changed and self.watchers(query)]
-        before = [query.answers(self.relations) for query in watched]
-        for name, row in rows:
-            self.relations[name].count(row, change)
+        answers = [query.answers(self.relations) for query in watched]
+        for (name, row), copies in after.items():
+            self.relations[name].put(row, copies)
         if moved:
             for name in changed:
                 self.relations[name].version += 1
             self.seq += 1
-            self.outdate([name for name, _ in rows if name in changed])
-        for query, answers in zip(watched, before):
-            self.tell(query, answers, query.answers(self.relations))
+            self.outdate([name for name, _, _ in lines if name in changed])
+        for query, earlier in zip(watched, answers):
+            self.tell(query, earlier, query.answers(self.relations))
         return len(moved)
 
     def outdate(self, names):
@@ -714,32 +733,56 @@ class Machine:
         """Whether a command isn't for a session with a batch open, or only for one."""
         if session.batch is None:
             return word in (b"done", b"abandon")
-        return word not in (b"add", b"done", b"abandon", b"quit", b"stop")
+        return word not in (b"add", b"del", b"done", b"abandon", b"quit", b"stop")
+
+    @staticmethod
+    def lost(session):
+        """What is said at the end of a session whose batch holds lines."""
+        return [MISPLACED] if session.batch else []
 
     def batch(self, session):
         if not session.refused():
-            session.batch = []
+            session.batch, session.batch_bytes = [], 0
             session.say(b"ok batch")
 
-    def hold(self, session, name, values):
-        """An `add` in a batch."""
+    def hold(self, session, name, values, change, size):
+        """An `add` or a `del` in a batch, on a line of so many bytes."""
         if None in values:
             return session.say(TYPE)
         if session.refused():
             return
         refusal = self.relations[name].refuse(values) if name in self.relations else NO_RELATION
-        if refusal or len(session.batch) >= MOST_HELD:
+        full = len(session.batch) >= MOST_HELD or session.batch_bytes + size > HELD_BYTES
+        if refusal or full:
             return session.say(refusal or LIMIT)
-        session.batch.append((name, tuple(values)))
+        session.batch.append((name, tuple(values), change))
+        session.batch_bytes += size
         session.say(b"ok held %d" % len(session.batch))
 
-    def done(self, session):
+    def done(self, session, count):
         held, session.batch = session.batch, None
+        if count not in (None, len(held)):
+            return session.say(OTHER_COUNT)
         if held and session.refused():
-            return self.outdate([name for name, _ in held])
-        rows = self.count(held, 1)
+            return self.outdate([name for name, _, _ in held])
+        refusal = self.refuse_lines(held)
+        if refusal:
+            return session.say(refusal)
+        rows = self.carry_out(held)
         if session.cause is None:
             session.say(b"ok done %d %d" % (self.seq, rows))
+
+    def refuse_lines(self, lines):
+        """The refusal of the first line that has one, over the copies that the lines before it leave, or None."""
+        copies = {}
+        for name, row, change in lines:
+            there = copies.get((name, row), self.relations[name].rows.get(row, 0))
+            if change < 0 and there == 0:
+                return NO_COPY
+            if change > 0 and there == MOST_COPIES:
+                return LIMIT
+            copies[name, row] = there + change
+        return None
 
     def abandon(self, session):
         session.batch = None
@@ -938,10 +981,10 @@ class Machine:
         session.say(self.queries[name].shape())
 
     def quit(self, session):
-        session.end("quit", b"bye")
+        session.end("quit", *self.lost(session), b"bye")
 
     def stop(self, session):
-        session.end("stop", b"bye")
+        session.end("stop", *self.lost(session), b"bye")
         self.stopped = True
 
     # ------------------------------------------------ what is sent

@@ -112,11 +112,11 @@ class Python:
     def _load(self, server, relation, rows):
         return server.load(relation, rows)
 
-    def _batch(self, server, *rows):
-        with server.batch() as batch:
-            for row in rows:
-                batch.add(*row)
-        done = batch.result()
+    def _transaction(self, server, *lines):
+        with server.transaction() as change:
+            for name, *given in lines:
+                getattr(change, name)(*given)
+        done = change.result()
         return {"seq": done.seq, "rows": done.rows}
 
     def _snapshot(self, server, query):

@@ -66,7 +66,7 @@ def run_page(name, program, behind=lambda client: None):
 
 def test_recipes(program):
     ran = run_page("RECIPES.md", program)
-    assert ran == {"djq": 0, "python": 22}, ran
+    assert ran == {"djq": 0, "python": 26}, ran
 
 
 def test_queries(program):

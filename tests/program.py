@@ -1066,21 +1066,25 @@ def a_long_delta_is_whole_and_a_further_one_finds_the_session_slow():
     expect((told[at + 9804:], status), ([b"at q 142", b"end slow"], 8))
 
 
-# Batches
+# Transactions
 
 
 def expect_session(session):
-    """A session goes as it is written, in one piece, with CR, and in single bytes."""
-    expect_run(lines_of(session), replies_of(session))
-    expect_run(lines_of(session, b"\r\n"), replies_of(session))
+    """A session goes as it is written, in one piece, with CR, and in single bytes. Lines of a delta that stand together come
+    in any order."""
+    told = (in_any_order(replies_of(session).splitlines()), 0)
+    for text in (lines_of(session), lines_of(session, b"\r\n")):
+        output, status = run(text)
+        expect((in_any_order(output.splitlines()), status), told, text[:60])
     with Talk() as talk:
         for byte in lines_of(session):
             talk.say(bytes([byte]))
-        expect(talk.end(), (replies_of(session), 0))
+        output, status = talk.end()
+        expect((in_any_order(output.splitlines()), status), told)
 
 
 @test
-def rows_of_a_batch_are_one_change():
+def lines_of_a_transaction_are_one_change():
     expect_session([
         (b"rel r int int", [b"ok"]),
         (b"query q(x,y,z) <- r(x,y), r(y,z)", [b"ok query 7"]),
@@ -1099,30 +1103,129 @@ def rows_of_a_batch_are_one_change():
         (b"batch", [b"ok batch"]),
         (b"add r 2 3", [b"ok held 1"]),
         (b"done", [b"ok done 2 0"]),
-        (b"del r 2 3", [b"ok removed 2 1"]),
+        (b"batch", [b"ok batch"]),
+        (b"add r 1 2", [b"ok held 1"]),
+        (b"del r 2 3", [b"ok held 2"]),
+        (b"del r 2 3", [b"ok held 3"]),
+        (b"add r 2 4", [b"ok held 4"]),
+        (b"done 4", [b"+ q 1 2 4", b"at q 3", b"ok done 3 3"]),
+        (b"batch", [b"ok batch"]),
+        (b"del r 2 4", [b"ok held 1"]),
+        (b"add r 2 3", [b"ok held 2"]),
+        (b"done", [b"+ q 1 2 3", b"- q 1 2 4", b"at q 4", b"ok done 4 2"]),
+        (b"del r 2 3", [b"- q 1 2 3", b"at q 5", b"ok removed 5 0"]),
     ])
 
 
 @test
-def a_batch_is_refused_row_by_row_and_abandoned():
+def what_stays_an_answer_isnt_in_the_delta():
+    """A changed column that the query doesn't show, and rows before and after of which some would join with each other."""
+    expect_session([
+        (b"rel r int int", [b"ok"]),
+        (b"rel s int", [b"ok"]),
+        (b"query q(x) <- r(x,_)", [b"ok query 3"]),
+        (b"query p(x,y) <- s(x), r(y,_)", [b"ok query 5"]),
+        (b"add r 1 10", [b"ok added 1 1"]),
+        (b"add s 7", [b"ok added 2 1"]),
+        (b"watch q", [b"ok watch 2"]),
+        (b"watch p", [b"ok watch 2"]),
+        (b"batch", [b"ok batch"]),
+        (b"del r 1 10", [b"ok held 1"]),
+        (b"add r 1 11", [b"ok held 2"]),
+        (b"done", [b"at q 3", b"at p 3", b"ok done 3 2"]),
+        (b"batch", [b"ok batch"]),
+        (b"del r 1 11", [b"ok held 1"]),
+        (b"add r 2 1", [b"ok held 2"]),
+        (b"del s 7", [b"ok held 3"]),
+        (b"add s 8", [b"ok held 4"]),
+        (b"done", [b"+ q 2", b"- q 1", b"at q 4", b"+ p 8 2", b"- p 7 1", b"at p 4", b"ok done 4 4"]),
+        (b"batch", [b"ok batch"]),
+        (b"del s 8", [b"ok held 1"]),
+        (b"add r 3 3", [b"ok held 2"]),
+        (b"del r 3 3", [b"ok held 3"]),
+        (b"add s 8", [b"ok held 4"]),
+        (b"done", [b"ok done 4 0"]),
+        (b"batch", [b"ok batch"]),
+        (b"del r 2 1", [b"ok held 1"]),
+        (b"del s 8", [b"ok held 2"]),
+        (b"done", [b"- q 2", b"at q 5", b"- p 8 2", b"at p 5", b"ok done 5 2"]),
+    ])
+
+
+@test
+def a_refused_line_isnt_held_and_a_batch_is_abandoned():
     expect_session([
         (b"rel r int int", [b"ok"]),
         (b"batch", [b"ok batch"]),
         (b"add z 1", [b"err 3 no relation"]),
+        (b"del z 1", [b"err 3 no relation"]),
         (b"add r 1", [b"err 6 arity"]),
+        (b"del r 1", [b"err 6 arity"]),
         (b"abandon", [b"ok"]),
         (b"done", [b"err 18 batch"]),
         (b"abandon", [b"err 18 batch"]),
         (b"batch", [b"ok batch"]),
         (b"add r 1 2", [b"ok held 1"]),
         (b"add r 1 \"a\"", [b"err 7 type"]),
+        (b"del r 1 \"a\"", [b"err 7 type"]),
         (b"add r 3 4", [b"ok held 2"]),
         (b"done", [b"ok done 1 2"]),
         (b"batch", [b"ok batch"]),
         (b"add r 5 6", [b"ok held 1"]),
+        (b"del r 1 2", [b"ok held 2"]),
         (b"abandon", [b"ok"]),
         (b"add r 5 6", [b"ok added 2 1"]),
+        (b"del r 1 2", [b"ok removed 3 0"]),
     ])
+
+
+@test
+def a_row_without_a_copy_refuses_a_transaction_whole():
+    expect_session([
+        (b"rel r int", [b"ok"]),
+        (b"query q(x) <- r(x)", [b"ok query 3"]),
+        (b"add r 1", [b"ok added 1 1"]),
+        (b"add r 1", [b"ok added 1 2"]),
+        (b"watch q", [b"ok watch 1"]),
+        (b"open c q", [b"ok open"]),
+        (b"batch", [b"ok batch"]),
+        (b"add r 2", [b"ok held 1"]),
+        (b"del r 1", [b"ok held 2"]),
+        (b"del r 1", [b"ok held 3"]),
+        (b"del r 1", [b"ok held 4"]),
+        (b"add r 1", [b"ok held 5"]),
+        (b"done", [b"err 19 absent"]),
+        (b"done", [b"err 18 batch"]),
+        (b"next c 9", [b"= 1", b"end"]),
+        (b"batch", [b"ok batch"]),
+        (b"del r 9", [b"ok held 1"]),
+        (b"add r 9", [b"ok held 2"]),
+        (b"done 2", [b"err 19 absent"]),
+        (b"batch", [b"ok batch"]),
+        (b"add r 9", [b"ok held 1"]),
+        (b"del r 9", [b"ok held 2"]),
+        (b"del r 1", [b"ok held 3"]),
+        (b"done", [b"ok done 1 0"]),
+        (b"next c 9", [b"end"]),
+        (b"del r 2", [b"ok absent 1"]),
+        (b"del r 1", [b"- q 1", b"at q 2", b"ok removed 2 0"]),
+    ])
+
+
+@test
+def done_with_another_number_than_lines_are_held_refuses_all():
+    session = [(b"rel r int", [b"ok"])]
+    for held, said, reply in (
+        (0, b"0", b"ok done 0 0"), (0, b"000", b"ok done 0 0"), (0, b"1", b"err 20 held"), (1, b"0", b"err 20 held"), (1, b"2", b"err 20 held"),
+        (2, b"65538", b"err 20 held"), (2, b"18446744073709551618", b"err 20 held"), (2, b"4294967298", b"err 20 held"),
+        (2, b"9" * 60, b"err 20 held"), (2, b"0002", b"ok done 1 2"), (2, b"2", b"ok done 1 0"),
+    ):
+        session += [(b"batch", [b"ok batch"])] + [(b"add r %d" % at, [b"ok held %d" % (at + 1)]) for at in range(held)]
+        session += [(b"done " + said, [reply]), (b"done", [b"err 18 batch"])]
+    for line in (b"done -1", b"done 1 1", b"done x", b'done "1"', b"done _", b"done1"):
+        session.append((line, [b"err 1 syntax"]))
+    session += [(b"done 99", [b"err 18 batch"]), (b"del r 0", [b"ok removed 1 1"])]
+    expect_session(session)
 
 
 @test
@@ -1130,40 +1233,70 @@ def what_isnt_for_a_batch_is_refused_in_its_order():
     past = b"9223372036854775808"
     session = [(b"rel r int", [b"ok"]), (b"query q(x) <- r(x)", [b"ok query 3"]), (b"open c q", [b"ok open"]),
                (b"batch", [b"ok batch"])]
-    for line in [b"rel s int", b"rel r int", b"del r 1", b"del r " + past, b"query p(x) <- r(x)", b"query p(x) <- r(%s,x)" % past,
+    for line in [b"rel s int", b"rel r int", b"query p(x) <- r(x)", b"query p(x) <- r(%s,x)" % past,
                  b"drop q", b"drop z", b"open d q", b"next c 1", b"next z 1", b"close c", b"has q 1", b"has q " + past, b"watch q",
                  b"unwatch q", b"explain q", b"shape q", b"union u q q", b"batch"]:
         session.append((line, [b"err 18 batch"]))
-    for line in [b"rel r bool", b"del r", b"batch 1", b"done 1", b"abandon r", b"next c 0", b"add", b"add r", b"nothing"]:
+    for line in [b"rel r bool", b"del r", b"batch 1", b"done 1 1", b"done r", b"abandon r", b"next c 0", b"add", b"add r", b"nothing"]:
         session.append((line, [b"err 1 syntax"]))
-    session += [(b"add z " + past, [b"err 7 type"]), (b'add z "a"', [b"err 3 no relation"]), (b'add r "a" 1', [b"err 6 arity"]),
-                (b'add r "a"', [b"err 7 type"]), (b"add r 1", [b"ok held 1"]), (b"done", [b"ok done 1 1"]),
+    for word in (b"add", b"del"):
+        session += [(word + b" z " + past, [b"err 7 type"]), (word + b' z "a"', [b"err 3 no relation"]),
+                    (word + b' r "a" 1', [b"err 6 arity"]), (word + b' r "a"', [b"err 7 type"])]
+    session += [(b"add r 1", [b"ok held 1"]), (b"del r 1", [b"ok held 2"]), (b"add r 1", [b"ok held 3"]), (b"done 3", [b"ok done 1 1"]),
                 (b"next c 1", [b"stale c r 1"]), (b"batch", [b"ok batch"]), (b"quit", [b"bye"])]
     expect_session(session)
 
 
 @test
-def a_batch_holds_1000_rows():
-    lines = [b"rel r int", b"batch"] + [b"add r %d" % (at % 700) for at in range(1000)] + [b"add r 1", b"add z 1", b"add r", b"done"]
-    replies = [b"ok", b"ok batch"] + [b"ok held %d" % (at + 1) for at in range(1000)]
-    replies += [b"err 11 limit", b"err 3 no relation", b"err 1 syntax", b"ok done 1 700"]
-    lines += [b"del r 299", b"del r 299", b"del r 300"]
-    replies += [b"ok removed 1 1", b"ok removed 2 0", b"ok removed 3 0"]
+def a_batch_holds_65536_lines():
+    most = 65_536
+    held = [b"ok held %d" % (at + 1) for at in range(most)]
+    lines = [b"rel r int", b"batch"] + [b"add r %d" % (at % 700) for at in range(most)]
+    lines += [b"add r 1", b"del r 1", b"add z 1", b"del r", b"done %d" % most]
+    replies = [b"ok", b"ok batch", *held, b"err 11 limit", b"err 11 limit", b"err 3 no relation", b"err 1 syntax", b"ok done 1 700"]
+    copies = [most // 700 + (number < most % 700) for number in range(700)]
+    lines += [b"del r 0", b"del r 699"]
+    replies += [b"ok removed 1 %d" % (copies[0] - 1), b"ok removed 1 %d" % (copies[699] - 1)]
+    # as many lines take all copies but two
+    lines += [b"batch"] + [b"del r %d" % number for number in range(700) for _ in range(copies[number] - 1)] + [b"done"]
+    replies += [b"ok batch", *held[: sum(copies) - 700], b"ok done 2 2"]
+    lines += [b"del r 1", b"del r 0"]
+    replies += [b"ok removed 3 0", b"ok absent 3"]
     expect_run(texts_of_lines(lines), texts_of_lines(replies))
 
 
 @test
-def a_cursor_is_stale_by_the_first_relation_of_the_batch_that_changed():
+def a_batch_holds_16777216_bytes():
+    # spaces within a line count, and the CR at its end doesn't
+    full = [b"add r 1".ljust(4096)] * 4095
+    for end in (b"\n", b"\r\n"):
+        for lines, replies in (
+            ([b"add r 2".ljust(4096), b"add r 3", b"del r 1", b"done 4096"], [b"ok held 4096", b"err 11 limit", b"err 11 limit", b"ok done 1 2"]),
+            ([b"del r 1".ljust(4089), b"add r 22", b"add r 3", b"done"], [b"ok held 4096", b"err 11 limit", b"ok held 4097", b"ok done 1 2"]),
+            ([b"add r 2".ljust(4090), b"add r 3", b"add r 33", b"abandon"], [b"ok held 4096", b"err 11 limit", b"err 11 limit", b"ok"]),
+        ):
+            said = [b"rel r int", b"batch", *full, *lines]
+            told = [b"ok", b"ok batch"] + [b"ok held %d" % (at + 1) for at in range(4095)] + replies
+            expect_run(b"".join(line + end for line in said), texts_of_lines(told))
+
+
+@test
+def a_cursor_is_stale_by_the_first_named_relation_that_changed():
     lines = [b"rel r int", b"rel s int", b"query q(x) <- r(x), s(x)", b"query p(x) <- s(x)", b"query w(x) <- r(x)", b"add s 1"]
     replies = [b"ok", b"ok", b"ok query 3", b"ok query 3", b"ok query 3", b"ok added 1 1"]
-    for rows, done, stale in [
-        ([b"s 1", b"r 5", b"s 7"], b"ok done 2 2", [b"stale a s 2", b"stale b s 2", b"stale c r 2"]),
-        ([b"s 1", b"r 6"], b"ok done 3 1", [b"stale a r 3", None, b"stale c r 3"]),
-        ([b"r 5", b"s 8", b"r 5"], b"ok done 4 1", [b"stale a s 4", b"stale b s 4", None]),
-        ([b"r 5", b"s 8"], b"ok done 4 0", [None, None, None]),
+    for held, done, stale in [
+        ([b"add s 1", b"add r 5", b"add s 7"], b"ok done 2 2", [b"stale a s 2", b"stale b s 2", b"stale c r 2"]),
+        ([b"add s 1", b"add r 6"], b"ok done 3 1", [b"stale a r 3", None, b"stale c r 3"]),
+        ([b"add r 5", b"add s 8", b"add r 5"], b"ok done 4 1", [b"stale a s 4", b"stale b s 4", None]),
+        ([b"add r 5", b"add s 8"], b"ok done 4 0", [None, None, None]),
+        # a row that comes and goes, or goes and comes back, changes nothing
+        ([b"add r 9", b"del r 9", b"del s 7", b"add r 3"], b"ok done 5 2", [b"stale a r 5", b"stale b s 5", b"stale c r 5"]),
+        ([b"del r 3", b"add s 9", b"add r 3"], b"ok done 6 1", [b"stale a s 6", b"stale b s 6", None]),
+        ([b"del r 3", b"add r 3", b"add s 4", b"del s 4"], b"ok done 6 0", [None, None, None]),
+        ([b"del s 8", b"del s 2"], b"err 19 absent", [None, None, None]),
     ]:
-        lines += [b"open a q", b"open b p", b"open c w", b"batch"] + [b"add " + row for row in rows] + [b"done"]
-        replies += [b"ok open"] * 3 + [b"ok batch"] + [b"ok held %d" % (at + 1) for at in range(len(rows))] + [done]
+        lines += [b"open a q", b"open b p", b"open c w", b"batch", *held, b"done"]
+        replies += [b"ok open"] * 3 + [b"ok batch"] + [b"ok held %d" % (at + 1) for at in range(len(held))] + [done]
         for cursor, told in zip((b"a", b"b", b"c"), stale):
             if told is not None:
                 lines.append(b"next %s 1" % cursor)
@@ -1174,52 +1307,85 @@ def a_cursor_is_stale_by_the_first_relation_of_the_batch_that_changed():
 
 
 @test
-def a_batch_is_told_to_all_who_watch_as_one_change():
+def a_transaction_is_told_to_all_who_watch_as_one_change():
     schedule = (b"open 1\nopen 2\nopen 3\nsay 1 rel r int\nsay 1 rel s int\nsay 1 query q(x,y) <- r(x), s(y)\n"
                 b"say 1 query p(x) <- s(x)\nsay 1 query w(x) <- r(x), x > 100\nsay 2 watch q\nsay 3 watch p\nsay 3 watch w\n"
                 b"say 1 batch\nsay 1 add r 7\nsay 2 add s 7\nsay 3 has q 7 7\nsay 1 add s 8\nsay 1 add s 7\nsay 2 open c q\n"
-                b"say 1 done\nsay 2 next c 1\nsay 1 watch q\nsay 1 batch\nsay 1 add r 9\nsay 2 del s 8\nsay 1 done\n")
+                b"say 1 done\nsay 2 next c 1\nsay 1 watch q\nsay 1 batch\nsay 1 add r 9\nsay 2 del s 8\nsay 1 del r 7\nsay 1 done 2\n"
+                b"say 1 batch\nsay 1 del s 7\nsay 3 batch\nsay 3 del s 7\nsay 3 done\nsay 1 done\n")
     told = [b"1< ok", b"1< ok", b"1< ok query 5", b"1< ok query 3", b"1< ok query 3", b"2< ok watch 0", b"3< ok watch 0",
             b"3< ok watch 0", b"1< ok batch", b"1< ok held 1", b"2< at q 1", b"2< ok added 1 1", b"3< + p 7", b"3< at p 1",
             b"3< no", b"1< ok held 2", b"1< ok held 3", b"2< ok open",
             b"1< ok done 2 2", b"2< + q 7 7", b"2< + q 7 8", b"2< at q 2", b"3< + p 8", b"3< at p 2", b"3< at w 2",
             b"2< stale c r 2", b"1< ok watch 2", b"1< ok batch", b"1< ok held 1",
-            b"1< - q 7 8", b"1< at q 3", b"2< - q 7 8", b"2< at q 3", b"2< ok removed 3 0", b"3< - p 8", b"3< at p 3",
-            b"1< + q 9 7", b"1< at q 4", b"1< ok done 4 1", b"2< + q 9 7", b"2< at q 4", b"3< at w 4"]
+            b"1< - q 7 8", b"1< at q 3", b"2< - q 7 8", b"2< at q 3", b"2< ok removed 3 0", b"3< - p 8", b"3< at p 3", b"1< ok held 2",
+            b"1< + q 9 7", b"1< - q 7 7", b"1< at q 4", b"1< ok done 4 2", b"2< + q 9 7", b"2< - q 7 7", b"2< at q 4", b"3< at w 4",
+            # the row has two copies: both transactions that delete one are done
+            b"1< ok batch", b"1< ok held 1", b"3< ok batch", b"3< ok held 1", b"3< ok done 4 0",
+            b"1< - q 9 7", b"1< at q 5", b"1< ok done 5 1", b"2< - q 9 7", b"2< at q 5", b"3< - p 7", b"3< at p 5"]
     output, status = run(schedule, ("replay",))
-    lines = output.splitlines()
-    lines[19:21] = sorted(lines[19:21])
-    expect((lines, status), (told, 0))
+    expect((in_any_order(output.splitlines()), status), (in_any_order(told), 0))
+
+
+@test
+def a_transaction_is_refused_by_what_others_did_meanwhile():
+    schedule = (b"open 1\nopen 2\nsay 1 rel r int int\nsay 1 add r 1 10\nsay 1 batch\nsay 1 del r 1 10\nsay 1 add r 1 11\n"
+                b"say 2 batch\nsay 2 del r 1 10\nsay 2 add r 1 12\nsay 2 done 2\nsay 1 done 2\nsay 1 del r 1 12\nsay 1 del r 1 11\n")
+    told = (b"1< ok\n1< ok added 1 1\n1< ok batch\n1< ok held 1\n1< ok held 2\n2< ok batch\n2< ok held 1\n2< ok held 2\n"
+            b"2< ok done 2 2\n1< err 19 absent\n1< ok removed 3 0\n1< ok absent 3\n")
+    expect(run(schedule, ("replay",)), (told, 0))
 
 
 @test
 def a_batch_ends_with_its_session():
+    """Lines that are held as a session ends by itself are reported as its last line, or before `bye`."""
     schedule = (b"open 1\nopen 2\nopen 3\nsay 1 rel r int\nsay 1 query q(x) <- r(x)\nsay 2 batch\nsay 2 add r 1\nend 2\n"
-                b"say 3 batch\nsay 3 add r 2\nsay 3 quit\nopen 4\nsay 4 batch\nsay 4 add r 3\nsay 4 " + b"x" * 4097 + b"\n"
+                b"say 3 batch\nsay 3 del r 2\nsay 3 quit\nopen 4\nsay 4 batch\nsay 4 add r 3\nsay 4 " + b"x" * 4097 + b"\n"
                 b"say 1 open c q\nsay 1 next c 1\nsay 1 batch\nsay 1 add r 4\npart 1 done\nend 1\nopen 5\nsay 5 done\n"
-                b"say 5 add r 5\n")
-    told = (b"1< ok\n1< ok query 3\n2< ok batch\n2< ok held 1\n3< ok batch\n3< ok held 1\n3< bye\n4< ok batch\n4< ok held 1\n"
-            b"4< end long\n1< ok open\n1< end\n1< ok batch\n1< ok held 1\n1< err 13 cut\n5< err 18 batch\n5< ok added 1 1\n")
+                b"say 5 add r 5\nopen 6\nsay 6 batch\nend 6\nopen 7\nsay 7 batch\nsay 7 quit\nsay 5 batch\nsay 5 add r 6\n"
+                b"open 8\nsay 8 batch\nsay 8 add r 7\nsay 8 stop\n")
+    told = (b"1< ok\n1< ok query 3\n2< ok batch\n2< ok held 1\n2< err 18 batch\n3< ok batch\n3< ok held 1\n3< err 18 batch\n3< bye\n"
+            b"4< ok batch\n4< ok held 1\n4< end long\n1< ok open\n1< end\n1< ok batch\n1< ok held 1\n1< err 13 cut\n1< err 18 batch\n"
+            b"5< err 18 batch\n5< ok added 1 1\n6< ok batch\n7< ok batch\n7< bye\n5< ok batch\n5< ok held 1\n"
+            b"8< ok batch\n8< ok held 1\n8< err 18 batch\n8< bye\n")
     expect(run(schedule, ("replay",)), (told, 0))
-    expect_run(b"rel r int\nbatch\nadd r 1\n", b"ok\nok batch\nok held 1\n")
-    expect_run(b"rel r int\nbatch\nadd r 1\nstop\ndone\n", b"ok\nok batch\nok held 1\nbye\n")
+    begun = b"ok\nok batch\nok held 1\n"
+    expect_run(b"rel r int\nbatch\nadd r 1\n", begun + b"err 18 batch\n")
+    expect_run(b"rel r int\nbatch\nadd r 1\ndo", begun + b"err 13 cut\nerr 18 batch\n")
+    expect_run(b"rel r int\nbatch\nadd r 1\nstop\ndone\n", begun + b"err 18 batch\nbye\n")
+    expect_run(b"rel r int\nbatch\nadd r 1\nabandon\nbatch\nquit\ndone\n", begun + b"ok\nok batch\nbye\n")
+    expect_run(b"batch\n", b"ok batch\n")
 
 
-def put_batch(client, chance, rows, most):
-    """Says that random rows come by a batch. Gives the relations that this changes, and how many rows came."""
-    batch = [(relation, random_row(chance, relation, most)) for relation in chance.choices("rrssst", k=chance.randrange(7))]
-    lines = [b"add %s %s\n" % (name.encode(), b" ".join(b"%d" % cell for cell in row)) for name, row in batch]
-    client.say(b"batch\n" + b"".join(lines) + b"done\n")
-    expect([client.line() for _ in range(len(batch) + 1)], [b"ok batch"] + [b"ok held %d" % (at + 1) for at in range(len(batch))])
-    came = [relation for relation, row in batch if count(rows[relation], row, 1) == 1]
-    return set(came), len(came)
+def say_transaction(client, chance, rows, most):
+    """Says a transaction of random rows. Gives the relations that it changes, of how many rows, and its reply, in which the
+    number of changes is left open, where it has one."""
+    lines, copies = [], {name: dict(bag) for name, bag in rows.items()}
+    for relation in chance.choices("rrssst", k=chance.randrange(7)):
+        there = list(copies[relation])
+        goes = chance.random() < 0.45 and (there or chance.random() < 0.1)
+        row = chance.choice(there) if goes and there and chance.random() < 0.95 else random_row(chance, relation, most)
+        lines.append((relation, row, -1 if goes else 1))
+        if count(copies[relation], row, -1 if goes else 1) < 0:
+            copies = None
+            break
+    for at, (relation, row, change) in enumerate(lines):
+        word = b"add" if change > 0 else b"del"
+        lines[at] = b"%s %s %s\n" % (word, relation.encode(), b" ".join(b"%d" % cell for cell in row))
+    client.say(b"batch\n" + b"".join(lines) + chance.choice((b"done\n", b"done %d\n" % len(lines))))
+    expect([client.line() for _ in range(len(lines) + 1)], [b"ok batch"] + [b"ok held %d" % (at + 1) for at in range(len(lines))])
+    if copies is None:
+        return set(), 0, b"err 19 absent"
+    moved = [name for name in rows for _ in rows[name].keys() ^ copies[name].keys()]
+    rows.update(copies)
+    return set(moved), len(moved), b"ok done %%d %d" % len(moved)
 
 
 @test
-def deltas_of_batches_add_up_to_a_fresh_listing():
+def deltas_of_transactions_add_up_to_a_fresh_listing():
     chance = random.Random(13)
     rows = {"r": {}, "s": {}, "t": {}}
-    seq = 0
+    seq, refused = 0, 0
     with Serving() as serving:
         changer, following = serving.client(), Following(serving.client())
         changer.ask(b"rel r int int\nrel s int int\nrel t int", b"ok", b"ok", b"ok")
@@ -1227,11 +1393,11 @@ def deltas_of_batches_add_up_to_a_fresh_listing():
             changer.ask(b"query " + text, b"ok query %d" % (2 * len(head) + 1))
             following.client.ask(b"watch " + text[:1], b"ok watch 0")
             following.answers[text[:1]] = set()
-        for _ in range(400):
-            if chance.random() < 0.3:
-                changed, came = put_batch(changer, chance, rows, 6)
-                seq += came > 0
-                expect(changer.line(), b"ok done %d %d" % (seq, came))
+        for _ in range(600):
+            if chance.random() < 0.5:
+                changed, moved, said = say_transaction(changer, chance, rows, 6)
+                seq, refused = seq + (moved > 0), refused + said.startswith(b"err")
+                expect(changer.line(), said.replace(b"%d", b"%d" % seq))
             else:
                 relation, is_change, said = change_row(changer, chance, rows, 6)
                 seq, changed = seq + is_change, {relation} if is_change else set()
@@ -1240,6 +1406,7 @@ def deltas_of_batches_add_up_to_a_fresh_listing():
                 if changed & {read for read, _ in atoms}:
                     following.take(text[:1], seq)
                     expect(following.answers[text[:1]], brute(head, atoms, rows), text)
+        assert refused > 5
         for text, head, atoms in JOINS:
             expect(listed(changer, b"k", text[:1]), brute(head, atoms, rows), text)
 
@@ -1416,7 +1583,7 @@ def members_answers_are_compared_in_the_order_of_their_heads():
 
 
 @test
-def a_batch_below_members_is_one_delta_of_their_union():
+def a_transaction_below_members_is_one_delta_of_their_union():
     expect_session([
         (b"rel r int", [b"ok"]),
         (b"rel s int", [b"ok"]),
@@ -1453,6 +1620,20 @@ def a_batch_below_members_is_one_delta_of_their_union():
         (b"del t 1", [b"at u 4", b"ok removed 4 0"]),
         (b"del s 5", [b"ok removed 4 1"]),
         (b"del s 5", [b"- b 5", b"at b 5", b"- u 5", b"at u 5", b"ok removed 5 0"]),
+        (b"add s 6", [b"+ b 6", b"at b 6", b"+ u 6", b"at u 6", b"ok added 6 1"]),
+        # what one member loses and another one gains stays an answer of the union
+        (b"batch", [b"ok batch"]),
+        (b"del s 6", [b"ok held 1"]),
+        (b"add r 6", [b"ok held 2"]),
+        (b"add t 0", [b"ok held 3"]),
+        (b"del r 5", [b"ok held 4"]),
+        (b"del r 5", [b"ok held 5"]),
+        (b"del r 5", [b"ok held 6"]),
+        (b"done", [b"- b 6", b"at b 7", b"at u 7", b"ok done 7 4"]),
+        (b"batch", [b"ok batch"]),
+        (b"del t 0", [b"ok held 1"]),
+        (b"add s 7", [b"ok held 2"]),
+        (b"done 2", [b"+ b 7", b"at b 8", b"+ u 7", b"- u 6", b"at u 8", b"ok done 8 2"]),
     ])
 
 
@@ -1512,9 +1693,9 @@ def unions_are_listed_told_and_asked_as_by_brute_force():
             following.answers[name] = set()
         for turn in range(600):
             if chance.random() < 0.2:
-                changed, came = put_batch(changer, chance, rows, 4)
-                seq += came > 0
-                expect(changer.line(), b"ok done %d %d" % (seq, came))
+                changed, moved, said = say_transaction(changer, chance, rows, 4)
+                seq += moved > 0
+                expect(changer.line(), said.replace(b"%d", b"%d" % seq))
             else:
                 relation, is_change, said = change_row(changer, chance, rows, 4)
                 seq, changed = seq + is_change, {relation} if is_change else set()

@@ -24,7 +24,7 @@ from docs import anchors_of, in_any_order, prose
 from serving import HERE, SECONDS, Server
 
 ROOT = os.path.abspath(os.path.join(HERE, ".."))
-LEAST, ALL = 23, 25
+LEAST, ALL = 24, 26
 
 
 def run(program, lines):

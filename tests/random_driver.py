@@ -140,22 +140,29 @@ class Author:
         return self.planned.pop()
 
     def batch(self):
-        """A batch, of as many rows as it may hold at times, or of one more; and in it lines that aren't for a batch."""
+        """A batch of lines that add and delete rows, so that each of them finds a copy mostly; and in it lines that aren't
+        for a batch. Its end names the number of its lines at times, and another one."""
         if self.chance.random() < 0.05:
-            return self.chance.choice([b"done", b"abandon"])
-        count = self.chance.choice([0, 1, 2, 2, 3, 5, 9])
-        if self.chance.random() < 0.005:
-            count = model.MOST_HELD + self.chance.choice([-1, 0, 1])
-        held = [b"add " + self.some_row() for _ in range(count)]
+            return self.chance.choice([b"done", b"done 0", b"done 1", b"abandon"])
+        count = self.chance.choice([0, 1, 2, 2, 3, 5, 9, 30])
+        held = []
+        for _ in range(count):
+            row = self.some_row()
+            held.append(self.chance.choice([b"add ", b"add ", b"del "]) + row)
+            if self.chance.random() < 0.4:
+                # the row moves, or comes and goes
+                held.append(self.chance.choice([b"add ", b"del "]) + self.chance.choice([row, self.some_row()]))
         for _ in range(self.chance.choice([0, 0, 0, 1, 2])):
             held.insert(self.chance.randrange(len(held) + 1), self.misplaced())
-        self.planned = [self.chance.choice([b"done"] * 5 + [b"abandon"])] + held
+        said = self.chance.choice([len(held)] * 5 + [len(held) + 1, 0, 1 << 32, 1 << 70])
+        end = self.chance.choice([b"done"] * 5 + [b"done %d" % said, b"done 0%d" % len(held), b"done -1", b"abandon"])
+        self.planned = [end] + held[::-1]
         return b"batch"
 
     def misplaced(self):
         """A line that isn't for a session with a batch open."""
         asked = self.chance.choice([self.next, self.has, self.watch, self.explain, self.shape, self.rel])()
-        return self.chance.choice([asked, asked, b"batch", b"del " + self.some_row()])
+        return self.chance.choice([asked, asked, b"batch"])
 
     def query(self):
         if self.chance.random() < 0.02:

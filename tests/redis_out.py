@@ -384,9 +384,9 @@ def an_entry_a_delta(program):
             told.subscribe("djq:q")
             told.get_message(timeout=SECONDS)
             texts = ['say "hi"', "line\nfeed", "back\\slash", "", "äöü 😀"]
-            with changes.batch() as batch:
+            with changes.transaction() as change:
                 for number, text in enumerate(texts):
-                    batch.add("jobs", number, text)
+                    change.add("jobs", number, text)
             changes.delete("jobs", 7, "bo lt")
             wait_for(lambda: client.xlen("djq:q") == 3)
             expect(client.smembers("djq:q:now"), {spell_answer(row) for row in enumerate(texts)})
@@ -1081,7 +1081,7 @@ def entries_are_transactions(program):
 
 
 @test
-def a_batch_is_whole_with_its_position(program):
+def a_transaction_is_whole_with_its_position(program):
     """A position that is a part of the change itself; its query was registered first, so its delta comes first."""
     with Server(program) as server, Redis() as there, there.connect() as client, server.connect() as changes:
         changes.relation("orders", int, int)
@@ -1091,11 +1091,10 @@ def a_batch_is_whole_with_its_position(program):
         changes.add("position", 0)
         with Writer(server, there, "--queries", "q", "--commit-on", "done"):
             for number in range(1, 41):
-                with changes.batch() as batch:
+                with changes.transaction() as change:
                     for line in range(5):
-                        batch.add("orders", number, line)
-                    batch.add("position", number)
-                changes.delete("position", number - 1)
+                        change.add("orders", number, line)
+                    change.update("position", (number - 1,), (number,))
             wait_for(lambda: client.hget("djq:q:at", "lsn") == "40")
             found = entries(client)
             expect([entry.lsn for entry in found], [str(number) for number in range(1, 41)])

@@ -155,6 +155,17 @@ add r 4
 has q 4 "d"
 done
 batch
+del r 4 "d"
+add r 4 "e"
+done 2
+batch
+del r 4 "e"
+del r 4 "e"
+done
+batch
+add r 4 "f"
+done 2
+batch
 abandon
 batch
 quit
@@ -172,9 +183,24 @@ def a_filter_writes_what_the_program_does(program):
     expect(len(told.splitlines()), len(refusals), told)
     assert "err 18 batch: no batch is open (sent: done)" in told, told
     assert 'err 18 batch: a batch is open (sent: has q 4 "d")' in told, told
+    assert "err 19 absent: nothing of the batch was carried out (sent: done)" in told, told
+    assert "err 20 held: nothing of the batch was carried out (sent: done 2)" in told, told
     assert told.startswith("djq-shell: line 2: err 2 taken"), told
     assert "err 17 member: p stands twice (sent: union v p p)" in told, told
     assert "djq-shell: line 7: err 6 arity: 1 values were given, and r has 2 columns" in told, told
+
+
+@test()
+def lines_that_are_held_at_the_end_are_reported(program):
+    begun = "rel r int\nbatch\nadd r 1\n"
+    for last in ("quit", "stop"):
+        written, told, status = filtered(f"{begun}{last}\n", program=program)
+        expect((written, status), ("ok\nok batch\nok held 1\nerr 18 batch\nbye\n", 1), told)
+        expect(told, f"djq-shell: line 4: err 18 batch: the lines of the open batch are discarded (sent: {last})\n")
+    written, told, status = filtered(begun, program=program)
+    expect((written, status), ("ok\nok batch\nok held 1\n", 1))
+    expect(told, "djq-shell: the input ended within a batch: 1 line was held, and nothing of the batch was carried out\n")
+    expect(filtered("batch\n", program=program)[1:], ("", 0))
 
 
 @test()
@@ -495,7 +521,7 @@ def a_bad_line_is_told_and_nothing_is_sent(program):
         written, told, status = filtered(f"\\load {named} r new header\n", server=server)
         assert written.startswith("1 row came to r, 3,001 were there already") and status == 0, written + told
         expect([client.delete("r", number, "text").copies for number in (0, 2999)], [1, 1])
-        # each batch of a load is one change
+        # each thousand rows of a load are one change
         expect(client.delete("r", 3000, "more"), djq.Removed(5, 0))
 
 
@@ -539,7 +565,7 @@ def a_load_that_is_refused_is_taken_back(program):
         expect(client.snapshot("q"), {(1,), (1500,), (90000,)})
         written, told, status = filtered(f"\\load {path} r\n", server=Refusing(server, 1700, hang_up=True))
         assert status in (1, 2) and "the connection was lost: the " in told and f"\\load {path} r new" in told, told
-        # of the batch that was open nothing came
+        # of the transaction that was open nothing came
         expect([client.delete("r", number).copies for number in (1, 1500, 90000)], [1, 0, 0])
         expect(filtered(f"\\load {path} r new\n", server=server)[2], 0)
         expect([client.delete("r", number).copies for number in (0, 1, 1000, 2999)], [0] * 4)
@@ -730,24 +756,39 @@ def an_open_batch_is_shown(program):
         shell.runs("watch q", "ok watch 0")
         assert "\n[0 held] djq>" in shell.runs("batch", "ok batch")
         assert "\n[1 held] djq>" in shell.runs("add r 1 2", "ok held 1")
-        assert "it holds 1 row: done puts them in" in shell.runs("drop q", "err 18 batch: a batch is open")
+        assert "it holds 1 line: done carries them out" in shell.runs("drop q", "err 18 batch: a batch is open")
         assert "r has the columns int int" in shell.runs("add r 1", "err 6 arity")
         shell.runs("\\show q", "a batch is open, and \\show asks the server")
         shell.runs("\\names", "rel r int int")
         shell.runs("add r 3 4", "ok held 2")
         shell.completes("do")  # no drop here
         told = shell.runs("", "+ q  1  2")
-        assert "+ q  3  4" in told and "ok done 1 2" in told and "2 rows came, as one change" in told, told
+        assert "+ q  3  4" in told and "ok done 1 2" in told and "2 rows came or went, as one change" in told, told
         assert "\ndjq>" in told, told
         assert "batch opens one" in shell.runs("done", "err 18 batch: no batch is open")
         shell.runs("batch", "ok batch")
         shell.runs("add r 1 2", "ok held 1")
-        assert "no row came: each was there" in shell.runs("done", "ok done 1 0")
+        assert "no row came or went: only copies" in shell.runs("done", "ok done 1 0")
+        # an update, one of a row that isn't there, and another count than is held
+        shell.runs("batch", "ok batch")
+        shell.runs("del r 3 4", "ok held 1")
+        assert "\n[2 held] djq>" in shell.runs("add r 3 5", "ok held 2")
+        told = shell.runs("done 2", "+ q  3  5")
+        assert "- q  3  4" in told and "ok done 2 2" in told and "2 rows came or went" in told, told
+        shell.runs("batch", "ok batch")
+        shell.runs("del r 3 4", "ok held 1")
+        assert "no copy of r 3 4 is there" in shell.runs("done", "err 19 absent")
+        shell.runs("batch", "ok batch")
+        shell.runs("add r 3 4", "ok held 1")
+        assert "1 line was held" in shell.runs("done 3", "err 20 held")
         shell.runs("batch", "ok batch")
         shell.runs("add r 5 6", "ok held 1")
         assert "\ndjq>" in shell.runs("abandon", "ok")
         shell.runs("has q 5 6", "no")
+        shell.runs("batch", "ok batch")
+        shell.runs("del r 3 5", "ok held 1")
         shell.types("\\q\r")
+        shell.waits("1 line was held, and nothing of the batch was carried out")
         expect(shell.ends(), 0)
 
 

@@ -6,8 +6,8 @@
 tests/stop.c is compiled with gcc and preloaded. A schedule with a log is run again and again, and stopped at its first
 call that writes or syncs the file, at its second, and so on: before a write, in the middle of it and after it, and with
 some of the writes undone that weren't synced, as after a power cut. Each time the file that is left has to load, and to
-give what the first lines of the schedule gave, a batch with all of its rows or with none: of a new log, of a log of
-format 1, and of a file that is being made a log. One line is printed for each test that fails, and last
+give what the first lines of the schedule gave, a transaction with all that it changes or with nothing: of a new log, of a
+log of format 1, and of a file that is being made a log. One line is printed for each test that fails, and last
 `N passed, N failed`; the status is 0 if none failed. Python's standard library and gcc are all it needs.
 """
 
@@ -124,27 +124,33 @@ def unions_that_are_kept():
 
 
 @test
-def a_batch_of_two_rows_is_left_whole_or_not_at_all():
+def a_transaction_of_two_rows_is_left_whole_or_not_at_all():
     each_stop([[b"batch", b"add r 1 2", b"add r 2 3", b"done"]])
 
 
 @test
-def a_batch_in_several_writes_is_left_whole_or_not_at_all():
-    # the lines are gathered in pieces of 16 KB in format 1, and of 64 KB in format 2
-    each_stop([[b"batch", *(b"add r %d 2" % row + b" " * 4000 for row in range(36)), b"done"]])
+def an_updated_row_is_left_as_it_was_or_as_it_is():
+    each_stop([[b"batch", b"del r 9 9", b"add r 9 8", b"add r 8 9", b"done 3"], [b"batch", b"del r 9 8", b"del r 8 9", b"done"]])
 
 
 @test
-def batches_between_other_lines():
-    each_stop([[b"add r 5 5"], [b"batch", b"add r 1 2", b"add r 2 3", b"add r 1 2", b"done"], [b"del r 2 3"],
+def a_transaction_in_several_writes_is_left_whole_or_not_at_all():
+    # the lines are gathered in pieces of 16 KB in format 1, and of 64 KB in format 2
+    held = [b"add r %d 2" % row + b" " * 4000 for row in range(35)]
+    each_stop([[b"batch", *held, b"del r 9 9", b"done"]])
+
+
+@test
+def transactions_between_other_lines():
+    each_stop([[b"add r 5 5"], [b"batch", b"add r 1 2", b"add r 2 3", b"add r 1 2", b"del r 5 5", b"done"], [b"del r 2 3"],
                [b"batch", b"add r 7 7", b"done"], [b"del r 9 9"]])
 
 
 @test
 def a_file_that_ends_within_a_batch_is_stopped_as_it_is_mended():
-    lines = [*BEGIN, b"batch", b"add r 1 1"]
-    each_stop_of_a_start(log_format.write_first(lines), ((b"= 9 9",), b"ok watch 1"))
-    each_stop_of_a_start(log_format.write([BEGIN, [b"batch", b"add r 1 1"]]), ((b"= 9 9",), b"ok watch 1"))
+    held = [b"batch", b"add r 1 1", b"del r 9 9"]
+    each_stop_of_a_start(log_format.write_first([*BEGIN, *held]), ((b"= 9 9",), b"ok watch 1"))
+    each_stop_of_a_start(log_format.write([BEGIN, held]), ((b"= 9 9",), b"ok watch 1"))
 
 
 @test

@@ -268,8 +268,11 @@ def questions():
 
 
 def transactions():
-    got = PLACE.talk("7007", ["batch", "del r 1 2", "has f 1 2 3", *(f"add r {n} 1" for n in range(1001)), "done"])
-    expect(got[:3] + got[-3:], ["ok batch", "err 18 batch", "err 18 batch", "ok held 1000", "err 11 limit", "ok done 1 1000"])
+    got = PLACE.talk("7007", ["batch", "has f 1 2 3", *(f"add r {n % 1000} 1" for n in range(65537)), "done"])
+    expect(got[:2] + got[-3:], ["ok batch", "err 18 batch", "ok held 65536", "err 11 limit", "ok done 1 1000"])
+    update = lambda value: ["batch", "del r 5000 1", f"add r 5000 {value}", "done 2"]
+    got = PLACE.talk("7007", ["add r 5000 1", *update(2), *update(3)])
+    expect(got[4::4], ["ok done 3 2", "err 19 absent"])
 
 
 def sizes():
@@ -305,7 +308,7 @@ def heard(client):
 
 
 def durable():
-    expect(PLACE.talk("7007", ["add s 424242 1"]), ["ok added 2 1"])
+    expect(PLACE.talk("7007", ["add s 424242 1"]), ["ok added 4 1"])
     with open(os.path.join(PLACE.folder, "own.log"), "rb") as file:
         expect(b"add s 424242 1" in file.read(), True, "the line is in the log before its reply")
 

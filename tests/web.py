@@ -258,6 +258,12 @@ def rows_of_another_session_come_and_go(program):
         events.until(lambda views: events.rows() == [("1", "one")] and events.now("3", 1) == "1")
         assert ", gone at " in events.views["2"]["words"], events.views["2"]
         assert '<td>one</td>' in web.page() and '<td>two</td>' not in web.page()
+        # a row that replaces another one is told with it
+        with client.transaction() as change:
+            change.update("r", (1, "one"), (1, "uno"))
+        events.until(lambda views: events.rows() == [("1", "uno")] and events.now("3", 1) == "1")
+        assert events.views["latest"]["words"].endswith("Rows <b>here</b>, new: 1, uno; gone: 1, one"), events.views["latest"]
+        expect(events.views["2"]["cells"], ["1", "uno"])
 
 
 @test

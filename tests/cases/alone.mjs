@@ -54,16 +54,16 @@ async function endLines() {
   assert.deepEqual([errors[0].name, errors[0].reason, errors[0].line], ["Ended", "slow", "add r 1"]);
 }
 
-/** Commands that nobody awaits are sent in order, batches and listings between them. */
+/** Commands that nobody awaits are sent in order, transactions and listings between them. */
 async function inOrder(server) {
   await server.relation("many", "int");
   await server.query("all_of_many(x) <- many(x)");
   const replies = [];
   for (let place = 0; place < 5000; place += 1) replies.push(server.add("many", place));
-  const batch = server.batch((rows) => [5000, 5001].forEach((value) => rows.add("many", value)));
+  const both = server.transaction((change) => [5000, 5001].forEach((value) => change.add("many", value)));
   const [one, two] = [server.snapshot("all_of_many"), server.snapshot("all_of_many")];
   const after = server.add("many", 5002);
-  assert.equal((await batch).seq, 5001);
+  assert.equal((await both).seq, 5001);
   assert.equal((await after).seq, 5002);
   assert.deepEqual(new Set((await Promise.all(replies)).map((reply) => reply.seq)).size, 5000);
   assert.ok((await one).length >= 5002 && (await two).length >= 5002);
@@ -89,8 +89,10 @@ async function valuesThatArentSent(server) {
   }
   assert.deepEqual(djq.readValues(djq.spell('a "b"\\\n')), ['a "b"\\\n']);
   assert.throws(() => server.query('z(x) <- r(x,"a\nb")'), TypeError);
-  await assert.rejects(server.batch((rows) => Array(1001).fill(0).forEach(() => rows.add("r", 1, 1))), RangeError);
-  await assert.rejects(server.batch(() => { throw new Error("own"); }), /own/);
+  const tooMany = (change) => Array(65537).fill(0).forEach(() => change.add("r", 1, 1));
+  await assert.rejects(server.transaction(tooMany), RangeError);
+  await assert.rejects(server.transaction(() => { throw new Error("own"); }), /own/);
+  await assert.rejects(server.transaction((change) => change.update("r", [1, 1], [1, 1.5])), TypeError);
 }
 
 /** A live set ends by one sentence that names its query, and a closed one by null. */

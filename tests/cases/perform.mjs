@@ -27,7 +27,8 @@ const own = {
   long: (server, size) => server.add("r", "x".repeat(size)),
   many: (server, relation, count) => server.load(relation, Array.from({ length: count }, (_, place) => [place, "t"])),
   last: (_, name, count) => until(named.get(name), count),
-  batch: (server, ...rows) => server.batch((batch) => rows.forEach((row) => batch.add(...row))),
+  transaction: (server, ...lines) =>
+    server.transaction((change) => lines.forEach(([name, ...given]) => change[name](...given))),
   cursor: async (server, name, query) => void named.set(name, await server.cursor(query)),
   page: (_, name, count) => named.get(name).next(count),
   shut: async (_, name) => void (await named.get(name).close()),

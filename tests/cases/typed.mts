@@ -9,7 +9,11 @@ await server.relation("lines", { number: "int", item: "text" });
 server.columns("r", "number", "name");
 const spelled: string = server.schema.spell('p(n) <- lines(number: n, item: "bolt")');
 const added: djq.Update = await server.add("r", 1n, "a");
-const done: djq.Done = await server.batch((rows) => rows.add("r", 2, "b"));
+const done: djq.Done = await server.transaction((change) => change.add("r", 2, "b"));
+await server.transaction(async (change: djq.Transaction) => {
+  change.update("r", [2, "b"], [2n, "c"]);
+  change.delete("r", 2, "c");
+});
 const answers: djq.Answer[] = await server.snapshot("q", { within: 1000 });
 for await (const answer of server.answers("q")) answers.push(answer);
 const live: djq.Live = await djq.live("q", { port: 7007, reconnect: true, ping: 1000 });

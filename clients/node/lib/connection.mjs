@@ -12,7 +12,7 @@ import { Schema } from "./schema.mjs";
 import { Signal } from "./signal.mjs";
 
 export const MOST_ANSWERS = 1000; // of one `next`
-export const MOST_HELD = 1000; // rows of a batch
+export const MOST_HELD = 65536; // lines of a transaction
 const MOST_DUE = 2000; // replies that may be due before further commands wait: the server ends a session at 1 MB of them
 const ROWS_AT_ONCE = 500; // of a load
 const KEEPALIVE = 30_000;
@@ -47,8 +47,6 @@ export class Connection {
     this._socket = socket;
     this._protocol = new Protocol((query, change) => this._delta(query, change));
     this._queue = new Queue(); // what isn't sent yet: see `_together`
-    this._ofBatch = new Queue(); // the same, of the batch that is open
-    this._inBatch = false;
     this._scheduled = false; // whether what is queued will be sent
     this._listings = Promise.resolve(); // settled once the last listing is over: they share a cursor's name
     this._names = 0;
@@ -193,14 +191,23 @@ export class Connection {
 
   // Many at once
 
-  /** Inserts rows as one change, or none of them: `fill` calls `add` of what it is given. Gives `{seq, rows}`. */
-  async batch(fill) {
+  /**
+   * One change, or none: `fill` calls `add`, `delete` and `update` of what it is given. Gives `{seq, rows}`. A row that is
+   * deleted has to be present then, else all is refused with number 19.
+   */
+  async transaction(fill) {
     const lines = [];
-    const rows = { add: (relation, ...values) => void lines.push(spellLine("add", relation, values)) };
-    const filled = fill(rows);
-    if (filled instanceof Promise) await filled; // else the batch is sent before the commands after it
-    if (lines.length > MOST_HELD) throw new RangeError(`${lines.length} rows, and a batch has ${MOST_HELD} at most`);
-    return this._insert(lines);
+    const filled = fill({
+      add: (relation, ...values) => void lines.push(spellLine("add", relation, values)),
+      delete: (relation, ...values) => void lines.push(spellLine("del", relation, values)),
+      update: (relation, old, row) =>
+        void lines.push(...[spellLine("del", relation, old), spellLine("add", relation, row)]),
+    });
+    if (filled instanceof Promise) await filled; // else it is sent before the commands after it
+    if (lines.length > MOST_HELD) {
+      throw new RangeError(`${lines.length} lines, and a transaction has ${MOST_HELD} at most`);
+    }
+    return this._carryOut(lines);
   }
 
   /** Inserts each of many rows. Gives how many weren't present; at the first refusal no further rows are sent. */
@@ -228,33 +235,29 @@ export class Connection {
 
   // Inside
 
-  async _insert(lines) {
-    try {
-      await this._together(["batch"], [READ.ok], { opens: true })[0]; // without it each row would be inserted alone
-      const held = this._together(lines, lines.map(() => READ.held), { queue: this._ofBatch });
-      const replies = await Promise.allSettled(held);
-      const refused = replies.filter((reply) => reply.status === "rejected").map((reply) => reply.reason);
-      if (this.ended !== null && refused.length > 0) throw refused[0];
-      if (refused.length === 0) return await this._say("done", READ.done, this._ofBatch);
-      await this._say("abandon", READ.ok, this._ofBatch);
-      throw new SomeRefused(lines.length, refused);
-    } finally {
-      this._inBatch = false;
-      this._flush();
+  /** Sends a transaction of these lines in one write. `done` names their number: if one is refused, none is carried out. */
+  async _carryOut(lines) {
+    const all = ["batch", ...lines, `done ${lines.length}`];
+    const replies = await Promise.allSettled(this._together(all, [READ.ok, ...lines.map(() => READ.held), READ.done]));
+    const done = replies.pop();
+    const refused = replies.map((reply) => reply.reason).filter((reason) => reason instanceof Refused);
+    if (done.status === "rejected") {
+      if (refused.length > 0 && done.reason instanceof Refused) throw new SomeRefused(lines.length, refused);
+      throw done.reason;
     }
+    return done.value;
   }
 
   /** Sends a command. */
-  _say(line, read, queue = this._queue) {
-    return this._together([line], [read], { queue })[0];
+  _say(line, read) {
+    return this._together([line], [read])[0];
   }
 
   /**
-   * Sends commands in one write, and gives a promise for each. With `opens` they open a batch, and nothing but its own is
-   * sent until it is over. With `holds` none of the replies is parsed before all have arrived. `lead` is how many blank lines
-   * are sent before them, which aren't answered.
+   * Sends commands in one write, and gives a promise for each. With `holds` none of the replies is parsed before all have
+   * arrived. `lead` is how many blank lines are sent before them, which aren't answered.
    */
-  _together(lines, readers, { queue = this._queue, opens = false, holds = false, handlers = [], lead = 0 } = {}) {
+  _together(lines, readers, { holds = false, handlers = [], lead = 0 } = {}) {
     if (this.ended !== null) return lines.map(() => Promise.reject(this.ended));
     const commands = [];
     const replies = lines.map((line, at) => new Promise((resolve, reject) => {
@@ -262,7 +265,7 @@ export class Connection {
       commands.push({ line, read: readers[at], resolve: (result) => resolve(first(result) ?? result), reject });
     }));
     for (const reply of replies) reply.catch(() => {}); // a refusal that nobody awaits yet doesn't end the process
-    queue.push({ commands, opens, holds, lead });
+    this._queue.push({ commands, holds, lead });
     this._schedule();
     return replies;
   }
@@ -280,16 +283,14 @@ export class Connection {
   _flush() {
     const text = [];
     while (this.ended === null) {
-      const queue = this._inBatch ? this._ofBatch : this._queue;
-      const next = queue.first;
+      const next = this._queue.first;
       if (next === undefined || this._protocol.due >= MOST_DUE || (next.holds && this._protocol.due > 0)) break;
-      queue.shift();
+      this._queue.shift();
       for (let blank = 0; blank < next.lead; blank += 1) text.push("");
       for (const { line, read, resolve, reject } of next.commands) {
         text.push(line);
         this._protocol.expect(line, read, resolve, reject);
       }
-      this._inBatch ||= next.opens;
       if (next.holds) this._protocol.hold();
     }
     if (text.length === 0) return;
@@ -347,7 +348,7 @@ export class Connection {
     clearTimeout(this._timer);
     this._protocol.release(); // what the server sent before may say why it ended
     this._protocol.lose(error);
-    for (const unsent of [...this._queue.clear(), ...this._ofBatch.clear()]) {
+    for (const unsent of this._queue.clear()) {
       for (const command of unsent.commands) command.reject(this.ended);
     }
     for (const watched of this._watched.values()) watched.signal.wake();

@@ -132,6 +132,8 @@ const CURES = new Map([
   [16, "a compared variable is in an atom too"],
   [17, "members are queries, each named once, with answers of the same types"],
   [18, "end the open batch first, or open one"],
+  [19, "a row that the transaction deletes isn't present: nothing was changed; read what is present, and try again"],
+  [20, "another number of lines is held: nothing was changed; send the lines again"],
   ["cyclic", "the edges form a ring: add a relation that has all its variables, or leave an atom out and send has for it"],
   ["connex", "add the variables between the head's to the head, and ignore their values"],
 ]);

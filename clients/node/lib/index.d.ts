@@ -17,7 +17,7 @@ export interface Update {
 
 export interface Done {
   seq: number;
-  /** How many rows of the batch weren't present. */
+  /** How many rows the transaction inserted and deleted together. */
   rows: number;
 }
 
@@ -62,8 +62,11 @@ export interface LiveSettings extends Within {
   ping?: number;
 }
 
-export interface BatchRows {
+/** What a transaction adds, deletes and updates. A row that is deleted, or replaced, has to be present then. */
+export interface Transaction {
   add(relation: string, ...values: Value[]): void;
+  delete(relation: string, ...values: Value[]): void;
+  update(relation: string, old: Value[], row: Value[]): void;
 }
 
 export const MOST_ANSWERS: number;
@@ -110,8 +113,8 @@ export class Connection {
   watch(query: string): Promise<number>;
   unwatch(query: string): Promise<void>;
   nextChange(query: string, settings?: Timeout): Promise<Delta | null>;
-  /** Inserts the rows that `fill` adds as one change, or none of them. */
-  batch(fill: (rows: BatchRows) => void | Promise<void>): Promise<Done>;
+  /** Carries out what `fill` calls as one change, or nothing of it. */
+  transaction(fill: (change: Transaction) => void | Promise<void>): Promise<Done>;
   /** Inserts many rows. Gives how many weren't present. */
   load(relation: string, rows: Iterable<Value[]> | AsyncIterable<Value[]>): Promise<number>;
 }

@@ -23,12 +23,12 @@ Where one of several queries is enough, their union is told as one query, an ans
     server.union("alarm", "hot", "shut")
 
 A row has copies: each `add` brings one, each `delete` takes one, and only the first that comes and the last that goes
-change what is answered. Rows that belong together come by a batch, all at once or none of them:
+change what is answered. What belongs together is one transaction, which is one change, or none:
 
-    with server.batch() as batch:
-        batch.add("orders", 7, "bo")
-        batch.add("lines", 7, 1, "bolt")
-    print(batch.result())                           # Done(seq=3, rows=2)
+    with server.transaction() as change:
+        change.update("reading", (1, 20), (1, 21))
+        change.add("closed", 1)
+    print(change.result())                          # Done(seq=3, rows=3)
 
 What is computed of live answers is updated by what came and went, and nothing is asked for again:
 
@@ -40,7 +40,7 @@ stand on one page, docs/CLIENT.md in the repository.
 
 Inside, `protocol` knows the lines and no socket: what a command sends, which reply is due, and which lines are deltas;
 `syntax` knows what a line may have meant that the server doesn't understand, and `schema` the names of columns.
-`connection` moves the bytes, `many` sends commands together, `batch` collects rows that belong together, `listing`
+`connection` moves the bytes, `many` sends commands together, `transaction` collects the lines of one, `listing`
 lists the answers of one moment, and `live` keeps them up to date: `kept` takes the changes, and `folds` are what is
 computed of the answers. `table` keeps rows by key, and `expiring` takes them out in time, by `expiry`.
 """
@@ -49,28 +49,29 @@ from .connection import Connection, Cursor, connect
 from .errors import (
     REFUSALS, Arity, BadColumns, BadName, ComparisonUnbound, Cyclic, Disconnected, Ended, Error, HeadRepeated,
     HeadUnbound, InUse, LimitReached, MemberRefused, Misplaced, NoCursor, NoQuery, NoRelation, NotFreeConnex,
-    NotWatched, OutOfMemory, Overtaken, Refused, SomeRefused, Stale, Syntax, Taken, TooLong, TwoThreads, Unanswered,
-    VariableType, WrongType,
+    NotWatched, OutOfMemory, Overtaken, Refused, RowAbsent, SomeRefused, Stale, Syntax, Taken, TooLong, TwoThreads,
+    Unanswered, VariableType, WrongCount, WrongType,
 )  # fmt: skip
 from .expiring import Expiring
 from .folds import Columns, Index, Key
 from .kept import Moment
 from .live import Live, Lives
-from .many import Batch, Pipeline, PipelinedBatch
+from .many import Pipeline, PipelinedTransaction, Transaction
 from .protocol import (
-    MOST_ANSWERS, MOST_HELD, MOST_MEMBERS, Absent, Added, Answer, Change, Done, Page, Pending, Protocol, Removed,
-    Update, Value, read_values, spell,
+    HELD_BYTES, MOST_ANSWERS, MOST_HELD, MOST_MEMBERS, Absent, Added, Answer, Change, Done, Page, Pending, Protocol,
+    Removed, Update, Value, read_values, spell,
 )  # fmt: skip
 from .schema import Schema
 from .table import Table
 from .version import __version__
 
 __all__ = [
-    "MOST_ANSWERS", "MOST_HELD", "MOST_MEMBERS", "REFUSALS", "Absent", "Added", "Answer", "Arity", "BadColumns",
-    "BadName", "Batch", "Change", "Columns", "ComparisonUnbound", "Connection", "Cursor", "Cyclic", "Disconnected",
-    "Done", "Ended", "Error", "Expiring", "HeadRepeated", "HeadUnbound", "InUse", "Index", "Key", "LimitReached",
-    "Live", "Lives", "MemberRefused", "Misplaced", "Moment", "NoCursor", "NoQuery", "NoRelation", "NotFreeConnex",
-    "NotWatched", "OutOfMemory", "Overtaken", "Page", "Pending", "Pipeline", "PipelinedBatch", "Protocol", "Refused",
-    "Removed", "Schema", "SomeRefused", "Stale", "Syntax", "Table", "Taken", "TooLong", "TwoThreads", "Unanswered",
-    "Update", "Value", "VariableType", "WrongType", "__version__", "connect", "read_values", "spell",
+    "HELD_BYTES", "MOST_ANSWERS", "MOST_HELD", "MOST_MEMBERS", "REFUSALS", "Absent", "Added", "Answer", "Arity",
+    "BadColumns", "BadName", "Change", "Columns", "ComparisonUnbound", "Connection", "Cursor", "Cyclic",
+    "Disconnected", "Done", "Ended", "Error", "Expiring", "HeadRepeated", "HeadUnbound", "InUse", "Index", "Key",
+    "LimitReached", "Live", "Lives", "MemberRefused", "Misplaced", "Moment", "NoCursor", "NoQuery", "NoRelation",
+    "NotFreeConnex", "NotWatched", "OutOfMemory", "Overtaken", "Page", "Pending", "Pipeline", "PipelinedTransaction",
+    "Protocol", "Refused", "Removed", "RowAbsent", "Schema", "SomeRefused", "Stale", "Syntax", "Table", "Taken",
+    "TooLong", "Transaction", "TwoThreads", "Unanswered", "Update", "Value", "VariableType", "WrongCount", "WrongType",
+    "__version__", "connect", "read_values", "spell",
 ]  # fmt: skip

@@ -11,10 +11,10 @@ from types import TracebackType
 from typing import TYPE_CHECKING, Any, Callable, Iterable, Iterator, Sequence, TypeVar
 
 from . import protocol
-from .errors import Disconnected, Error, NoCursor, NotWatched, SomeRefused, TwoThreads, Unanswered
+from .errors import Disconnected, Error, NoCursor, NotWatched, TwoThreads
 from .listing import WITHIN, Said, list_whole
-from .many import Batch, Load, Pipeline
-from .protocol import MOST_ANSWERS, Added, Answer, Change, Done, Page, Pending, Protocol, Rows, Update
+from .many import Load, Pipeline, Transaction
+from .protocol import MOST_ANSWERS, Added, Answer, Change, Commit, Page, Pending, Protocol, Update
 from .protocol import Value, checked, fitting, spell, spell_line, spell_query, spell_relation, spell_union
 from .schema import Schema
 
@@ -232,18 +232,21 @@ class Connection:
 
     # Many at once, and changes
 
-    def batch(self) -> Batch:
-        """Rows that are added in the block go in at its end, all at once and as one change, or none of them does:
+    def transaction(self) -> Transaction:
+        """What the block adds, deletes and updates is carried out at its end as one change, or not at all:
 
-        with server.batch() as batch:
-            batch.add("orders", 7, "bo")
-            batch.add("lines", 7, 1, "bolt")
-        came = batch.result().rows
+        with server.transaction() as change:
+            change.add("orders", 8, "al")
+            change.update("states", (7, "new"), (7, "paid"))
+            change.delete("open", 7)
+        done = change.result()
 
-        Up to `MOST_HELD` rows. Until the block's end nothing is sent, and where the block raises nothing is. At its end
-        `SomeRefused` is raised where the server refused rows, and what it refused the batch with; then none is in.
+        It has up to `MOST_HELD` lines of `HELD_BYTES` bytes, and is sent at the block's end in one write; if the block
+        raises, nothing is sent. A row that is deleted has to have a copy then, else `RowAbsent` is raised: so what the
+        block deletes states what must still be there. `SomeRefused` is raised if the server refused lines. After a
+        refusal nothing was carried out.
         """
-        return Batch(self)
+        return Transaction(self)
 
     def pipeline(self, raises: bool = True) -> Pipeline:
         """Commands of the block are sent together, and their replies read by its end:
@@ -370,29 +373,18 @@ class Connection:
         self._whole(self._protocol.read)
         return pending
 
-    def _put_in(self, rows: list[str]) -> Done:
-        """Puts the rows of these lines in by a batch, which is abandoned where that goes wrong."""
+    def _say_transaction(self, lines: list[str], failed: Callable[[Error], None] | None = None) -> Commit:
+        """Queues a transaction of these lines."""
         with self._using:
-            try:
-                self._do("batch", protocol.READ_OK)
-                self._hold(rows)
-                done = self._say("done", protocol.READ_DONE)
-            except Unanswered as error:
-                raise Disconnected("the connection was lost; the batch wasn't done") from error
-            except BaseException:
-                self._say_last("abandon")
-                raise
-            self._settle()
-        return done.result()
+            self._check()
+            return self._whole(self._protocol.say_transaction, lines, failed)
 
-    def _hold(self, rows: list[str]) -> None:
-        """Adds the rows of these lines to the batch that is open, and waits until they are held. Raises
-        `SomeRefused`."""
-        held = Load(self, None)
-        for at in range(0, len(rows), ROWS_AT_ONCE):
-            if not held.send(rows[at : at + ROWS_AT_ONCE]):
-                break
-        held.finish()
+    def _carry_out(self, lines: list[str]) -> Commit:
+        """Sends a transaction of these lines, and waits for its replies."""
+        with self._using:
+            commit = self._say_transaction(lines)
+            self._drain(0, 0)
+        return commit
 
     def _give_up(self, cursor: str) -> None:
         """Closes a cursor without waiting for the reply, as something else has gone wrong."""

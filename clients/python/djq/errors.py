@@ -181,9 +181,21 @@ class MemberRefused(Refused):
 
 
 class Misplaced(Refused):
-    """A batch is open, and the command isn't one for a batch; or none is, and it is."""
+    """A transaction is open, and the command isn't one for it; or none is, and it is."""
 
     number = 18
+
+
+class RowAbsent(Refused):
+    """A transaction deletes a row that has no copy. Nothing of the transaction was carried out."""
+
+    number = 19
+
+
+class WrongCount(Refused):
+    """`done` names another number of lines than are held. Nothing of the transaction was carried out."""
+
+    number = 20
 
 
 class NotFreeConnex(Refused):
@@ -261,5 +273,6 @@ REFUSALS: dict[int, type[Refused]] = {
     for kind in (
         Syntax, Taken, NoRelation, NoQuery, NoCursor, Arity, WrongType, HeadUnbound,
         HeadRepeated, VariableType, LimitReached, OutOfMemory, InUse, ComparisonUnbound, MemberRefused, Misplaced,
+        RowAbsent, WrongCount,
     )
 }  # fmt: skip

@@ -9,12 +9,12 @@ from collections.abc import Callable, Iterable, Sequence
 from types import TracebackType
 
 from .connection import Connection
-from .errors import Error, Taken
-from .expiry import FEWEST_HELD, LONGEST_WAIT, Expiry
+from .errors import Error, RowAbsent, SomeRefused, Taken
+from .expiry import LONGEST_WAIT, Edit, Expiry
 from .listing import WITHIN, list_whole
 from .live import Waits
-from .protocol import MOST_HELD, Answer, Value
-from .table import Table
+from .protocol import Answer, Done, Value
+from .table import Table, of_one
 
 
 class Expiring(Expiry):
@@ -30,8 +30,8 @@ class Expiring(Expiry):
 
     A thread with a connection of its own takes out what is due, until `close` or the end of the process. One such thread
     is enough for a table; with `by_itself=False` there is none, and `expire` does it. Several processes may renew. The
-    latest time counts, so their clocks should agree to a fraction of it. A row that is renewed just as it goes comes
-    back at once.
+    latest time counts, so their clocks should agree to a fraction of it. A renewal and an expiry are transactions that
+    delete the time before: whichever comes second is refused, and made anew after the other.
     """
 
     def __init__(
@@ -63,20 +63,12 @@ class Expiring(Expiry):
         return self.renew_all([row]) == 1
 
     def renew_all(self, rows: Iterable[Sequence[Value]]) -> int:
-        """As `renew` for each of these rows, of which no two have one key, by a few round trips for all. Gives how many
-        weren't there."""
-        self._catch_up()
-        renewal = self._renewal(rows)
-        come = renewal.come
-        if renewal.missing:
-            # the time before the row: a row without one would stay
-            self._send(self._due, come, [])
-            self._put_in(renewal.missing)
-            come = []
-        self._send(self._due, come, renewal.go)
-        self._catch_up()
-        self._put_in(self._missing(renewal.wanted))  # those that were taken out meanwhile
-        return len(renewal.missing)
+        """As `renew` for each of these rows, of which no two have one key, by a transaction for each thousand. Gives how
+        many weren't there."""
+        missing = 0
+        for some in self._in_parts(rows):
+            missing += self._renew_some(some)
+        return missing
 
     def left(self, *key: Value) -> float | None:
         """The seconds until the row of this key is due; none where there is none."""
@@ -85,18 +77,17 @@ class Expiring(Expiry):
 
     def expire(self) -> list[Answer]:
         """Takes out the rows that are due, and gives them."""
-        self._catch_up()
-        self._send(self._due, self._undated(), [])
-        now = self._now()
-        rows, past = self._over(now)
-        self._send(self.table.relation, [], rows)
-        self._catch_up()
-        # behind the replies each renewal is known that came before its row went
-        back = self._renewed(rows, now)
-        self._send(self.table.relation, back, [])
-        self._send(self._due, [], past)
-        self._catch_up()
-        return [row for row in rows if row not in back]
+        self._date()
+        now, gone = self._now(), list[Answer]()
+        while True:
+            self._catch_up()
+            edit = self._expiry(now)
+            if not edit.deletes:
+                return gone
+            done = self._carry_out(edit)
+            if done is not None:
+                back = self._take_copies(edit, done, now)
+                gone += [row for row in edit.rows if row not in back]
 
     def next_due(self) -> float | None:
         """The seconds until `expire` has something to do; none where there are no rows."""
@@ -114,29 +105,54 @@ class Expiring(Expiry):
             own.query(self._text)
         self._dues._listed(list_whole(own, self._dues.query, WITHIN, watch=True), own._protocol)
         self._dues._restarted()
-        self._send(self._due, self._undated(), [])
+        self._date()
 
-    def _put_in(self, rows: list[Answer]) -> None:
-        """Makes these the rows of their keys."""
-        replacing = [row for row in rows if self._replacing(row)]
-        self._send(self.table.relation, [row for row in rows if not self._replacing(row)], [])
-        for row in replacing:
-            self.table.upsert(*row)
+    def _date(self) -> None:
+        """Gives rows without a time the whole of it."""
+        self._catch_up()
+        for some in self._in_parts(self._undated()):
+            self._carry_out(self._dating(some))
 
-    def _send(self, relation: str, come: Sequence[Answer], go: Sequence[Answer]) -> None:
-        """Adds rows, and then takes others out with all their copies. Raises `SomeRefused`."""
-        if len(come) >= FEWEST_HELD:
-            for at in range(0, len(come), MOST_HELD):
-                with self._connection.batch() as batch:
-                    for row in come[at : at + MOST_HELD]:
-                        batch.add(relation, *row)
-            come = ()
-        while come or go:
-            with self._connection.pipeline() as many:
-                for row in come:
-                    many.add(relation, *row)
-                gone = [many.delete(relation, *row) for row in go]
-            come, go = (), [row for row, reply in zip(go, gone) if reply.result().copies]
+    def _renew_some(self, rows: list[Answer]) -> int:
+        """Renews rows by one transaction. If another process was first, it is made anew of what is there then."""
+        while True:
+            self._catch_up()
+            edit = self._renewal(rows)
+            done = self._carry_out(edit)
+            if done is not None:
+                if done.rows < len(edit.deletes) + len(edit.adds):
+                    self._catch_up()
+                    self.table._take_rest(self._left_over(edit))
+                return len(edit.rows)
+
+    def _take_copies(self, edit: Edit, done: Done, now: int) -> list[Answer]:
+        """Removes further copies of rows that were due, which others gave them. Gives those that were renewed meanwhile,
+        which are added again."""
+        if done.rows == len(edit.deletes):
+            return []
+        self._catch_up()
+        left = self._left_over(edit)
+        left = [row for row in left if row not in self._renewed(left, now)]
+        self.table._take_rest(left)
+        self._catch_up()
+        back = self._renewed(left, now)
+        if back:
+            self._carry_out(Edit([], [(self.table.relation, row) for row in back], back))
+        return back
+
+    def _carry_out(self, edit: Edit) -> Done | None:
+        """One transaction; none if it is refused, as another process has deleted one of these rows first."""
+        try:
+            with self._connection.transaction() as change:
+                for relation, row in edit.deletes:
+                    change.delete(relation, *row)
+                for relation, row in edit.adds:
+                    change.add(relation, *row)
+        except RowAbsent:
+            return None
+        except SomeRefused as error:
+            raise of_one(error) from None
+        return change.result()
 
     def _catch_up(self) -> None:
         """Takes the changes that have come."""

@@ -5,25 +5,28 @@ from __future__ import annotations
 import time
 from collections.abc import Callable, Iterable, Iterator, Sequence
 from dataclasses import dataclass
-from itertools import takewhile
+from itertools import islice, takewhile
 from typing import Any
 
 from .kept import Kept, take_first
 from .protocol import Answer, Protocol, Value
 from .table import Keyed
 
-FEWEST_HELD = 10  # rows that are added by a batch: of fewer the further round trips cost more than they save
+KEYS_AT_ONCE = 1000  # of which one transaction has the rows and their times
 LONGEST_WAIT = 0.2  # seconds after which who expires rows looks whether it is to end
 
 
-@dataclass(frozen=True)
-class Renewal:
-    """The rows that have to be there by their keys, those of them that aren't, and the times that come and go."""
+Line = tuple[str, Answer]  # the name of a relation, and a row of it
 
-    wanted: dict[Answer, Answer]
-    missing: list[Answer]
-    come: list[Answer]
-    go: list[Answer]
+
+@dataclass(frozen=True)
+class Edit:
+    """What one transaction deletes and adds, and which rows of the table it is about: those that it adds, or those that
+    it deletes."""
+
+    deletes: list[Line]
+    adds: list[Line]
+    rows: list[Answer]
 
 
 class Expiry:
@@ -77,30 +80,46 @@ class Expiry:
             return []
         return [(*key, due) for key in rows if not self._times(key)]
 
-    def _renewal(self, rows: Iterable[Sequence[Value]]) -> Renewal:
-        """What makes rows be there for the whole time from now on."""
-        size, due = self._keyed.key, self._whole_time()
-        wanted = {tuple(row[:size]): tuple(row) for row in rows}
-        come = [(*key, due) for key in wanted if due not in self._times(key)]
-        go = [(*key, told) for key in wanted for told in self._times(key) if told != due]
-        return Renewal(wanted, self._missing(wanted), come, go)
+    def _in_parts(self, rows: Iterable[Sequence[Value]]) -> Iterator[list[Answer]]:
+        """Rows, each the last of its key, so many at a time as one transaction has."""
+        wanted = list({tuple(row[: self._keyed.key]): tuple(row) for row in rows}.values())
+        for at in range(0, len(wanted), KEYS_AT_ONCE):
+            yield wanted[at : at + KEYS_AT_ONCE]
 
-    def _missing(self, wanted: dict[Answer, Answer]) -> list[Answer]:
-        """Those of these rows that aren't there."""
-        return [row for key, row in wanted.items() if row not in self._keyed._rows.get(key, ())]
+    def _dating(self, times: list[Answer]) -> Edit:
+        """What gives rows their times."""
+        return Edit([], [(self._due, due) for due in times], [])
 
-    def _replacing(self, row: Answer) -> bool:
-        """Whether another row of its key is there."""
-        return row[: self._keyed.key] in self._keyed._rows
+    def _renewal(self, rows: list[Answer]) -> Edit:
+        """What makes rows be there for the whole time from now on. It deletes the times before: so of two renewals at
+        once, and of a renewal and an expiry, one is refused, and made anew after the other."""
+        keyed, due = self._keyed, self._whole_time()
+        edit = Edit([], [], [])
+        for row in rows:
+            key = row[: keyed.key]
+            times, (old, new) = self._times(key), keyed._replacing(row)
+            edit.deletes.extend((keyed.relation, away) for away in old)
+            edit.deletes.extend((self._due, (*key, time)) for time in times if time != due)
+            edit.adds.extend((keyed.relation, missing) for missing in new)
+            edit.adds.extend([] if due in times else [(self._due, (*key, due))])
+            edit.rows.extend(new)
+        return edit
 
-    def _over(self, now: int) -> tuple[list[Answer], list[Answer]]:
-        """The rows that are due, and the times that are past."""
-        past = [due for _, due in takewhile(lambda ranked: ranked[0] <= now, self._in_order())]
-        keys = [key for key in {due[:-1] for due in past} if self._is_over(key, now)]
-        return [row for key in keys for row in self._keyed._rows.get(key, ())], past
+    def _expiry(self, now: int) -> Edit:
+        """What deletes some of the times that are past, and the rows of those keys that have no later time."""
+        ranked = takewhile(lambda ranked: ranked[0] <= now, self._in_order())
+        past = [due for _, due in islice(ranked, KEYS_AT_ONCE)]
+        keys = {due[:-1] for due in past}
+        rows = [row for key in keys if self._is_over(key, now) for row in self._keyed._rows.get(key, ())]
+        times = [(self._due, due) for due in past]
+        return Edit([(self._keyed.relation, row) for row in rows] + times, [], rows)
+
+    def _left_over(self, edit: Edit) -> list[Answer]:
+        """The rows that are there although they were deleted, since others gave them further copies."""
+        return self._keyed._still(row for relation, row in edit.deletes if relation == self._keyed.relation)
 
     def _renewed(self, rows: list[Answer], now: int) -> list[Answer]:
-        """Those of the rows that went whose renewal was told meanwhile."""
+        """Those of these rows that are renewed by now."""
         return [row for row in rows if not self._is_over(row[: self._keyed.key], now)]
 
     def _take_times(self, protocol: Protocol) -> None:

@@ -1,4 +1,4 @@
-"""Commands that are sent together: rows of a batch, the commands of a pipeline, and rows that are loaded."""
+"""Commands that are sent together: the lines of a transaction, the commands of a pipeline, and rows that are loaded."""
 
 from __future__ import annotations
 
@@ -7,9 +7,9 @@ from types import TracebackType
 from typing import TYPE_CHECKING, Callable, TypeVar
 
 from . import protocol
-from .batch import Collected
 from .errors import Error, Refused, SomeRefused
-from .protocol import FIRST_REFUSALS, Added, Done, Pending, Rows, Update, Value, spell_line, spell_query, spell_union
+from .protocol import FIRST_REFUSALS, Added, Commit, Pending, Rows, Update, Value, spell_line, spell_query, spell_union
+from .transaction import Collected
 
 if TYPE_CHECKING:
     from .connection import Connection
@@ -17,36 +17,37 @@ if TYPE_CHECKING:
 T = TypeVar("T")
 
 
-class Batch(Collected):
-    """Rows that go in at once: see `Connection.batch`."""
+class Transaction(Collected):
+    """Rows that are inserted and deleted as one change: see `Connection.transaction`."""
 
     def __init__(self, connection: Connection) -> None:
         super().__init__()
         self._connection = connection
 
-    def __enter__(self) -> Batch:
+    def __enter__(self) -> Transaction:
         return self
 
     def __exit__(self, kind: type | None, error: BaseException | None, trace: TracebackType | None) -> None:
         lines = self._end()
         if error is None:
-            self._result = self._connection._put_in(lines)
+            self._commit = self._connection._carry_out(lines)
+            self._commit.result()
 
 
-class PipelinedBatch(Collected):
-    """Rows that go in at once, within a pipeline: see `Pipeline.batch`."""
+class PipelinedTransaction(Collected):
+    """Rows that are inserted and deleted as one change, within a pipeline: see `Pipeline.transaction`."""
 
     def __init__(self, pipeline: Pipeline) -> None:
         super().__init__()
         self._pipeline = pipeline
 
-    def __enter__(self) -> PipelinedBatch:
+    def __enter__(self) -> PipelinedTransaction:
         return self
 
     def __exit__(self, kind: type | None, error: BaseException | None, trace: TracebackType | None) -> None:
         lines = self._end()
         if error is None:
-            self._reply = self._pipeline._put_in(lines)
+            self._commit = self._pipeline._say_transaction(lines)
 
 
 class Pipeline:
@@ -93,24 +94,22 @@ class Pipeline:
         """Registers a union."""
         return self._say(spell_union(name, members), protocol.READ_UNION)
 
-    def batch(self) -> PipelinedBatch:
-        """Rows that are added in the block go in at its end, all at once or none of them, behind what the pipeline has
-        said before:
+    def transaction(self) -> PipelinedTransaction:
+        """A transaction among the commands of the pipeline, in the order in which they are said:
 
         with server.pipeline() as many:
             orders = []
             for number in range(100):
-                with many.batch() as order:
+                with many.transaction() as order:
                     order.add("orders", number, "bo")
                     order.add("lines", number, 1, "bolt")
                 orders.append(order)
-        came = sum(order.result().rows for order in orders)
+        inserted = sum(order.result().rows for order in orders)
 
-        The block's end waits until the server holds the rows, since one that is refused gives the batch up. What became
-        of it is a reply as any other of the pipeline: `result()` gives it once the pipeline's block has ended. A batch
-        with refused rows raises `SomeRefused` there, and its refusals count among those of the pipeline.
+        What became of it is a reply like any other of the pipeline: `result()` gives it once the pipeline's block has
+        ended. If it is refused, `result()` raises that, and its refusals count among those of the pipeline.
         """
-        return PipelinedBatch(self)
+        return PipelinedTransaction(self)
 
     def _say(self, line: str, read: Callable[[list[str]], T | None]) -> Pending[T]:
         self._connection._pump()
@@ -118,29 +117,11 @@ class Pipeline:
         self._sent += 1
         return pending
 
-    def _put_in(self, rows: list[str]) -> Pending[Done]:
-        """Puts the rows of these lines in by a batch, without waiting for what becomes of it."""
-        with self._connection._using:
-            return self._put_in_of(rows)
-
-    def _put_in_of(self, rows: list[str]) -> Pending[Done]:
-        own = self._connection
-        opened = self._say("batch", protocol.READ_OK)
-        own._settle()
-        if opened.failure is not None:  # without an open batch each row would go in alone
-            return Pending.failed("done", opened.failure)
-        self._sent += len(rows)
-        try:
-            own._hold(rows)
-        except SomeRefused as refused:
-            own._say("abandon", protocol.READ_OK)
-            self._refused += refused.refused
-            self._first += refused.first[: FIRST_REFUSALS - len(self._first)]
-            return Pending.failed("done", refused)
-        except BaseException:
-            own._say_last("abandon")
-            raise
-        return self._say("done", protocol.READ_DONE)
+    def _say_transaction(self, lines: list[str]) -> Commit:
+        self._connection._pump()
+        commit = self._connection._say_transaction(lines, self._failed)
+        self._sent += len(commit.lines)
+        return commit
 
     def _failed(self, error: Error) -> None:
         if not isinstance(error, Refused):

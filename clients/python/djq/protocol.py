@@ -8,7 +8,9 @@ from dataclasses import dataclass
 from typing import Any, Callable, Generic, Mapping, Sequence, TypeVar, Union
 
 from . import syntax
-from .errors import REFUSALS, BadName, Cyclic, Ended, Error, NotFreeConnex, Refused, Stale, TooLong
+from .errors import (
+    REFUSALS, BadName, Cyclic, Ended, Error, NotFreeConnex, Refused, RowAbsent, SomeRefused, Stale, TooLong,
+)  # fmt: skip
 
 Value = Union[int, str]
 Answer = tuple[Value, ...]
@@ -17,9 +19,12 @@ T = TypeVar("T")
 MOST_ANSWERS = 1000  # that one `next` may ask for
 MOST_LINE = 4096  # bytes of a line
 MOST_TEXT = 255  # bytes of a text
-MOST_HELD = 1000  # rows of a batch
+MOST_HELD = 65536  # lines of a transaction
+HELD_BYTES = 16777216  # of these lines together
 MOST_MEMBERS = 8  # of a union
 FIRST_REFUSALS = 10  # that are kept of commands that are sent together
+ENDING = ("quit", "stop")  # before whose reply `LOST` says that the session's batch held lines
+LOST = "err 18 batch"
 
 
 # Values and lines
@@ -201,14 +206,14 @@ class Absent(Update):
 
 @dataclass(frozen=True)
 class Done:
-    """What became of a batch: the number of changes so far, and how many of its rows weren't there before."""
+    """What became of a transaction: the number of changes so far, and how many rows it inserted and deleted together."""
 
     seq: int
     rows: int
 
     @property
     def changed(self) -> bool:
-        """Whether that changed answers, as any row came."""
+        """Whether it inserted or deleted any row."""
         return self.rows > 0
 
 
@@ -250,18 +255,6 @@ class Pending(Generic[T]):
         self._lines: list[str] = []
         self._result: T | None = None
         self._error: Error | None = None
-
-    @classmethod
-    def failed(cls, line: str, error: Error) -> Pending[T]:
-        """Of a command that isn't sent, since one before it has failed."""
-        pending: Pending[T] = cls(line, lambda lines: None)
-        pending.fail(error)
-        return pending
-
-    @property
-    def failure(self) -> Error | None:
-        """What the command was refused with, or is without a reply by."""
-        return self._error
 
     def result(self) -> T:
         """The reply; raises what the server refused."""
@@ -350,6 +343,71 @@ class Rows:
         self.done = True
 
 
+class Commit(Rows):
+    """A transaction that was queued as one: `batch`, its lines, and `done` with their number.
+
+    If a line is refused, `done` is too, since it names more lines than are held. `batch` isn't refused: none is open, and
+    the server takes no memory for it. Without it the lines would be run one by one.
+    """
+
+    def __init__(
+        self, lines: list[str], columns: dict[str, tuple[str, ...]], failed: Callable[[Error], None] | None
+    ) -> None:
+        super().__init__(["batch", *lines, f"done {len(lines)}"], columns)
+        self._failed = failed
+        self._last = ""  # the reply to `done`
+        self._error: Error | None = None  # what `done` was refused with
+
+    @property
+    def line(self) -> str:
+        """The command that carries it out."""
+        return self.lines[-1]
+
+    def result(self) -> Done:
+        """What became of it; raises what it, or lines of it, were refused with."""
+        if self.lost is not None:
+            raise self.lost
+        if not self.done:
+            raise Error("the reply hasn't come")
+        if self.refused:
+            raise SomeRefused(len(self.lines) - 2, self.refused, self.first)
+        if self._error is not None:
+            raise self._error
+        return READ_DONE([self._last])
+
+    def take(self, lines: list[str], at: int) -> int:
+        """Takes lines of its replies, as `Pending` does."""
+        end = super().take(lines, at)
+        if self.done:
+            self._last = lines[end - 1]
+        return end
+
+    def _refuse(self, reply: str) -> None:
+        error = refusal(reply, self.lines[self.replies], self._columns) or Error(f"not a reply: {reply!r}")
+        if self.replies < len(self.lines) - 1:
+            super()._refuse(reply)
+        else:
+            self.replies += 1
+            self._error = self._which(error)
+            if self.refused:  # then `done` names more lines than are held
+                return
+        if self._failed is not None:
+            self._failed(error)
+
+    def _which(self, error: Error) -> Error:
+        """The refusal of `done`, with the row that it may be about."""
+        deleted = [line for line in self.lines if line.startswith("del ")]
+        if isinstance(error, RowAbsent):
+            error.why = f"no copy for: {deleted[0]}" if len(deleted) == 1 else f"one of {len(deleted)} rows has no copy"
+        return error
+
+    def fail(self, error: Error) -> None:
+        """No further reply comes."""
+        super().fail(error)
+        if self._failed is not None:
+            self._failed(error)
+
+
 def refusal(reply: str, line: str = "", columns: dict[str, tuple[str, ...]] | None = None) -> Error | None:
     """What a reply refuses, of the command in this line."""
     words = reply.split(" ")
@@ -373,7 +431,11 @@ def what_is_wrong(number: int, line: str, columns: dict[str, tuple[str, ...]]) -
         return "; ".join(syntax.of_line(line.strip(" ")))
     if number == 3 and command == "query":
         return "; ".join(filter(None, map(syntax.of_relation, _RELATION.findall(rest.partition("<-")[2]))))
+    if number in (19, 20):
+        return "nothing of the batch was carried out"
     if number == 18:
+        if command in ENDING:
+            return "the lines of the open batch are discarded"
         return "no batch is open" if command in ("done", "abandon") else "a batch is open"
     name, _, said = rest.partition(" ")
     if command == "union" and number != 2:
@@ -528,6 +590,14 @@ class Protocol:
         self._queue(rows, text, len(lines))
         return rows
 
+    def say_transaction(self, lines: list[str], failed: Callable[[Error], None] | None = None) -> Commit:
+        """Queues a transaction of these lines, and what is called where it, or one of them, fails."""
+        if self.ended is not None:
+            raise self.ended
+        commit = Commit(lines, self.columns, failed)
+        self._queue(commit, ("\n".join(commit.lines) + "\n").encode(), len(commit.lines))
+        return commit
+
     def _queue(self, pending: Pending[Any] | Rows, line: bytes, replies: int) -> None:
         self.outgoing += line
         self._pending.append(pending)
@@ -620,6 +690,8 @@ class Protocol:
         if not self._pending:
             return 0
         pending = self._pending[0]
+        if lines[at] == LOST and isinstance(pending, Pending) and pending.line in ENDING:
+            return 1
         before = pending.replies
         if isinstance(pending, Pending) and (error := refusal(lines[at], pending.line, self.columns)) is not None:
             pending.fail(error)

@@ -5,14 +5,14 @@ from __future__ import annotations
 from collections import deque
 from typing import TYPE_CHECKING, Iterable, Iterator, Sequence
 
-from .errors import Error, Refused, Taken
+from .errors import Error, RowAbsent, SomeRefused, Taken
 from .listing import WITHIN, list_whole
-from .protocol import READ_ADDED, READ_REMOVED, Answer, Pending, Protocol, Removed, Update, Value, spell_line
+from .protocol import Answer, Protocol, Value
 
 if TYPE_CHECKING:
     from .connection import Connection
 
-MOST_AT_ONCE = 1000  # copies of a row that are taken before it is looked how many are left
+MOST_AT_ONCE = 1000  # copies of a row that are removed before it is looked how many are left
 
 
 class Keyed:
@@ -38,11 +38,15 @@ class Keyed:
         there = self._rows.get(row[: self.key], set())
         return there - {row}, [] if row in there else [row]
 
-    def _lines(self, command: str, rows: Iterable[Answer]) -> list[str]:
-        """The lines of rows. What can't be said fails here, where nothing is half done."""
-        lines = [spell_line(command, self.relation, row) for row in rows]
-        "\n".join(lines).encode()
-        return lines
+    def _still(self, rows: Iterable[Answer]) -> list[Answer]:
+        """Those of these rows that are there."""
+        return [row for row in rows if row in self._rows.get(row[: self.key], ())]
+
+    def _same_key(self, old: Sequence[Value], new: Sequence[Value]) -> tuple[Answer, Answer]:
+        """An old and a new row. Raises `ValueError` if they have different keys."""
+        if tuple(old[: self.key]) != tuple(new[: self.key]):
+            raise ValueError("the old and the new row have different keys")
+        return tuple(old), tuple(new)
 
     def _take(self, protocol: Protocol, listed: int = 0) -> None:
         """Takes the changes that have come. Those before the line `listed` are in the rows already."""
@@ -62,23 +66,20 @@ class Keyed:
         self._rows.setdefault(row[: self.key], set()).add(row)
 
 
-def took(reply: Pending[Update]) -> bool:
-    """Whether a copy of the row went."""
-    try:
-        return isinstance(reply.result(), Removed)
-    except Error:
-        return False
+def of_one(error: SomeRefused) -> Error:
+    """What one row was refused with, where it is one alone."""
+    return error.first[0] if error.refused == 1 else error
 
 
 class Table(Keyed):
     """A relation whose first columns are a key: at most one row for each.
 
     The server knows no keys, so the table watches the relation's rows and knows which row a key has; it registers the
-    query `RELATION_rows` for that. A row that replaces another is sent behind the old one's `del` in one write, so no
-    line of another session is run between, as long as the write comes in one read; who watches is told both changes.
-    Where other clients write the same key at the same time, both rows may come to stand there, or one row with two
-    copies; the next `upsert` of the key leaves its own row alone. A row that has several copies is gone once all are
-    taken, behind a further round trip.
+    query `RELATION_rows` for that. A row and the one that it replaces are one transaction, so watchers get one delta of
+    both. If another client replaces or deletes the old row first, the transaction is refused, and made anew of what is
+    there then. Two clients that give a new key its first row at one time may both succeed; the next `upsert` of the key
+    leaves its own row alone. A row that others gave further copies is deleted with all of them, by a further round
+    trip after the change.
     """
 
     def __init__(self, connection: Connection, relation: str, types: Sequence[type | str], key: int = 1) -> None:
@@ -113,45 +114,61 @@ class Table(Keyed):
 
     def upsert(self, *row: Value) -> bool:
         """Makes this the row of its key. False where it is already."""
-        self._catch_up()
-        old, new = self._replacing(row)
-        self._replace(old, new)
-        return bool(old or new)
+        while True:
+            self._catch_up()
+            old, new = self._replacing(row)
+            if not old and not new:
+                return False
+            if self._replace(old, new):
+                return True
+
+    def update(self, old: Sequence[Value], new: Sequence[Value]) -> None:
+        """Replaces the row of a key by another one. Raises `RowAbsent` if another client has replaced or deleted the
+        old one: so what is computed from it overwrites nothing."""
+        away, row = self._same_key(old, new)
+        self._carry_out([away], [row])
 
     def remove(self, *key: Value) -> bool:
         """Takes the row of a key out. False where there is none."""
-        self._catch_up()
-        old = self._rows.get(key, set())
-        self._replace(old, [])
-        return bool(old)
+        while True:
+            self._catch_up()
+            old = list(self._rows.get(key, ()))
+            if not old:
+                return False
+            if self._replace(old, []):
+                return True
 
     # Inside
 
-    def _replace(self, old: Iterable[Answer], new: list[Answer]) -> None:
-        """Takes rows out and puts rows in, in one write. Where a new row is refused, the old ones come back."""
-        old, own = list(old), self._connection
-        dels, adds = self._lines("del", old), self._lines("add", new)
-        gone = [own._say(line, READ_REMOVED) for line in dels]
-        came = [own._say(line, READ_ADDED) for line in adds]
-        own._settle()
+    def _replace(self, old: Iterable[Answer], new: Iterable[Answer]) -> bool:
+        """Deletes rows and adds others, as one change. False if another client has deleted one of them first; then its
+        change has arrived."""
         try:
-            left = [reply.result().copies for reply in gone]
-            for added in came:
-                added.result()
-        except Refused:
-            for row, reply in zip(old, gone):
-                if took(reply):
-                    own.add(self.relation, *row)
-            raise
-        for row, copies in zip(old, left):
-            self._take_rest(row, copies)
+            self._carry_out(old, new)
+        except RowAbsent:
+            return False
+        return True
 
-    def _take_rest(self, row: Answer, copies: int) -> None:
-        """Takes the copies that are left of a row, which others gave it."""
-        while copies > 0:
-            with self._connection.pipeline() as many:
-                replies = [many.delete(self.relation, *row) for _ in range(min(copies, MOST_AT_ONCE))]
-            copies = replies[-1].result().copies
+    def _carry_out(self, old: Iterable[Answer], new: Iterable[Answer]) -> None:
+        try:
+            with self._connection.transaction() as change:
+                for row in old:
+                    change.delete(self.relation, *row)
+                for row in new:
+                    change.add(self.relation, *row)
+        except SomeRefused as error:
+            raise of_one(error) from None
+        self._catch_up()
+        self._take_rest(self._still({*old} - {*new}))
+
+    def _take_rest(self, rows: Iterable[Answer]) -> None:
+        """Removes the copies that are left of rows, which others gave them."""
+        for row in rows:
+            copies = 1
+            while copies > 0:
+                with self._connection.pipeline() as many:
+                    replies = [many.delete(self.relation, *row) for _ in range(min(copies, MOST_AT_ONCE))]
+                copies = replies[-1].result().copies
 
     def _catch_up(self, listed: int = 0) -> None:
         """Takes the changes that have come."""

@@ -15,9 +15,8 @@
 //! ```
 //!
 //! What this crate is not: it states nothing of the program yet. That each step of the real machine
-//! (djq_machine) is a step of the core, or none, isn't stated here and isn't proved. It waits for
-//! batches that delete rows, which the core has and the machine hasn't. So these are laws of the core
-//! alone; those of the machine are djq_run_laws's.
+//! (djq_machine) is a step of the core, or none, isn't stated here and isn't proved. So these are laws of
+//! the core alone; those of the machine are djq_run_laws's.
 //!
 //! What surprises: the core may refuse any command and disconnect any client at any step, since it
 //! knows no limits and no memory. The layers below define when the server does so. One reason has a

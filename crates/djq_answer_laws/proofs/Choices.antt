@@ -1,6 +1,6 @@
 -- The answers of a query, each from a choice of rows, and how they follow rows.
 use Rattle.std.specs.Prelude.{ℕ, suc, List, [], ◌∷◌, ◌≡◌, ◌+◌, ◌*◌, ◌≤◌, ◌++◌, ◌⊎◌, Bool, true, false, cond, pos}
-use Rattle.std.specs.Prelude.{length, map, All, Any, Contains, ◌&&◌, not, Option, None, Some, option_map}
+use Rattle.std.specs.Prelude.{length, map, All, Any, Contains, Option, None, Some, option_map}
 use Rattle.std.proofs.Common.{refl, sym, ap, ap₂, ◌∙◌, subst, inl, inr, length-append, arith}
 use Rattle.std.proofs.lemmas.List.{length-map}
 use Rattle.std.proofs.lemmas.List.Elements.{All-head, All-tail, All-weaker, All-contains, Contains-append_left}
@@ -20,21 +20,16 @@ use Rattle.djq_model.specs.Data.{counted_in, counted_of, without_row, with_row, 
 use Rattle.djq_model.specs.Answer.{Assignment, StandForAll, Satisfies, IsAnswer, AreDifferent}
 use Rattle.djq_model.specs.Listed.{a_query, a_union, AnswersOf}
 use Rattle.djq_model.specs.Equality.{bytes_eq-decides, tuple_eq-decides}
-use Rattle.djq_model.specs.Known.{texts_in, all_learned}
 use Rattle.djq_model.proofs.Copies.{tuples_with_row, tuples_without}
 use Rattle.djq_protocol.specs.declared.answer.Sign.{Sign}
 use Rattle.djq_protocol.specs.declared.answer.Sign.TheVariants.{Came, Went}
-use Rattle.djq_protocol.specs.declared.held.HeldRow.{HeldRow}
-use Rattle.djq_store_spec.specs.Store.{Store}
 use Rattle.djq_store_spec.specs.Relations.{with_rows}
-use Rattle.djq_store_spec.specs.Rows.{with_copies_of, copies_of}
-use Rattle.djq_store_spec.specs.Batch.{is_there, with_held, with_all, has_come}
 use Rattle.djq_store_spec.specs.Delta.{HasChanged}
-use Rattle.djq_store_spec.proofs.Relations.{relation_here, rows_apart, copies_rows}
+use Rattle.djq_store_spec.proofs.Relations.{relation_here, rows_apart}
 use Rattle.djq_answer_laws.specs.Bounded.{choices, all_choices as choices_of_all, AnswersAreBounded}
 use Rattle.djq_answer_laws.specs.Finite.{IsBound}
-use Rattle.djq_answer_laws.specs.Growing.{HaveRows, AnswersStay, AnswersCome, AnswersGo, RowComes, RowsCome, RowGoes}
-use Rattle.djq_answer_laws.specs.Growing.{ChangesSpareOthers, BatchesSpareOthers, AnswersRest}
+use Rattle.djq_answer_laws.specs.Growing.{HaveRows, AnswersStay, AnswersCome, AnswersGo, RowComes, RowGoes}
+use Rattle.djq_answer_laws.specs.Growing.{ChangesSpareOthers, AnswersRest}
 use Rattle.djq_answer_laws.proofs.Lists.{nothing_there, first_or_later, first_there, later_there, mapped_there}
 use Rattle.djq_answer_laws.proofs.Lists.{pairs_head, pairs_tail, hold_each, some_one, one_there}
 
@@ -388,27 +383,6 @@ row_goes relations name row = fewer_rows relations name (without_copies (counted
     (λ r h. left_there (rows_of relations name) row r
     (subst (λ (ts : List Tuple). Contains ts r) (tuples_without (counted_of relations name) row) h))
 
-held_comes : (st : Store) (h : HeldRow) → HaveRows st.relations (with_held st h).relations
-held_comes st h = by (is_there st h)
-  where
-    by : (b : Bool) → HaveRows st.relations
-        (cond b (record st {
-          relations = with_copies_of st.relations h.relation h.row (copies_of st h.relation h.row + 1);
-        }) (record st {
-          relations = with_rows st.relations h.relation (with_row (counted_of st.relations h.relation) h.row);
-          texts = all_learned st.texts (texts_in h.row);
-        })).relations
-    by true = λ n row k. subst (λ (ts : List Tuple). Contains ts row)
-        (sym (copies_rows st.relations h.relation h.row (copies_of st h.relation h.row + 1) n)) k
-    by false = with_one st.relations h.relation h.row
-
-all_come : (st : Store) (held : List HeldRow) → HaveRows st.relations (with_all st held).relations
-all_come st [] = λ n row k. k
-all_come st (h ∷ hs) = λ n row k. all_come (with_held st h) hs n row (held_comes st h n row k)
-
-pub rows_come : RowsCome
-rows_come st held = all_come st held
-
 -- ---- relations that a change doesn't touch
 
 pub one_spares : ChangesSpareOthers
@@ -416,32 +390,6 @@ one_spares relations name row = (
   λ n e. rows_apart relations name (with_row (counted_of relations name) row) n e,
   λ n e. rows_apart relations name (without_copies (counted_of relations name) row) n e,
 )
-
--- a relation of which none of a batch comes
-pub batch_spares : BatchesSpareOthers
-batch_spares st [] n e = refl
-batch_spares st (h ∷ hs) n e =
-    let both = or_parts (bytes_eq h.relation n && not (is_there st h)) (has_come (with_held st h) hs n) e in
-    batch_spares (with_held st h) hs n both.1 ∙ by (is_there st h) both.0
-  where
-    other : (b : Bool) → bytes_eq n h.relation ≡ b → (bytes_eq h.relation n && true) ≡ false → b ≡ false
-    other false e none = refl
-    other true e none =
-        let same : h.relation ≡ n = sym ((bytes_eq-decides n h.relation).0 e) in
-        let yes : bytes_eq h.relation n ≡ true = (bytes_eq-decides h.relation n).1 same in
-        let twice : (bytes_eq h.relation n && true) ≡ true = ap (λ (b : Bool). b && true) yes in
-        absurd (cc (twice, none))
-
-    by : (b : Bool) → (bytes_eq h.relation n && not b) ≡ false
-        → rows_of (cond b (record st {
-          relations = with_copies_of st.relations h.relation h.row (copies_of st h.relation h.row + 1);
-        }) (record st {
-          relations = with_rows st.relations h.relation (with_row (counted_of st.relations h.relation) h.row);
-          texts = all_learned st.texts (texts_in h.row);
-        })).relations n ≡ rows_of st.relations n
-    by true none = copies_rows st.relations h.relation h.row (copies_of st h.relation h.row + 1) n
-    by false none = rows_apart st.relations h.relation (with_row (counted_of st.relations h.relation) h.row) n
-        (other (bytes_eq n h.relation) refl none)
 
 -- a test that fails of all of a list fails of each
 pub none_any : {A : Type 0} (p : A → Bool) (xs : List A) → list_any p xs ≡ false → All (λ x. p x ≡ false) xs

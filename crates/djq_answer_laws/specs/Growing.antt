@@ -6,10 +6,7 @@ use Rattle.djq_model.specs.Data.{Bytes, Tuple, rows_of}
 use Rattle.djq_model.specs.Answer.{IsAnswer}
 use Rattle.djq_model.specs.Listed.{Listed, AnswersOf}
 use Rattle.djq_protocol.specs.declared.answer.Sign.TheVariants.{Came, Went}
-use Rattle.djq_protocol.specs.declared.held.HeldRow.{HeldRow}
-use Rattle.djq_store_spec.specs.Store.{Store}
 use Rattle.djq_store_spec.specs.Changes.{RowsChange, row_in, row_out}
-use Rattle.djq_store_spec.specs.Batch.{rows_held}
 use Rattle.djq_store_spec.specs.Delta.{Change, IsDelta}
 use Rattle.djq_store_spec.specs.DeltaCost.{is_touched}
 
@@ -38,10 +35,6 @@ abbrev pub RowComes : Type 0
 RowComes = (relations : List Relation) (name : Bytes) (row : Tuple)
     → HaveRows relations (row_in relations name row).after
 
--- By a batch, rows only come.
-abbrev pub RowsCome : Type 0
-RowsCome = (st : Store) (held : List HeldRow) → HaveRows st.relations (rows_held st held).after
-
 -- By a row that goes, rows only go.
 abbrev pub RowGoes : Type 0
 RowGoes = (relations : List Relation) (name : Bytes) (row : Tuple)
@@ -56,10 +49,6 @@ SparesOthers before change = (name : Bytes) → change.touches name ≡ false
 abbrev pub ChangesSpareOthers : Type 0
 ChangesSpareOthers = (relations : List Relation) (name : Bytes) (row : Tuple)
     → SparesOthers relations (row_in relations name row) × SparesOthers relations (row_out relations name row)
-
--- A batch leaves each relation that it doesn't touch as it was.
-abbrev pub BatchesSpareOthers : Type 0
-BatchesSpareOthers = (st : Store) (held : List HeldRow) → SparesOthers st.relations (rows_held st held)
 
 -- A query that reads no relation that a change touches keeps its answers.
 abbrev pub AnswersRest : Type 0

@@ -30,8 +30,8 @@
 ghost use Rattle.djq_answer_laws.specs.Decided.{AnswersAreDecided};
 ghost use Rattle.djq_answer_laws.specs.Finite.{AnswersAreFinite, DeltasExist};
 ghost use Rattle.djq_answer_laws.specs.Bounded.{AnswersAreBounded};
-ghost use Rattle.djq_answer_laws.specs.Growing.{AnswersStay, AnswersCome, AnswersGo, RowComes, RowsCome, RowGoes};
-ghost use Rattle.djq_answer_laws.specs.Growing.{ChangesSpareOthers, BatchesSpareOthers, AnswersRest};
+ghost use Rattle.djq_answer_laws.specs.Growing.{AnswersStay, AnswersCome, AnswersGo, RowComes, RowGoes};
+ghost use Rattle.djq_answer_laws.specs.Growing.{ChangesSpareOthers, AnswersRest};
 ghost use Rattle.djq_answer_laws.specs.Net.{NetDelta, UnionsReport};
 
 /// A tuple is an answer of what is registered over some relations, or it isn't.
@@ -56,14 +56,13 @@ pub fn answers_are_bounded()
     ensures { AnswersAreBounded }
 {}
 
-/// Where rows only come, as by a row that is added and by a batch, answers only come; where they only go,
-/// as by a row that is deleted, answers only go.
+/// If rows only come, as by a row that is added, answers only come; if they only go, as by a row that is deleted,
+/// answers only go.
 pub fn answers_follow_rows()
     ensures stay { AnswersStay }
     ensures come { AnswersCome }
     ensures go { AnswersGo }
     ensures added { RowComes }
-    ensures batched { RowsCome }
     ensures deleted { RowGoes }
 {}
 
@@ -72,7 +71,6 @@ pub fn answers_follow_rows()
 pub fn answers_rest()
     ensures rest { AnswersRest }
     ensures changes { ChangesSpareOthers }
-    ensures batches { BatchesSpareOthers }
 {}
 
 /// Where rows come and others go at once, all that come first, the answers that came and those that went,

@@ -1,21 +1,21 @@
 -- The lines of a commit: what entries and buffer mean as they grow, and which entry has a line.
 use Rattle.std.proofs.Common.{ℕ, zero, suc, ◌+◌, ◌-◌, ◌<◌, ◌≤◌, ◌≡◌, ◌++◌, ◌⊎◌, ◌∙◌, ◌^◌, Bool, true, false, List, [], ◌∷◌}
 use Rattle.std.proofs.Common.{length, take, drop, get_or, None, Some, refl, sym, ap, ap₂, subst, arith, inl, inr}
-use Rattle.std.proofs.Common.{length-append, append-nil, take-take, take_all, take_at, nat_cmp, codes, map, Ok, Err}
-use Rattle.std.specs.Prelude.{slice_get, slice_index_or, slice_range}
+use Rattle.std.proofs.Common.{length-append, append-nil, take-take, take_all, take_at, nat_cmp, Ok, Err}
+use Rattle.std.specs.Prelude.{slice_get, slice_range}
 use Rattle.std.specs.List.Sorted.{IsBinarySearchResult}
 use Rattle.std.proofs.lemmas.Bool.{cases_order, false≢true}
-use Rattle.std.proofs.lemmas.List.{get_or_default, length-map, drop-take, drop_at, length-take-le}
+use Rattle.std.proofs.lemmas.List.{get_or_default, drop-take, drop_at, length-take-le}
 use Rattle.std.proofs.lemmas.List.Concat.{flat_map-append}
 use Rattle.std.proofs.lemmas.List.Sorted.{searched}
 use Rattle.std.proofs.lemmas.Option.{slice_get_within, slice_get_read}
 use Rattle.djq_model.specs.Data.{Bytes}
 use Rattle.djq_protocol.specs.declared.limits.TheConstants.{LINE_BYTES}
-use Rattle.djq_protocol.specs.declared.held.HeldRow.{HeldRow}
+use Rattle.djq_store_spec.specs.Held.{HeldTransaction, log_lines, done}
 use Rattle.djq_commands.specs.declared.commit.Entry.{Entry}
 use Rattle.djq_commands.specs.declared.commit.Entry.TheVariants.{Line, Batch}
 use Rattle.djq_commands.specs.Logging.{entry_lines, lines_of_entries, entry_count, firsts_from, count_from, EndsAreWithin, CommitIsKept}
-use Rattle.djq_commands.specs.Logging.{IsPlace, batch_lines}
+use Rattle.djq_commands.specs.Logging.{IsPlace}
 use Rattle.djq_commands.specs.Sound.{IsBelowAll, Rises}
 
 -- ---- What the buffer has.
@@ -35,7 +35,7 @@ same_lines bs cs n (Line start end ∷ es) e w =
   where
     shorter : (ds : Bytes) → take end ds ≡ take end (take n ds)
     shorter ds = sym (take-take end n ds w.1)
-same_lines bs cs n (Batch held ∷ es) e w = ap (λ (ls : List Bytes). batch_lines held ++ ls) (same_lines bs cs n es e w)
+same_lines bs cs n (Batch held ∷ es) e w = ap (λ (ls : List Bytes). log_lines held ++ ls) (same_lines bs cs n es e w)
 
 pub more_within : (n m : ℕ) (es : List Entry) → n ≤ m → EndsAreWithin n es → EndsAreWithin m es
 more_within n m [] le w = tt
@@ -67,7 +67,7 @@ firsts_length n (e ∷ es) = ap suc (firsts_length (n + entry_count e) es)
 lines_counted : (bs : Bytes) (e : Entry) → length (entry_lines bs e) ≡ entry_count e
 lines_counted bs (Line start end) = refl
 lines_counted bs (Batch held) =
-    omega (arith, length-append (map (λ (h : HeldRow). h.line) held) (codes "done" ∷ []), length-map held (λ (h : HeldRow). h.line))
+    omega (arith, length-append held.logged (done ∷ []))
 
 counts_one : (e : Entry) → 0 < entry_count e
 counts_one (Line start end) = omega arith
@@ -280,11 +280,11 @@ logged_one bs end es le =
     (part_is bs end (length bs) le ∙ ap (drop end) (take_all (length bs) bs (omega arith)))
 
 -- a batch is
-pub logged_batch : (bs : Bytes) (es : List Entry) (held : List HeldRow)
-    → lines_of_entries bs (es ++ Batch held ∷ []) ≡ lines_of_entries bs es ++ batch_lines held
+pub logged_batch : (bs : Bytes) (es : List Entry) (held : HeldTransaction)
+    → lines_of_entries bs (es ++ Batch held ∷ []) ≡ lines_of_entries bs es ++ log_lines held
 logged_batch bs es held =
     flat_map-append (λ (e : Entry). entry_lines bs e) es (Batch held ∷ [])
-    ∙ ap (λ (ls : List Bytes). lines_of_entries bs es ++ ls) (append-nil (batch_lines held))
+    ∙ ap (λ (ls : List Bytes). lines_of_entries bs es ++ ls) (append-nil (log_lines held))
 
 -- the commit is no longer empty, and its room isn't said
 pub kept_pushed : (bs : Bytes) (spare end next : ℕ) (es : List Entry) (e : Entry) (er : ℕ) (fs : List ℕ)
@@ -312,59 +312,6 @@ kept_pushed bs spare end next es e er fs fr count roomy es' fs' er' fr' count' k
     some : (xs : List Entry) → xs ++ e ∷ [] ≡ [] → ⊥
     some [] h = absurd (cc (h))
     some (x ∷ xs) h = absurd (cc (h))
-
--- ---- the lines of a batch
-
-row_at : (rows : List HeldRow) (last : Bytes) (j : ℕ) (h : HeldRow) → j < length rows → h ≡ slice_index_or rows j h
-    → Some h.line ≡ slice_get (map (λ (r : HeldRow). r.line) rows ++ last ∷ []) j
-row_at [] last j h l e = absurd (omega (arith, l))
-row_at (r ∷ rows) last zero h l e = ap (λ (x : HeldRow). Some x.line) e
-row_at (r ∷ rows) last (suc j) h l e = row_at rows last j h (omega (arith, l)) e
-
-last_at : (rows : List HeldRow) (last : Bytes) (j : ℕ) → j ≡ length rows → Some last
-    ≡ slice_get (map (λ (r : HeldRow). r.line) rows ++ last ∷ []) j
-last_at [] last zero e = refl
-last_at [] last (suc j) e = absurd (omega (arith, e))
-last_at (r ∷ rows) last zero e = absurd (omega (arith, e))
-last_at (r ∷ rows) last (suc j) e = last_at rows last j (omega (arith, e))
-
-past_at : (rows : List HeldRow) (last : Bytes) (j : ℕ) → length rows < j → None
-    ≡ slice_get (map (λ (r : HeldRow). r.line) rows ++ last ∷ []) j
-past_at [] last zero l = absurd (omega (arith, l))
-past_at [] last (suc j) l = refl
-past_at (r ∷ rows) last zero l = absurd (omega (arith, l))
-past_at (r ∷ rows) last (suc j) l = past_at rows last j (omega (arith, l))
-
--- with a line in front
-pub batch_row : (first last : Bytes) (rows : List HeldRow) (i : ℕ) (h : HeldRow) → (i ≡ 0 → ⊥) → i - 1 < length rows → h
-    ≡ slice_index_or rows (i - 1) h
-    → Some h.line ≡ slice_get (first ∷ (map (λ (r : HeldRow). r.line) rows ++ last ∷ [])) i
-batch_row first last rows zero h n l e = absurd (n refl)
-batch_row first last rows (suc j) h n l e =
-    let same : suc j - 1 ≡ j = omega arith in
-    row_at rows last j h (subst (λ (k : ℕ). k < length rows) same l)
-    (subst (λ (k : ℕ). h ≡ slice_index_or rows k h) same e)
-
-pub batch_last : (first last : Bytes) (rows : List HeldRow) (i : ℕ) → i ≡ length rows + 1 → Some last
-    ≡ slice_get (first ∷ (map (λ (r : HeldRow). r.line) rows ++ last ∷ [])) i
-batch_last first last rows zero e = absurd (omega (arith, e))
-batch_last first last rows (suc j) e = last_at rows last j (omega (arith, e))
-
-pub batch_past : (first last : Bytes) (rows : List HeldRow) (i : ℕ) → (i ≡ 0 → ⊥) → (i - 1 < length rows → ⊥)
-    → (i ≡ length rows + 1 → ⊥)
-    → None ≡ slice_get (first ∷ (map (λ (r : HeldRow). r.line) rows ++ last ∷ [])) i
-batch_past first last rows zero n l e = absurd (n refl)
-batch_past first last rows (suc j) n l e =
-    let same : j ≡ suc j - 1 = omega arith in
-    past_at rows last j (beyond j (length rows) (λ k. l (subst (λ (m : ℕ). m < length rows) same k)) e)
-  where
-    beyond : (a b : ℕ) → (a < b → ⊥) → (suc a ≡ b + 1 → ⊥) → b < a
-    beyond a b l e = by (cases_order a b)
-      where
-        by : (a ≡ b) ⊎ ((a < b) ⊎ (b < a)) → b < a
-        by (inl q) = absurd (e (omega (arith, q)))
-        by (inr (inl q)) = absurd (l q)
-        by (inr (inr q)) = q
 
 -- a list of one has none further
 pub past_one : {A : Type 0} (x : A) (i : ℕ) → (i ≡ 0 → ⊥) → None ≡ slice_get (x ∷ []) i

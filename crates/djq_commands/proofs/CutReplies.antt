@@ -1,9 +1,8 @@
 -- Replies that find no memory: whole or cut, and a session that ends.
 use Rattle.std.proofs.Common.{ℕ, ◌+◌, ◌≤◌, ◌≡◌, ◌++◌, ◌||◌, Bool, true, false, List, [], ◌∷◌, Option, None, Some, refl}
-use Rattle.std.proofs.Common.{sym, ap, ◌∙◌, subst, arith, append_assoc, append-nil, is_some, eqb, length, Result, inr}
+use Rattle.std.proofs.Common.{sym, ap, ◌∙◌, subst, arith, append_assoc, append-nil, is_some, length, Result, inr}
 use Rattle.std.proofs.Common.{suc, take, map, Ok, Err, codes, inl}
 use Rattle.std.specs.Prelude.{⊤, MatchOption, IsSomeAnd, is_none, slice_get}
-use Rattle.std.proofs.lemmas.Bool.{eqb-true}
 use Rattle.std.specs.Result.{is_err}
 use Rattle.std.proofs.lemmas.List.{map-append, length-map, take_all}
 use Rattle.std.proofs.lemmas.Simd.{map-map}
@@ -19,17 +18,20 @@ use Rattle.djq_protocol.specs.declared.command.Command.TheVariants.{Query as Reg
 use Rattle.djq_protocol.specs.declared.answer.Refusal.TheVariants.{Syntax, Taken, NoRelation, NoQuery, NoCursor, Arity}
 use Rattle.djq_protocol.specs.declared.answer.Refusal.TheVariants.{WrongType, HeadUnbound, HeadRepeated, VariableType}
 use Rattle.djq_protocol.specs.declared.answer.Refusal.TheVariants.{Unbound, Member, Limit, NoMemory, InUse, Misplaced}
-use Rattle.djq_protocol.specs.Reply.{input_cut, query_reply, end_memory, line, member_line, refusal_line, text_of}
+use Rattle.djq_protocol.specs.declared.answer.Refusal.TheVariants.{NoCopy, OtherCount}
+use Rattle.djq_protocol.specs.Reply.{query_reply, end_memory, line, member_line, refusal_line, text_of}
 use Rattle.djq_protocol.specs.Conditions.{first_refusal, Answers, OutOfMemoryWhere}
 use Rattle.djq_store_spec.specs.Registering.{RegistersQuery}
 use Rattle.djq_store_spec.specs.Store.{Store}
 use Rattle.djq_machine.specs.Keeping.{no_line, Keeping, kept_where, is_registration}
 use Rattle.djq_machine.specs.State.{Session, State, with_session, ended_by}
-use Rattle.djq_machine.specs.Effect.{Effect, RefusedStep}
+use Rattle.djq_store_spec.specs.Held.{HeldLine, HeldTransaction}
+use Rattle.djq_machine.specs.Effect.{Effect, RefusedStep, says_any, lost_line}
+use Rattle.djq_machine.specs.Step.{cut_line}
 use Rattle.djq_machine.specs.Command.{explain_lines, union_lines, ExplainStepOf}
 use Rattle.djq_machine.proofs.Explanations.{explained}
 use Rattle.djq_session.specs.declared.named.NamedCursor.{NamedCursor}
-use Rattle.djq_session.specs.Dialog.{PopsCursor, DialogLacks, Replies, Queues}
+use Rattle.djq_session.specs.Dialog.{PopsCursor, DialogLacks, Replies, Queues, cut_line, lost_line}
 use Rattle.djq_engine.specs.declared.cursor.CursorId.{CursorId}
 use Rattle.djq_engine.specs.Kept.{Kept, HeldCursor, held_at, same_id, IsHeld, ClosesCursor, SameCursors, HasTree}
 use Rattle.djq_store.specs.declared.explained.Explained.{Explained}
@@ -38,7 +40,7 @@ use Rattle.djq_commands.specs.declared.open.OpenSession.{OpenSession}
 use Rattle.djq_commands.specs.Views.{Talk, session_in, state_in}
 use Rattle.djq_commands.specs.Sound.{ids_of_cursors, all_ids, AreHeld, IsApart, CursorsDiffer, IsOwn, IsSound}
 use Rattle.djq_commands.specs.Sound.{is_cursor_among, without_watchers, HasCount, StaysCounted, CommandIsReady}
-use Rattle.djq_commands.specs.Ends.{SessionGivesUp, GivesUpCursors, GivesUpWatches, cut_text, CutsOff}
+use Rattle.djq_commands.specs.Ends.{SessionGivesUp, GivesUpCursors, GivesUpWatches, CutsOff}
 use Rattle.djq_commands.specs.Telling.{KeepsTold}
 use Rattle.djq_commands.specs.Performs.{among, to_one, with_text_behind, unqueued, Performs, to_keep, ExecutesKeeping}
 use Rattle.djq_commands.specs.Performs.{Executes}
@@ -287,7 +289,7 @@ pub ends : (M : State → ℕ → Session → Effect → State → Type 0) (stop
     (text : Option Bytes) (cause : EndCause)
     → SessionGivesUp old before new mid → after
     ≡ record mid { pending = with_text_behind mid.pending text; room = after.room; cause = Some cause; batch = None }
-    → ((st : State) (s : ℕ) (x : Session)
+    → ((st : State) (s : ℕ) (x : Session) → x ≡ session_in old.cursors s before
     → M st s x (to_one s text 0) (with_session (record st { stopped = stops || st.stopped }) s (ended_by cause)))
     → Performs M stops old before new after 0 0
 ends M stops old new before mid after text cause g same does =
@@ -304,22 +306,34 @@ ends M stops old new before mid after text cause g same does =
     { pending = with_text_behind d.pending text; room = after.room; cause = Some cause; batch = None }) g.session in
     let up : SessionGivesUp old before new (record before { cursors = []; watches = [] }) = record
     { store = g.store; gone = g.gone; others = g.others; session = refl; counted = g.counted } in
-    ends_costing M stops old new before after text 0 cause 0 0 up left (omega arith) (λ st s x e f. does st s x)
+    ends_costing M stops old new before after text 0 cause 0 0 up left (omega arith) (λ st s x e f. does st s x f)
 
--- whether bytes are held decides what is said of them
-pub cut_none : (held : Bytes) → eqb (length held) 0 ≡ true → cut_text held ≡ None
-cut_none [] h = refl
-cut_none (b ∷ bs) h = let none : length (b ∷ bs) ≡ 0 = eqb-true (length (b ∷ bs)) 0 h in absurd (omega arith)
+-- what a session and the machine say of bytes that are held, and of a batch
+pub cut_alike : (held : Bytes) → cut_line held ≡ cut_line held
+cut_alike [] = refl
+cut_alike (b ∷ bs) = refl
 
-pub cut_some : (held : Bytes) → eqb (length held) 0 ≡ false → cut_text held ≡ Some input_cut
-cut_some [] h = absurd (cc)
-cut_some (b ∷ bs) h = refl
+pub lost_alike : (batch : Option HeldTransaction) → lost_line batch ≡ lost_line batch
+lost_alike None = refl
+lost_alike (Some held) = by held.lines
+  where
+    by : (lines : List HeldLine)
+        → lost_line (Some (record held { lines = lines })) ≡ lost_line (Some (record held { lines = lines }))
+    by [] = refl
+    by (h ∷ hs) = refl
 
--- a cause that is kept alone
-pub quiet_end : (d e : Talk) (cause : EndCause) → e ≡ record d { cause = Some cause; batch = None } → e
-    ≡ record d { pending = d.pending; room = e.room; cause = Some cause; batch = None }
-quiet_end d e cause h = h
-    ∙ ap (λ (r : ℕ). record d { room = r; cause = Some cause; batch = None }) (sym (ap (λ (x : Talk). x.room) h))
+-- a text that is queued where it has bytes
+abbrev pub text_if_any : Bytes → Option Bytes
+text_if_any [] = None
+text_if_any (b ∷ bs) = Some (b ∷ bs)
+
+pub says_if_any : (s : ℕ) (text : Bytes) → to_one s (text_if_any text) 0 ≡ says_any s text
+says_if_any s [] = refl
+says_if_any s (b ∷ bs) = refl
+
+pub behind_if_any : (pending text : Bytes) → pending ++ text ≡ with_text_behind pending (text_if_any text)
+behind_if_any pending [] = append-nil pending
+behind_if_any pending (b ∷ bs) = refl
 
 -- ---- A reply that finds no memory: its session is cut off; and the reply to `query`, whole or cut.
 
@@ -578,6 +592,8 @@ late_is P NoMemory h = refl
 late_is P Syntax h = absurd h
 late_is P Taken h = absurd h
 late_is P Misplaced h = absurd h
+late_is P NoCopy h = absurd h
+late_is P OtherCount h = absurd h
 late_is P NoRelation h = absurd h
 late_is P NoQuery h = absurd h
 late_is P NoCursor h = absurd h

@@ -81,7 +81,7 @@ may_keep (Del name row) = true
 may_keep (Register q) = true
 may_keep (Union u members) = true
 may_keep (Drop q) = true
-may_keep Done = true
+may_keep (Done given) = true
 may_keep _ = false
 
 some_of : {A : Type 0} (P : A → Type 0) (o : Option A) → IsSomeAnd o P → (a : A) × P a
@@ -133,7 +133,7 @@ module _ (st : State) (s : ℕ) (e : Effect) (st' : State) where
   step_unkept x (Shape q) m h = ap (λ (f : Effect). f.kept) h.effect
   step_unkept x Batch m h = ap (λ (f : Effect). f.kept) h.effect
   step_unkept x Abandon m h = ap (λ (f : Effect). f.kept) h.0
-  step_unkept x Done m h = absurd cc
+  step_unkept x (Done given) m h = absurd cc
   step_unkept x Quit m h = ap (λ (f : Effect). f.kept) h.0
   step_unkept x Stop m h = ap (λ (f : Effect). f.kept) h.0
   step_unkept x (Rel name types) m h = absurd cc

@@ -11,7 +11,6 @@ use Rattle.djq_value.specs.Token.{Token, word, text, open_paren, close_paren, co
 use Rattle.djq_value.specs.Literal.{is_lower, is_name, natural_of, literal_of}
 use Rattle.djq_protocol.specs.declared.answer.Refusal.{Refusal}
 use Rattle.djq_protocol.specs.declared.answer.Refusal.TheVariants.{WrongType, Syntax, NoMemory, Misplaced}
-use Rattle.djq_protocol.specs.declared.held.HeldRow.{HeldRow}
 use Rattle.djq_protocol.specs.declared.command.Command.{Command}
 use Rattle.djq_protocol.specs.declared.command.Command.TheVariants.{Rel, Add, Del, Query as Register, Union, Drop, Open}
 use Rattle.djq_protocol.specs.declared.command.Command.TheVariants.{Next, Close, Has, Watch, Unwatch, Explain, Shape}
@@ -31,21 +30,21 @@ use Rattle.djq_protocol.specs.Grammar.{command_in, command_with, command_behind,
 use Rattle.djq_protocol.specs.Grammar.{is_count, answer_count, keyword_of, at_line_end, type_of, all_of, named_some}
 use Rattle.djq_protocol.specs.Grammar.{named_any, query_of_tokens, query_of, Body, body_in, items_in, with_atoms}
 use Rattle.djq_protocol.specs.Grammar.{in_front, list_in, name_of, one_name, two_names, name_and_count}
-use Rattle.djq_protocol.specs.Grammar.{name_and_members}
+use Rattle.djq_protocol.specs.Grammar.{name_and_members, number_if_any}
 use Rattle.djq_parser.specs.declared.refusal.LineRefusal.{LineRefusal}
 use Rattle.djq_parser.specs.declared.refusal.LineRefusal.TheVariants.{Syntax as Outside, Range, NoMem}
 use Rattle.djq_parser.specs.declared.row.RowWord.{RowWord}
-use Rattle.djq_parser.specs.declared.row.RowWord.TheVariants.{Add as Adds, Del as Deletes}
 use Rattle.djq_parser.specs.Reading.{GivesCommand, LineReadsAs}
 use Rattle.djq_parser.specs.RowReading.{begins_row, row_word_in}
 use Rattle.djq_parser.specs.Saying.{SaysCommand}
 use Rattle.djq_parser.proofs.CommandLines.{row_word_for, begins_for}
 use Rattle.djq_parser.proofs.CommandTokens.{commands_are_said}
+use Rattle.djq_store_spec.specs.Held.{HeldTransaction, nothing_held}
 use Rattle.djq_machine.specs.Command.{is_misplaced, CommandStep}
 use Rattle.djq_machine.specs.LineStep.{past_limit_refusal, ReadStep}
 use Rattle.djq_machine.specs.State.{Session, State}
 use Rattle.djq_machine.specs.Effect.{Effect, RefusedStep}
-use Rattle.djq_commands.specs.Batching.{ReadsInBatch, RefusedBy, in_batch, misplaced_as, row_refused_as}
+use Rattle.djq_commands.specs.Batching.{ReadsInBatch, RefusedBy, in_batch, misplaced_as}
 use Rattle.djq_commands.specs.Stepping.{IsRunnable, is_on_row, refused_as}
 
 -- ---- What reading a line gives, as the machine says it; and that what is read is served.
@@ -83,19 +82,20 @@ abbrev pub IsLate : Command → Type 0
 IsLate c = (is_in_range c ≡ false) ⊎ (takes_memory_to_read c ≡ true)
 
 -- It has its place outside a batch.
-pub late_alone : (c : Command) → IsLate c → is_misplaced {A = List HeldRow} None c ≡ false
-late_alone Done (inl e) = absurd (cc (e))
-late_alone Done (inr e) = absurd (cc (e))
+pub late_alone : (c : Command) → IsLate c → is_misplaced {A = HeldTransaction} None c ≡ false
+late_alone (Done given) (inl e) = absurd (cc (e))
+late_alone (Done given) (inr e) = absurd (cc (e))
 late_alone Abandon (inl e) = absurd (cc (e))
 late_alone Abandon (inr e) = absurd (cc (e))
 late_alone _ e = refl
 
--- And it has none in one, where it isn't `add`.
-pub late_misplaced : (c : Command) → (row_word_for c ≡ Some Adds → ⊥) → IsLate c
-    → is_misplaced {A = List HeldRow} (Some []) c ≡ true
-late_misplaced (Add name row) n e = absurd (n refl)
-late_misplaced Done n (inl e) = absurd (cc (e))
-late_misplaced Done n (inr e) = absurd (cc (e))
+-- And it has none in one, if it isn't one of a row.
+pub late_misplaced : (c : Command) → is_some (row_word_for c) ≡ false → IsLate c
+    → is_misplaced {A = HeldTransaction} (Some nothing_held) c ≡ true
+late_misplaced (Add name row) n e = absurd (true≢false n)
+late_misplaced (Del name row) n e = absurd (true≢false n)
+late_misplaced (Done given) n (inl e) = absurd (cc (e))
+late_misplaced (Done given) n (inr e) = absurd (cc (e))
 late_misplaced Abandon n (inl e) = absurd (cc (e))
 late_misplaced Abandon n (inr e) = absurd (cc (e))
 late_misplaced Quit n (inl e) = absurd (cc (e))
@@ -105,7 +105,7 @@ late_misplaced Stop n (inr e) = absurd (cc (e))
 late_misplaced _ n e = refl
 
 -- A line that gives no command is refused so where its command would have its place.
-pub placed_refused : (b : Option (List HeldRow)) (line : Bytes) (r : LineRefusal) → LineReadsAs line (Err r)
+pub placed_refused : (b : Option HeldTransaction) (line : Bytes) (r : LineRefusal) → LineReadsAs line (Err r)
     → ((c : Command) → command_of line ≡ Some c → IsLate c → is_misplaced b c ≡ false)
     → RefusedBy b (reading_of line) (refused_as r)
 placed_refused b line Outside g placed = subst (λ (o : Reading). RefusedBy b o Syntax)
@@ -119,7 +119,7 @@ placed_refused b line NoMem g placed =
     subst (λ (o : Reading). RefusedBy b o NoMemory) (sym m.2) (inr (placed m.0 m.1 (inr m.3), m.3, refl))
 
 -- And so where it would have none.
-pub misplaced_refused : (b : Option (List HeldRow)) (line : Bytes) (r : LineRefusal) → LineReadsAs line (Err r)
+pub misplaced_refused : (b : Option HeldTransaction) (line : Bytes) (r : LineRefusal) → LineReadsAs line (Err r)
     → ((c : Command) → command_of line ≡ Some c → IsLate c → is_misplaced b c ≡ true)
     → RefusedBy b (reading_of line) (misplaced_as r)
 misplaced_refused b line Outside g mis = subst (λ (o : Reading). RefusedBy b o Syntax)
@@ -133,57 +133,47 @@ misplaced_refused b line NoMem g mis =
     subst (λ (o : Reading). RefusedBy b o Misplaced) (sym m.2) (inl (mis m.0 m.1 (inr m.3), refl))
 
 -- a command that is read, and has no place
-pub misplaced_said : (b : Option (List HeldRow)) (line : Bytes) (c : Command) → LineReadsAs line (Ok c)
+pub misplaced_said : (b : Option HeldTransaction) (line : Bytes) (c : Command) → LineReadsAs line (Ok c)
     → is_misplaced b c
     ≡ true → RefusedBy b (reading_of line) Misplaced
 misplaced_said b line c g m = subst (λ (o : Reading). RefusedBy b o Misplaced) (sym (reads_as line c g)) (inl (m, refl))
 
 -- outside a batch
-pub refused_alone : (b : Option (List HeldRow)) (line : Bytes) (r : LineRefusal) → b ≡ None → LineReadsAs line (Err r)
+pub refused_alone : (b : Option HeldTransaction) (line : Bytes) (r : LineRefusal) → b ≡ None → LineReadsAs line (Err r)
     → RefusedBy b (reading_of line) (refused_as r)
 refused_alone b line r e g =
-    placed_refused b line r g (λ c f late. ap (λ (o : Option (List HeldRow)). is_misplaced o c) e ∙ late_alone c late)
+    placed_refused b line r g (λ c f late. ap (λ (o : Option HeldTransaction). is_misplaced o c) e ∙ late_alone c late)
 
--- in one, of a line of `add`, of one of `del`, and of any other
-adds_word : (c : Command) → row_word_for c ≡ Some Adds → is_misplaced {A = List HeldRow} (Some []) c ≡ false
-adds_word (Add name row) e = refl
-adds_word (Del name row) e = absurd (cc (e))
-adds_word _ e = absurd (cc (e))
-
-pub refused_add : (line : Bytes) (r : LineRefusal) → row_word_in (tokens line) ≡ Some Adds → LineReadsAs line (Err r)
-    → RefusedBy (Some []) (reading_of line) (refused_as r)
-refused_add line r w g = placed_refused (Some []) line r g (λ c f late. adds_word c (sym (begins_for line c f) ∙ w))
-
-pub refused_delete : (line : Bytes) (r : LineRefusal) → row_word_in (tokens line) ≡ Some Deletes
-    → LineReadsAs line (Err r)
-    → RefusedBy (Some []) (reading_of line) (misplaced_as r)
-refused_delete line r w g =
-    misplaced_refused (Some []) line r g
-    (λ c f late. late_misplaced c (λ a. absurd (cc (sym (begins_for line c f) ∙ w, a))) late)
+-- in one, of a line of a row, and of any other
+row_placed : (c : Command) (verb : RowWord) → row_word_for c ≡ Some verb
+    → is_misplaced {A = HeldTransaction} (Some nothing_held) c ≡ false
+row_placed (Add name row) verb e = refl
+row_placed (Del name row) verb e = refl
+row_placed _ verb e = absurd (cc (e))
 
 pub refused_row : (line : Bytes) (verb : RowWord) (r : LineRefusal) → row_word_in (tokens line) ≡ Some verb
-    → LineReadsAs line (Err r) → RefusedBy (Some []) (reading_of line) (row_refused_as verb r)
-refused_row line Adds r w g = refused_add line r w g
-refused_row line Deletes r w g = refused_delete line r w g
+    → LineReadsAs line (Err r) → RefusedBy (Some nothing_held) (reading_of line) (refused_as r)
+refused_row line verb r w g =
+    placed_refused (Some nothing_held) line r g (λ c f late. row_placed c verb (sym (begins_for line c f) ∙ w))
 
 pub refused_other : (line : Bytes) (r : LineRefusal) → begins_row (tokens line) ≡ false → LineReadsAs line (Err r)
-    → RefusedBy (Some []) (reading_of line) (misplaced_as r)
+    → RefusedBy (Some nothing_held) (reading_of line) (misplaced_as r)
 refused_other line r w g =
-    misplaced_refused (Some []) line r g
-    (λ c f late. late_misplaced c (λ a. absurd (true≢false (sym (ap (λ o. is_some o) (begins_for line c f ∙ a)) ∙ w)))
-    late)
+    misplaced_refused (Some nothing_held) line r g
+    (λ c f late. late_misplaced c (sym (ap (λ o. is_some o) (begins_for line c f)) ∙ w) late)
 
 -- Which batch is open makes no difference to where a command has its place.
-pub in_any_batch : (held : List HeldRow) (c : Command) → is_misplaced (Some held) c
-    ≡ is_misplaced {A = List HeldRow} (Some []) c
+pub in_any_batch : (held : HeldTransaction) (c : Command) → is_misplaced (Some held) c
+    ≡ is_misplaced {A = HeldTransaction} (Some nothing_held) c
 in_any_batch held (Add name row) = refl
-in_any_batch held Done = refl
+in_any_batch held (Del name row) = refl
+in_any_batch held (Done given) = refl
 in_any_batch held Abandon = refl
 in_any_batch held Quit = refl
 in_any_batch held Stop = refl
 in_any_batch held _ = refl
 
-pub refused_in_any : (held : List HeldRow) (r : Reading) (why : Refusal) → RefusedBy (Some []) r why
+pub refused_in_any : (held : HeldTransaction) (r : Reading) (why : Refusal) → RefusedBy (Some nothing_held) r why
     → RefusedBy (Some held) r why
 refused_in_any held outside why h = h
 refused_in_any held (past_limit c) why h = h ∙ ap past_limit_refusal (sym (in_any_batch held c))
@@ -392,7 +382,8 @@ runnable_behind ExplainWord ts command e = made_of (λ q. Explain q) (one_name t
 runnable_behind ShapeWord ts command e = made_of (λ q. Shape q) (one_name ts) command (IsRunnable command)
     (λ a f g. subst IsRunnable g tt) e
 runnable_behind BatchWord ts command e = no_count Batch ts command (IsRunnable command) (λ g. subst IsRunnable g tt) e
-runnable_behind DoneWord ts command e = no_count Done ts command (IsRunnable command) (λ g. subst IsRunnable g tt) e
+runnable_behind DoneWord ts command e = made_of (λ n. Done n) (number_if_any ts) command (IsRunnable command)
+    (λ a f g. subst IsRunnable g tt) e
 runnable_behind AbandonWord ts command e = no_count Abandon ts command (IsRunnable command) (λ g. subst IsRunnable g tt)
     e
 runnable_behind QuitWord ts command e = no_count Quit ts command (IsRunnable command) (λ g. subst IsRunnable g tt) e
@@ -464,7 +455,7 @@ other_said (Unwatch q) ts h e = refl
 other_said (Explain q) ts h e = refl
 other_said (Shape q) ts h e = refl
 other_said Batch ts h e = refl
-other_said Done ts h e = refl
+other_said (Done given) ts h e = refl
 other_said Abandon ts h e = refl
 other_said Quit ts h e = refl
 other_said Stop ts h e = refl
@@ -492,20 +483,20 @@ pub said_in_batch : (line : Bytes) (c : Command) → LineReadsAs line (Ok c) →
     → ReadsInBatch line (in_batch c) row
 said_in_batch line (Add name values) g e row = absurd (cc (other line (Add name values) g e))
 said_in_batch line (Del name values) g e row = absurd (cc (other line (Del name values) g e))
-said_in_batch line Done g e row = reads_as line Done g
+said_in_batch line (Done given) g e row = reads_as line (Done given) g
 said_in_batch line Abandon g e row = reads_as line Abandon g
 said_in_batch line Quit g e row = reads_as line Quit g
 said_in_batch line Stop g e row = reads_as line Stop g
-said_in_batch line c g e row = misplaced_said (Some []) line c g refl
+said_in_batch line c g e row = misplaced_said (Some nothing_held) line c g refl
 
 -- A command that has its place in a batch has it in one that is open.
-pub placed_in : (o : Option (List HeldRow)) (c : Command) → IsSome o → is_misplaced {A = List HeldRow} (Some []) c
-    ≡ false → is_misplaced o c ≡ false
+pub placed_in : (o : Option HeldTransaction) (c : Command) → IsSome o
+    → is_misplaced {A = HeldTransaction} (Some nothing_held) c ≡ false → is_misplaced o c ≡ false
 placed_in None c h e = absurd (cc (h))
 placed_in (Some held) c h e = in_any_batch held c ∙ e
 
-pub refused_in : (o : Option (List HeldRow)) (r : Reading) (why : Refusal) → IsSome o → RefusedBy (Some []) r why
-    → RefusedBy o r why
+pub refused_in : (o : Option HeldTransaction) (r : Reading) (why : Refusal) → IsSome o
+    → RefusedBy (Some nothing_held) r why → RefusedBy o r why
 refused_in None r why h e = absurd (cc (h))
 refused_in (Some held) r why h e = refused_in_any held r why e
 
@@ -530,19 +521,20 @@ carried_out old s x l c e new m d = subst (CarriedOut old s x l c e new) (sym m)
 pub any_line : (old : State) (s : ℕ) (x : Session) (l : Bytes) (c : Command) (e : Effect) (new : State) → is_on_row c
     ≡ false → CommandStep old s x [] c e new → CommandStep old s x l c e new
 any_line old s x l (Add name row) e new o h = absurd (cc (o))
+any_line old s x l (Del name row) e new o h = absurd (cc (o))
 any_line old s x l _ e new o h = h
 
 -- a line that is refused before
-pub refused_line : (old : State) (s : ℕ) (x : Session) (b : Option (List HeldRow)) (l : Bytes) (r : Reading)
+pub refused_line : (old : State) (s : ℕ) (x : Session) (b : Option HeldTransaction) (l : Bytes) (r : Reading)
     (why : Refusal) (e : Effect) (new : State) → x.batch ≡ b → RefusedBy b r why
     → RefusedStep old s why e new → ReadStep old s x l r e new
 refused_line old s x b l outside why e new same is h = subst (λ (w : Refusal). RefusedStep old s w e new) is h
 refused_line old s x b l (past_limit c) why e new same is h =
     subst (λ (w : Refusal). RefusedStep old s w e new)
-    (is ∙ ap (λ (o : Option (List HeldRow)). past_limit_refusal (is_misplaced o c)) (sym same)) h
+    (is ∙ ap (λ (o : Option HeldTransaction). past_limit_refusal (is_misplaced o c)) (sym same)) h
 refused_line old s x b l (says_command c) why e new same (inl (m, is)) h =
-    subst (CarriedOut old s x l c e new) (sym (ap (λ (o : Option (List HeldRow)). is_misplaced o c) same ∙ m))
+    subst (CarriedOut old s x l c e new) (sym (ap (λ (o : Option HeldTransaction). is_misplaced o c) same ∙ m))
     (subst (λ (w : Refusal). RefusedStep old s w e new) is h)
 refused_line old s x b l (says_command c) why e new same (inr (m, takes, is)) h =
-    subst (CarriedOut old s x l c e new) (sym (ap (λ (o : Option (List HeldRow)). is_misplaced o c) same ∙ m))
+    subst (CarriedOut old s x l c e new) (sym (ap (λ (o : Option HeldTransaction). is_misplaced o c) same ∙ m))
     (false, (takes, subst (λ (w : Refusal). RefusedStep old s w e new) is h))

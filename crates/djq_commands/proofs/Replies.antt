@@ -11,7 +11,6 @@ use Rattle.djq_model.specs.Data.{Bytes, Tuple, bytes_eq, drop_first}
 use Rattle.djq_model.specs.Listed.{Listed, listed_name, listed_of}
 use Rattle.djq_model.specs.Equality.{bytes_eq-decides}
 use Rattle.djq_protocol.specs.declared.answer.Refusal.{Refusal}
-use Rattle.djq_protocol.specs.declared.held.HeldRow.{HeldRow}
 use Rattle.djq_protocol.specs.declared.answer.Shape.{Shape}
 use Rattle.djq_protocol.specs.declared.rest.QueryOutcome.{QueryOutcome}
 use Rattle.djq_protocol.specs.declared.command.Command.TheVariants.{Rel, Query as Register, Union, Has}
@@ -20,6 +19,7 @@ use Rattle.djq_protocol.specs.declared.answer.Refusal.TheVariants.{NoQuery, InUs
 use Rattle.djq_protocol.specs.Reply.{ok_reply, query_reply, union_reply, has_reply, shape_reply}
 use Rattle.djq_protocol.specs.Conditions.{first_refusal, Answers, OutOfMemoryWhere}
 use Rattle.djq_store_spec.specs.Store.{Store}
+use Rattle.djq_store_spec.specs.Held.{HeldTransaction}
 use Rattle.djq_store_spec.specs.Union.{RegistersUnion}
 use Rattle.djq_store_spec.specs.Relations.{MakesRelation}
 use Rattle.djq_store_spec.specs.Registering.{RegistersQuery, is_member, DropsQuery}
@@ -93,7 +93,7 @@ around_bytes hs front s d held pending room back p = record {
   ended_back = p.ended_back;
 }
 
-pub around_batch : (hs : List HeldCursor) (front : List OpenSession) (s : ℕ) (d : Talk) (b : Option (List HeldRow))
+pub around_batch : (hs : List HeldCursor) (front : List OpenSession) (s : ℕ) (d : Talk) (b : Option HeldTransaction)
     (back : List OpenSession)
     → Around hs front s d back → Around hs front s (record d { batch = b }) back
 around_batch hs front s d b back p = record {
@@ -110,7 +110,7 @@ around_batch hs front s d b back p = record {
 }
 
 -- a session with another batch is as sound
-pub sound_batch : (k : Kept) (front : List OpenSession) (s : ℕ) (d : Talk) (b : Option (List HeldRow))
+pub sound_batch : (k : Kept) (front : List OpenSession) (s : ℕ) (d : Talk) (b : Option HeldTransaction)
     (back : List OpenSession) → IsSound k (among front s d back)
     → IsSound k (among front s (record d { batch = b }) back)
 sound_batch k front s d b back sound =

@@ -1,16 +1,16 @@
 -- A line is taken of a session's bytes, and what is done after it.
 use Rattle.std.proofs.Common.{ℕ, ◌≤◌, ◌≡◌, ◌||◌, Bool, false, List, length, Some, refl, sym, ap, subst, arith, ◌+◌}
 use Rattle.std.proofs.Common.{◌++◌, [], ◌∷◌, Option, None, Result, Ok, Err, codes, ◌∙◌, inl, inr, length-append, ◌<◌}
-use Rattle.std.proofs.Common.{true}
+use Rattle.std.proofs.Common.{true, drop}
 use Rattle.std.specs.Prelude.{⊤, IsSome, MatchOption, ◌&&◌, not, is_none}
 use Rattle.std.proofs.lemmas.Bool.{false≢true}
 use Rattle.djq_model.specs.Data.{Bytes, Tuple}
 use Rattle.djq_protocol.specs.declared.limits.TheConstants.{PENDING_BYTES, REPLY_BYTES, LAST_LINE_BYTES}
 use Rattle.djq_protocol.specs.declared.answer.Refusal.{Refusal}
 use Rattle.djq_protocol.specs.declared.command.Command.{Command}
-use Rattle.djq_protocol.specs.declared.answer.Refusal.TheVariants.{NoMemory}
-use Rattle.djq_protocol.specs.declared.command.Command.TheVariants.{Add, Batch, Abandon, Done}
-use Rattle.djq_protocol.specs.declared.held.HeldRow.{HeldRow}
+use Rattle.djq_protocol.specs.declared.command.Command.TheVariants.{Batch, Abandon, Done}
+use Rattle.djq_protocol.specs.declared.held.Verb.{Verb}
+use Rattle.djq_protocol.specs.declared.held.Verb.TheVariants.{Add as Adds, Delete as Deletes}
 use Rattle.djq_protocol.specs.declared.answer.EndCause.{EndCause}
 use Rattle.djq_protocol.specs.declared.answer.EndCause.TheVariants.{Long, Slow, Memory}
 use Rattle.djq_protocol.specs.Line.{Front, a_line, front_of, is_blank, too_long, dry}
@@ -18,15 +18,16 @@ use Rattle.djq_protocol.specs.Grammar.{Reading, says_command, reading_of}
 use Rattle.djq_protocol.specs.Reply.{refusal_line, ok_reply, held_reply, end_long, end_slow, end_memory}
 use Rattle.djq_protocol.specs.Conditions.{Answers, OutOfMemoryWhere}
 use Rattle.djq_store_spec.specs.Store.{Store}
-use Rattle.djq_store_spec.specs.Batch.{hold_refusal}
+use Rattle.djq_store_spec.specs.Held.{HeldTransaction, nothing_held, holding}
+use Rattle.djq_store_spec.specs.Transaction.{hold_refusal}
 use Rattle.djq_machine.specs.State.{Session, State, with_session}
 use Rattle.djq_machine.specs.Keeping.{kept_where, no_line}
 use Rattle.djq_machine.specs.Effect.{Effect, EndsWith}
-use Rattle.djq_machine.specs.Command.{CommandStep, is_misplaced, AddStep, HoldStep, with_batch}
+use Rattle.djq_machine.specs.Command.{CommandStep, is_misplaced, AddStep, DeleteStep, HoldStep, with_batch}
 use Rattle.djq_machine.specs.LineStep.{LineOutcome, run, TakenLine, behind_line, ReadStep, long, blank, slow, no_room}
 use Rattle.djq_machine.specs.LineStep.{FrontStep}
 use Rattle.djq_machine.specs.Call.{Counts}
-use Rattle.djq_session.specs.Dialog.{Replies, batch_rows, dialog_is_ready, holds_no_line}
+use Rattle.djq_session.specs.Dialog.{Replies, held_in_batch, dialog_is_ready, holds_no_line}
 use Rattle.djq_engine.specs.Kept.{Kept}
 use Rattle.djq_commands.specs.declared.open.OpenSession.{OpenSession}
 use Rattle.djq_commands.specs.declared.change.Left.{Left}
@@ -35,9 +36,9 @@ use Rattle.djq_commands.specs.declared.change.Outcome.{Outcome}
 use Rattle.djq_commands.specs.Views.{Talk, session_in, state_in}
 use Rattle.djq_commands.specs.Sound.{IsSound}
 use Rattle.djq_commands.specs.Performs.{among, to_one, to_keep, unqueued, Performs, ExecutesKeeping, Executes}
-use Rattle.djq_commands.specs.Batching.{RefusedBy, HoldsMadeRow, held_row_of, MakesRow}
+use Rattle.djq_commands.specs.Batching.{RefusedBy, HeldTo, HoldsLine, row_command}
 use Rattle.djq_commands.specs.Stepping.{FrontsKeeping, is_on_row, Fronts, StepsTo, Obeys, LineLeaves, LeavesTo, is_run}
-use Rattle.djq_commands.specs.Changing.{AddsAll, IsChange}
+use Rattle.djq_commands.specs.Changing.{CarriesOutAll, IsChange}
 use Rattle.djq_commands.proofs.ReadLines.{carried_out, any_line, refused_line, placed_in, refused_in}
 use Rattle.djq_commands.proofs.Cursors.{parts, whole, becomes, looks}
 use Rattle.djq_commands.proofs.Replies.{refused, around_bytes, sound_batch}
@@ -194,7 +195,7 @@ reads_refused k before after l why was by reply =
 
 -- A session has another batch, and is answered; nothing else changes.
 pub becomes_batch : (M : State → ℕ → Session → Effect → State → Type 0) (k : Kept) (before after : Talk)
-    (batch : Option (List HeldRow)) (text : Bytes)
+    (batch : Option HeldTransaction) (text : Bytes)
     → Replies (record before { batch = batch }) after text
     → ((st : State) (s : ℕ) (x : Session) → st.store ≡ k.store → x ≡ session_in k.cursors s before
     → M st s x (to_one s (Some text) 0) (with_session st s (λ y. record y { batch = batch })))
@@ -221,10 +222,10 @@ becomes_batch M k before after batch text r does = record {
 }
 
 -- `batch`
-pub does_batch : (k : Kept) (before mid after : Talk) → mid ≡ record before { batch = Some [] }
+pub does_batch : (k : Kept) (before mid after : Talk) → mid ≡ record before { batch = Some nothing_held }
     → Replies mid after (ok_reply {A = ⊤} (codes "ok batch") (Ok tt)) → Executes Batch false k before k after 0 0
 does_batch k before mid after e r =
-    becomes_batch _ k before after (Some []) (ok_reply {A = ⊤} (codes "ok batch") (Ok tt))
+    becomes_batch _ k before after (Some nothing_held) (ok_reply {A = ⊤} (codes "ok batch") (Ok tt))
     (subst (λ (d : Talk). Replies d after (ok_reply {A = ⊤} (codes "ok batch") (Ok tt))) e r) (λ st s x f g. record {
       result = Ok tt;
       answer = tt;
@@ -239,100 +240,92 @@ does_abandon k before mid after e r =
     becomes_batch _ k before after None (ok_reply {A = ⊤} (codes "ok") (Ok tt))
     (subst (λ (d : Talk). Replies d after (ok_reply {A = ⊤} (codes "ok") (Ok tt))) e r) (λ st s x f g. (refl, refl))
 
--- `add` in a batch
+-- `add` and `del` in a batch
 
--- what `add` in a batch does, and that its line isn't kept by itself
-abbrev pub HoldsIn : Bytes → Bytes → Tuple → State → ℕ → Session → Effect → State → Type 0
-HoldsIn l name row st s x e st' = CommandStep st s x l (Add name row) e st' × (e.kept ≡ kept_where false)
+-- what a line of a row does in a batch, and that it isn't kept by itself
+abbrev pub HoldsIn : Bytes → Verb → Bytes → Tuple → State → ℕ → Session → Effect → State → Type 0
+HoldsIn l verb name row st s x e st' =
+    CommandStep st s x l (row_command verb name row) e st' × (e.kept ≡ kept_where false)
 
-in_batch : (st : State) (s : ℕ) (x : Session) (held : List HeldRow) (l name : Bytes) (row : Tuple) (e : Effect)
-    (st' : State) → x.batch ≡ Some held → HoldStep st s held l name row e st'
-    → CommandStep st s x l (Add name row) e st'
-in_batch st s x held l name row e st' is h =
-    subst (λ (o : Option (List HeldRow)). MatchOption o (AddStep st s name row e st')
-    (λ rows. HoldStep st s rows l name row e st')) (sym is) h
+in_batch : (st : State) (s : ℕ) (x : Session) (held : HeldTransaction) (l : Bytes) (verb : Verb) (name : Bytes)
+    (row : Tuple) (e : Effect) (st' : State) → x.batch ≡ Some held → HoldStep st s held l verb name row e st'
+    → CommandStep st s x l (row_command verb name row) e st'
+in_batch st s x held l Adds name row e st' is h =
+    subst (λ (o : Option HeldTransaction). MatchOption o (AddStep st s name row e st')
+    (λ t. HoldStep st s t l Adds name row e st')) (sym is) h
+in_batch st s x held l Deletes name row e st' is h =
+    subst (λ (o : Option HeldTransaction). MatchOption o (DeleteStep st s name row e st')
+    (λ t. HoldStep st s t l Deletes name row e st')) (sym is) h
 
-counted_one : (held : List HeldRow) (row : HeldRow) → length (held ++ row ∷ []) ≡ length held + 1
-counted_one held row = length-append held (row ∷ [])
+-- A line is held and answered, or its refusal is.
+abbrev pub AnswersHeld : Talk → HeldTransaction → Bytes → Verb → Bytes → Tuple → Result ⊤ Refusal → Talk → Type 0
+AnswersHeld before held l verb name row (Ok d) after =
+    Replies (record before { batch = Some (holding held verb name row l) }) after
+    (held_reply {A = ⊤} (Ok d) (length held.lines + 1))
+AnswersHeld before held l verb name row (Err r) after = Replies before after (refusal_line r)
 
-pub does_hold : (k : Kept) (before after : Talk) (held : List HeldRow) (l name : Bytes) (row : Tuple)
-    (made : Result HeldRow Refusal) → before.batch ≡ Some held
-    → Answers (hold_refusal k.store held name row) made (λ h. h ≡ held_row_of l name row) (OutOfMemoryWhere ⊤)
-    → HoldsMadeRow before made after → Performs (HoldsIn l name row) false k before k after 0 0
-does_hold k before after held l name row (Err r) is a h =
-    refused (HoldsIn l name row) k before after (refusal_line r) h (λ st s x f g. (
-      in_batch st s x held l name row (to_one s (Some (refusal_line r)) 0) st (ap (λ (y : Session). y.batch) g ∙ is)
-          (record {
-            result = Err r;
-            answer = subst (λ (store : Store). Answers {A = ⊤} (hold_refusal store held name row) (Err r) (λ d. ⊤)
-                (OutOfMemoryWhere ⊤)) (sym f) (err_alike (hold_refusal k.store held name row) a);
-            effect = refl;
-            state = refl;
-          }),
-      refl,
-    ))
-  where
-    err_alike : (o : Option Refusal)
-        → Answers {A = HeldRow} o (Err r) (λ h. h ≡ held_row_of l name row) (OutOfMemoryWhere ⊤)
-        → Answers {A = ⊤} o (Err r) (λ d. ⊤) (OutOfMemoryWhere ⊤)
-    err_alike None b = b
-    err_alike (Some q) b = b
-does_hold k before after held l name row (Ok new) is a (inr h) =
-    refused (HoldsIn l name row) k before after (refusal_line NoMemory) h (λ st s x f g. (
-      in_batch st s x held l name row (to_one s (Some (refusal_line NoMemory)) 0) st
+pub does_hold : (k : Kept) (before after : Talk) (held : HeldTransaction) (l : Bytes) (verb : Verb) (name : Bytes)
+    (row : Tuple) (result : Result ⊤ Refusal) → before.batch ≡ Some held
+    → Answers (hold_refusal k.store held l name row) result (λ d. ⊤) (OutOfMemoryWhere ⊤)
+    → AnswersHeld before held l verb name row result after
+    → Performs (HoldsIn l verb name row) false k before k after 0 0
+does_hold k before after held l verb name row (Err r) is a h =
+    refused (HoldsIn l verb name row) k before after (refusal_line r) h (λ st s x f g. (
+      in_batch st s x held l verb name row (to_one s (Some (refusal_line r)) 0) st
           (ap (λ (y : Session). y.batch) g ∙ is) (record {
-            result = Err NoMemory;
-            answer = subst (λ (store : Store). Answers {A = ⊤} (hold_refusal store held name row)
-                (Err NoMemory) (λ d. ⊤)
-                (OutOfMemoryWhere ⊤)) (sym f) (lacks (hold_refusal k.store held name row) a);
+            result = Err r;
+            answer = subst (λ (store : Store). Answers {A = ⊤} (hold_refusal store held l name row) (Err r) (λ d. ⊤)
+                (OutOfMemoryWhere ⊤)) (sym f) a;
             effect = refl;
             state = refl;
           }),
       refl,
     ))
-  where
-    lacks : (o : Option Refusal)
-        → Answers {A = HeldRow} o (Ok new) (λ h. h ≡ held_row_of l name row) (OutOfMemoryWhere ⊤)
-        → Answers {A = ⊤} o (Err NoMemory) (λ d. ⊤) (OutOfMemoryWhere ⊤)
-    lacks None b = tt
-    lacks (Some q) b = absurd b
-does_hold k before after held l name row (Ok new) is a (inl h) =
-    let rows = held ++ held_row_of l name row ∷ [] in
-    let same : batch_rows before.batch ++ new ∷ []
-    ≡ rows = ap (λ (o : Option (List HeldRow)). batch_rows o ++ new ∷ []) is
-    ∙ ap (λ (n : HeldRow). held ++ n ∷ []) (is_new (hold_refusal k.store held name row) a) in
-    becomes_batch (HoldsIn l name row) k before after (Some rows) (held_reply {A = ⊤} (Ok tt) (length held + 1))
-    (subst (λ (n : ℕ). Replies (record before { batch = Some rows }) after (held_reply {A = ⊤} (Ok tt) n))
-    (counted_one held (held_row_of l name row))
-    (subst (λ (hs : List HeldRow). Replies (record before { batch = Some hs }) after
-    (held_reply {A = ⊤} (Ok tt) (length hs))) same h)) (λ st s x f g. (
-      in_batch st s x held l name row (to_one s (Some (held_reply {A = ⊤} (Ok tt) (length held + 1))) 0)
-          (with_session st s (with_batch rows)) (ap (λ (y : Session). y.batch) g ∙ is) (record {
-            result = Ok tt;
-            answer = subst (λ (store : Store). Answers {A = ⊤} (hold_refusal store held name row) (Ok tt) (λ d. ⊤)
-                (OutOfMemoryWhere ⊤)) (sym f) (done (hold_refusal k.store held name row) a);
+does_hold k before after held l verb name row (Ok d) is a h =
+    let text = held_reply {A = ⊤} (Ok d) (length held.lines + 1) in
+    let more = holding held verb name row l in
+    becomes_batch (HoldsIn l verb name row) k before after (Some more) text h (λ st s x f g. (
+      in_batch st s x held l verb name row (to_one s (Some text) 0) (with_session st s (with_batch more))
+          (ap (λ (y : Session). y.batch) g ∙ is) (record {
+            result = Ok d;
+            answer = subst (λ (store : Store). Answers {A = ⊤} (hold_refusal store held l name row) (Ok d) (λ d. ⊤)
+                (OutOfMemoryWhere ⊤)) (sym f) a;
             effect = refl;
             state = refl;
           }),
       refl,
     ))
-  where
-    is_new : (o : Option Refusal)
-        → Answers {A = HeldRow} o (Ok new) (λ h. h ≡ held_row_of l name row) (OutOfMemoryWhere ⊤)
-        → new ≡ held_row_of l name row
-    is_new None b = b
-    is_new (Some q) b = absurd b
 
-    done : (o : Option Refusal)
-        → Answers {A = HeldRow} o (Ok new) (λ h. h ≡ held_row_of l name row) (OutOfMemoryWhere ⊤)
-        → Answers {A = ⊤} o (Ok tt) (λ d. ⊤) (OutOfMemoryWhere ⊤)
-    done None b = tt
-    done (Some q) b = absurd b
+-- a session with a batch open has what it holds
+pub open_held : (o : Option HeldTransaction) → IsSome o → o ≡ Some (held_in_batch o)
+open_held None h = absurd (cc (h))
+open_held (Some held) h = refl
 
--- a session with a batch open has these rows
-pub open_rows : (o : Option (List HeldRow)) → IsSome o → o ≡ Some (batch_rows o)
-open_rows None h = absurd (cc (h))
-open_rows (Some held) h = refl
+-- that a line is held, or isn't, changes the batch alone
+pub held_alone : (before : Talk) (l : Bytes) (verb : Verb) (name : Bytes) (row : Tuple) (result : Result ⊤ Refusal)
+    (mid : Talk) → HeldTo before l verb name row result mid → mid ≡ record before { batch = mid.batch }
+held_alone before l verb name row (Ok d) mid h =
+    h ∙ ap (λ (o : Option HeldTransaction). record before { batch = o }) (sym (ap (λ (d : Talk). d.batch) h))
+held_alone before l verb name row (Err r) mid h =
+    h ∙ ap (λ (o : Option HeldTransaction). record before { batch = o }) (sym (ap (λ (d : Talk). d.batch) h))
+
+-- The line is taken then, and answered.
+answers_held : (before mid taken after : Talk) (l rest : Bytes) (verb : Verb) (name : Bytes) (row : Tuple)
+    (result : Result ⊤ Refusal) (count : ℕ) → HeldTo before l verb name row result mid
+    → taken ≡ record mid { held = rest } → count ≡ length (held_in_batch taken.batch).lines
+    → Replies taken after (held_reply result count)
+    → AnswersHeld (record before { held = rest }) (held_in_batch before.batch) l verb name row result after
+answers_held before mid taken after l rest verb name row (Ok d) count h t c r =
+    let held = held_in_batch before.batch in
+    let more = holding held verb name row l in
+    let is : taken ≡ record before { held = rest; batch = Some more } = t
+    ∙ ap (λ (d : Talk). record d { held = rest }) h in
+    let many : count ≡ length held.lines + 1 = c ∙ ap (λ (d : Talk). length (held_in_batch d.batch).lines) is
+    ∙ length-append held.lines (record { verb = verb; relation = name; row = row } ∷ []) in
+    subst (λ (n : ℕ). Replies (record before { held = rest; batch = Some more }) after (held_reply {A = ⊤} (Ok d) n))
+    many (subst (λ (d' : Talk). Replies d' after (held_reply {A = ⊤} (Ok d) count)) is r)
+answers_held before mid taken after l rest verb name row (Err r) count h t c reply =
+    subst (λ (d : Talk). Replies d after (refusal_line r)) (t ∙ ap (λ (d : Talk). record d { held = rest }) h) reply
 
 -- ---- What becomes of the front of a session's bytes.
 
@@ -489,17 +482,18 @@ pub tells_alone : (change : Outcome) (old : Kept) (mid : Talk) (new : Kept) (was
     → mid.batch ≡ None → IsChange command None old change new was now
     → Obeys command (Telling change) old mid new mid was now
 tells_alone change old mid new was now command e c = (
-  subst (λ (o : Option (List HeldRow)). IsChange command o old change new was now) (sym e) c,
+  subst (λ (o : Option HeldTransaction). IsChange command o old change new was now) (sym e) c,
   ap
-      (λ (o : Option (List HeldRow)). record mid { batch = o }) e,
+      (λ (o : Option HeldTransaction). record mid { batch = o }) e,
 )
 
 -- and of one whose batch is done
 pub tells_done : (change : Outcome) (old : Kept) (mid : Talk) (new : Kept) (after : Talk) (was now : ℕ)
-    → IsSome mid.batch → AddsAll old (batch_rows mid.batch) change new was now
-    → after ≡ record mid { batch = None } → Obeys Done (Telling change) old mid new after was now
-tells_done change old mid new after was now some c e = (
-  subst (λ (o : Option (List HeldRow)). IsChange Done o old change new was now) (sym (open_rows mid.batch some)) c,
+    (given : Option ℕ) → IsSome mid.batch → CarriesOutAll old (held_in_batch mid.batch) given change new was now
+    → after ≡ record mid { batch = None } → Obeys (Done given) (Telling change) old mid new after was now
+tells_done change old mid new after was now given some c e = (
+  subst (λ (o : Option HeldTransaction). IsChange (Done given) o old change new was now)
+      (sym (open_held mid.batch some)) c,
   e,
 )
 
@@ -534,42 +528,24 @@ module _ (before mid : Talk) (l rest : Bytes) (f : front_of before.held ≡ a_li
     (few : length before.pending ≤ PENDING_BYTES) (some : IsSome before.batch) where
   -- the batch is still open
   open_still : IsSome mid.batch
-  open_still = subst (λ (o : Option (List HeldRow)). IsSome o) (sym (ap (λ (d : Talk). d.batch) e)) some
-
-  rows_still : batch_rows mid.batch ≡ batch_rows before.batch
-  rows_still = ap (λ (d : Talk). batch_rows d.batch) e
-
-  -- a row is held
-  pub hold_leaves : (k : Kept) (name : Bytes) (row : Tuple) (made : Result HeldRow Refusal) (count : ℕ) (after : Talk)
-      (was : ℕ)
-      → reading_of l ≡ says_command (Add name row) → count ≡ length (batch_rows before.batch)
-      → MakesRow k.store count l name row made → HoldsMadeRow mid made after
-      → LineLeaves l (Nothing false) k before k after was was
-  unfolding open_still
-  hold_leaves k name row made count after was reads c makes holds =
-      runs false false k before mid l rest k after was was f e said few
-      (reads_said false false k mid l (Add name row) k after was was reads
-      (placed_in mid.batch (Add name row) open_still refl)
-      (counting _ false k mid k after was was (omega arith)
-      (does_hold k mid after (batch_rows mid.batch) l name row made (open_rows mid.batch open_still)
-      (makes (batch_rows mid.batch) (ap (λ (rows : List HeldRow). length rows) rows_still ∙ sym c)) holds)))
+  open_still = subst (λ (o : Option HeldTransaction). IsSome o) (sym (ap (λ (d : Talk). d.batch) e)) some
 
   -- the batch is done
-  pub done_leaves : (old : Kept) (change : Outcome) (new : Kept) (after : Talk) (was now : ℕ) → before.cause ≡ None
-      → REPLY_BYTES + LAST_LINE_BYTES ≤ before.room
-      → reading_of l ≡ says_command Done → AddsAll old (batch_rows mid.batch) change new was now → after
-      ≡ record mid { batch = None } → LineLeaves l (Telling change) old before new after was now
-  done_leaves old change new after was now running room reads adds closed =
-      line_leaves (Telling change) old before mid l rest Done new after was now f e said few running room reads
+  pub done_leaves : (old : Kept) (change : Outcome) (new : Kept) (after : Talk) (was now : ℕ) (given : Option ℕ)
+      → before.cause ≡ None → REPLY_BYTES + LAST_LINE_BYTES ≤ before.room
+      → reading_of l ≡ says_command (Done given) → CarriesOutAll old (held_in_batch mid.batch) given change new was now
+      → after ≡ record mid { batch = None } → LineLeaves l (Telling change) old before new after was now
+  done_leaves old change new after was now given running room reads carries closed =
+      line_leaves (Telling change) old before mid l rest (Done given) new after was now f e said few running room reads
       (λ h. absurd h)
-      (tells_done change old mid new after was now open_still adds closed)
+      (tells_done change old mid new after was now given open_still carries closed)
 
   -- a command that has its place in a batch
   pub placed_leaves : (old : Kept) (command : Command) (new : Kept) (after : Talk) (was now : ℕ) → before.cause ≡ None
       → REPLY_BYTES + LAST_LINE_BYTES ≤ before.room
-      → reading_of l ≡ says_command command → is_on_row command ≡ false → is_misplaced {A = List HeldRow} (Some [])
-      command
-      ≡ false → ExecutesKeeping command false false old mid new after was now
+      → reading_of l ≡ says_command command → is_on_row command ≡ false
+      → is_misplaced {A = HeldTransaction} (Some nothing_held) command ≡ false
+      → ExecutesKeeping command false false old mid new after was now
       → LineLeaves l (Nothing false) old before new after was now
   placed_leaves old command new after was now running room reads other placed does =
       line_leaves (Nothing false) old before mid l rest command new after was now f e said few running room reads
@@ -577,17 +553,44 @@ module _ (before mid : Talk) (l rest : Bytes) (f : front_of before.held ≡ a_li
 
   pub stop_leaves : (old : Kept) (command : Command) (new : Kept) (after : Talk) (was now : ℕ) → before.cause ≡ None
       → REPLY_BYTES + LAST_LINE_BYTES ≤ before.room
-      → reading_of l ≡ says_command command → is_on_row command ≡ false → is_misplaced {A = List HeldRow} (Some [])
-      command
-      ≡ false → ExecutesKeeping command false true old mid new after was now
+      → reading_of l ≡ says_command command → is_on_row command ≡ false
+      → is_misplaced {A = HeldTransaction} (Some nothing_held) command ≡ false
+      → ExecutesKeeping command false true old mid new after was now
       → LineLeaves l Stopping old before new after was now
   stop_leaves old command new after was now running room reads other placed does =
       line_leaves Stopping old before mid l rest command new after was now f e said few running room reads
       (λ h. (other, placed_in before.batch command some placed)) does
 
   -- the line is refused
-  pub refused_leaves : (k : Kept) (why : Refusal) (after : Talk) (was : ℕ) → RefusedBy (Some []) (reading_of l) why
-      → Replies mid after (refusal_line why) → LineLeaves l (Nothing false) k before k after was was
+  pub refused_leaves : (k : Kept) (why : Refusal) (after : Talk) (was : ℕ)
+      → RefusedBy (Some nothing_held) (reading_of l) why → Replies mid after (refusal_line why)
+      → LineLeaves l (Nothing false) k before k after was was
   refused_leaves k why after was by reply =
       runs false false k before mid l rest k after was was f e said few
       (reads_refused k mid after l why was (refused_in mid.batch (reading_of l) why open_still by) reply)
+
+-- A line of a row is held before it is taken of the bytes, and answered.
+pub hold_leaves : (before mid taken after : Talk) (l : Bytes) (at : ℕ) (k : Kept) (verb : Verb) (name : Bytes)
+    (row : Tuple) (result : Result ⊤ Refusal) (count was : ℕ)
+    → front_of before.held ≡ a_line l (drop at before.held) → is_blank l ≡ false
+    → length before.pending ≤ PENDING_BYTES → IsSome before.batch
+    → reading_of l ≡ says_command (row_command verb name row) → HoldsLine k.store before l verb name row result mid
+    → taken ≡ record mid { held = drop at mid.held } → count ≡ length (held_in_batch taken.batch).lines
+    → Replies taken after (held_reply result count) → LineLeaves l (Nothing false) k before k after was was
+hold_leaves before mid taken after l at k verb name row result count was f said few some reads holds t c r =
+    let rest = drop at before.held in
+    let bytes : mid.held ≡ before.held = ap (λ (d : Talk). d.held)
+    (held_alone before l verb name row result mid holds.1) in
+    runs false false k before (record before { held = rest }) l rest k after was was f refl said few
+    (reads_said false false k (record before { held = rest }) l (row_command verb name row) k after was was reads
+    (placed_in before.batch (row_command verb name row) some (row_has_place verb name row))
+    (counting _ false k (record before { held = rest }) k after was was (omega arith)
+    (does_hold k (record before { held = rest }) after (held_in_batch before.batch) l verb name row result
+    (open_held before.batch some) holds.0
+    (answers_held before mid taken after l rest verb name row result count holds.1
+    (t ∙ ap (λ (bs : Bytes). record mid { held = drop at bs }) bytes) c r))))
+  where
+    row_has_place : (verb : Verb) (name : Bytes) (row : Tuple)
+        → is_misplaced {A = HeldTransaction} (Some nothing_held) (row_command verb name row) ≡ false
+    row_has_place Adds name row = refl
+    row_has_place Deletes name row = refl

@@ -1,23 +1,5 @@
 -- What lines say while a batch is open.
-use Rattle.std.specs.Prelude.{
-  ℕ,
-  List,
-  [],
-  ◌∷◌,
-  ◌≡◌,
-  ◌++◌,
-  ◌≤◌,
-  ◌⊎◌,
-  true,
-  false,
-  Option,
-  Some,
-  Result,
-  Ok,
-  Err,
-  length,
-  ⊤,
-}
+use Rattle.std.specs.Prelude.{◌≡◌, ◌≤◌, ◌⊎◌, true, false, Option, Some, Result, Ok, Err, length, ⊤}
 use Rattle.djq_model.specs.Data.{Bytes, Tuple}
 use Rattle.djq_model.specs.declared.name.TheConstants.{NAME_BYTES}
 use Rattle.djq_protocol.specs.declared.answer.Refusal.{Refusal}
@@ -25,6 +7,7 @@ use Rattle.djq_protocol.specs.declared.answer.Refusal.TheVariants.{Syntax, NoMem
 use Rattle.djq_protocol.specs.declared.command.Command.{Command}
 use Rattle.djq_protocol.specs.declared.command.Command.TheVariants.{
   Add,
+  Del,
   Done as SayDone,
   Abandon as SayAbandon,
   Quit as SayQuit,
@@ -32,25 +15,23 @@ use Rattle.djq_protocol.specs.declared.command.Command.TheVariants.{
 }
 use Rattle.djq_protocol.specs.Grammar.{Reading, outside, past_limit, says_command, reading_of, takes_memory_to_read}
 use Rattle.djq_protocol.specs.Conditions.{Answers, OutOfMemoryWhere}
-use Rattle.djq_protocol.specs.declared.held.HeldRow.{HeldRow}
-use Rattle.djq_protocol.specs.Reply.{held_reply, refusal_line}
+use Rattle.djq_protocol.specs.declared.held.Verb.{Verb}
+use Rattle.djq_protocol.specs.declared.held.Verb.TheVariants.{Add as Adds, Delete as Deletes}
 use Rattle.djq_store_spec.specs.Store.{Store}
-use Rattle.djq_store_spec.specs.Batch.{hold_refusal}
+use Rattle.djq_store_spec.specs.Held.{HeldTransaction, nothing_held, holding}
+use Rattle.djq_store_spec.specs.Transaction.{hold_refusal}
 use Rattle.djq_machine.specs.Command.{is_misplaced}
 use Rattle.djq_machine.specs.LineStep.{past_limit_refusal}
 use Rattle.djq_parser.specs.declared.refusal.LineRefusal.{LineRefusal}
 use Rattle.djq_parser.specs.declared.refusal.LineRefusal.TheVariants.{Syntax as Outside}
-use Rattle.djq_parser.specs.declared.row.RowWord.{RowWord}
-use Rattle.djq_parser.specs.declared.row.RowWord.TheVariants.{Add as Adds, Del as Deletes}
-use Rattle.djq_session.specs.Dialog.{Replies, batch_rows}
-use Rattle.djq_commands.specs.Stepping.{refused_as}
+use Rattle.djq_session.specs.Dialog.{held_in_batch}
 use Rattle.djq_commands.specs.Views.{Talk}
 use Rattle.djq_commands.specs.declared.reading.BatchLine.{BatchLine}
 use Rattle.djq_commands.specs.declared.reading.BatchLine.TheVariants.{Hold, Done, Abandon, Quit, Stop, Refused}
 
 -- what a command that isn't one of a row comes to in a batch
 abbrev pub in_batch : Command → BatchLine
-in_batch SayDone = Done
+in_batch (SayDone given) = Done given
 in_batch SayAbandon = Abandon
 in_batch SayQuit = Quit
 in_batch SayStop = Stop
@@ -61,43 +42,39 @@ abbrev pub misplaced_as : LineRefusal → Refusal
 misplaced_as Outside = Syntax
 misplaced_as _ = Misplaced
 
--- the same of a line that begins as one of a row: only `add` has its place
-abbrev pub row_refused_as : RowWord → LineRefusal → Refusal
-row_refused_as Adds r = refused_as r
-row_refused_as Deletes r = misplaced_as r
-
 -- Why a line is refused before its command is done, of a session with this batch open, or with none: it
 -- is outside the grammar; or its command is misplaced; or a literal is past its limit; or memory ran out
 -- while it was read.
-abbrev pub RefusedBy : Option (List HeldRow) → Reading → Refusal → Type 0
+abbrev pub RefusedBy : Option HeldTransaction → Reading → Refusal → Type 0
 RefusedBy batch outside r = r ≡ Syntax
 RefusedBy batch (past_limit c) r = r ≡ past_limit_refusal (is_misplaced batch c)
 RefusedBy batch (says_command c) r = ((is_misplaced batch c ≡ true) × (r ≡ Misplaced))
     ⊎ ((is_misplaced batch c ≡ false) × (takes_memory_to_read c ≡ true) × (r ≡ NoMemory))
 
--- What a line says in a batch, where these values are left of its row.
+-- the command by which a line of a batch inserts or deletes a row
+abbrev pub row_command : Verb → Bytes → Tuple → Command
+row_command Adds name row = Add name row
+row_command Deletes name row = Del name row
+
+-- What a line says in a batch, if these values are left of its row.
 abbrev pub ReadsInBatch : Bytes → BatchLine → Tuple → Type 0
-ReadsInBatch line (Hold name) row =
-    (reading_of line ≡ says_command (Add name.now row)) × (length name.now ≤ NAME_BYTES)
-ReadsInBatch line Done row = reading_of line ≡ says_command SayDone
+ReadsInBatch line (Hold verb name) row =
+    (reading_of line ≡ says_command (row_command verb name.now row)) × (length name.now ≤ NAME_BYTES)
+ReadsInBatch line (Done given) row = reading_of line ≡ says_command (SayDone given)
 ReadsInBatch line Abandon row = reading_of line ≡ says_command SayAbandon
 ReadsInBatch line Quit row = reading_of line ≡ says_command SayQuit
 ReadsInBatch line Stop row = reading_of line ≡ says_command SayStop
-ReadsInBatch line (Refused r) row = RefusedBy (Some []) (reading_of line) r
+ReadsInBatch line (Refused r) row = RefusedBy (Some nothing_held) (reading_of line) r
 
--- the row that a line says, to be held for a relation
-abbrev pub held_row_of : Bytes → Bytes → Tuple → HeldRow
-held_row_of line name row = record { line = line; relation = name; row = row }
+-- A batch holds a line after the others, or all is as before.
+abbrev pub HeldTo : Talk → Bytes → Verb → Bytes → Tuple → Result ⊤ Refusal → Talk → Type 0
+HeldTo before line verb name row (Ok _) after = after ≡ record before {
+  batch = Some (holding (held_in_batch before.batch) verb name row line);
+}
+HeldTo before line verb name row (Err r) after = after ≡ before
 
--- A row is made to be held behind so many; or it isn't, by the first condition that holds, or out of
--- memory.
-abbrev pub MakesRow : Store → ℕ → Bytes → Bytes → Tuple → Result HeldRow Refusal → Type 0
-MakesRow st count line name row made = (held : List HeldRow) → length held ≡ count
-    → Answers (hold_refusal st held name row) made (λ h. h ≡ held_row_of line name row) (OutOfMemoryWhere ⊤)
-
--- A row that was made is held behind the others, unless memory is wanting, and this is answered.
-abbrev pub HoldsMadeRow : Talk → Result HeldRow Refusal → Talk → Type 0
-HoldsMadeRow before (Ok row) after = let held = batch_rows before.batch ++ row ∷ [] in
-    Replies (record before { batch = Some held }) after (held_reply {A = ⊤} (Ok tt) (length held))
-    ⊎ Replies before after (refusal_line NoMemory)
-HoldsMadeRow before (Err r) after = Replies before after (refusal_line r)
+-- A line of a batch is held; or it isn't, by the first condition that holds, or out of memory.
+abbrev pub HoldsLine : Store → Talk → Bytes → Verb → Bytes → Tuple → Result ⊤ Refusal → Talk → Type 0
+HoldsLine st before line verb name row result after =
+    Answers (hold_refusal st (held_in_batch before.batch) line name row) result (λ _. ⊤) (OutOfMemoryWhere ⊤)
+    × HeldTo before line verb name row result after

@@ -20,7 +20,6 @@ use Rattle.std.specs.Prelude.{
   AllPairs,
   length,
   map,
-  if◌then◌else◌,
 }
 use Rattle.djq_model.specs.Data.{Bytes, Tuple}
 use Rattle.djq_protocol.specs.declared.limits.TheConstants.{PENDING_BYTES, REPLY_BYTES, LAST_LINE_BYTES}
@@ -31,19 +30,20 @@ use Rattle.djq_protocol.specs.declared.answer.DeleteOutcome.{DeleteOutcome}
 use Rattle.djq_protocol.specs.declared.answer.DeleteOutcome.TheVariants.{Last, Left, Absent}
 use Rattle.djq_protocol.specs.declared.command.Command.{Command}
 use Rattle.djq_protocol.specs.declared.command.Command.TheVariants.{Add, Del, Done as SayDone}
-use Rattle.djq_protocol.specs.declared.held.HeldRow.{HeldRow}
+use Rattle.djq_protocol.specs.declared.held.DoneRefusal.{DoneRefusal}
 use Rattle.djq_protocol.specs.Line.{a_line, front_of, is_blank}
 use Rattle.djq_protocol.specs.Grammar.{says_command, reading_of}
 use Rattle.djq_protocol.specs.Reply.{add_reply, delete_reply, done_reply}
 use Rattle.djq_machine.specs.Keeping.{is_done, is_removal}
-use Rattle.djq_store_spec.specs.Batch.{AddsBatch, batch_outcome}
+use Rattle.djq_store_spec.specs.Held.{HeldTransaction, log_lines}
+use Rattle.djq_store_spec.specs.Transaction.{DoesAll, lines_outcome}
 use Rattle.djq_store_spec.specs.Rows.{AddsRow, DeletesRow}
 use Rattle.djq_store_spec.specs.Changes.{RowsOutcome, row_in, row_out, add_outcome, delete_outcome, tried}
 use Rattle.djq_engine.specs.Kept.{Kept, Outdates, same_query}
 use Rattle.djq_store.specs.Watching.{TellsChange}
 use Rattle.djq_commands.specs.declared.change.Outcome.{Outcome}
 use Rattle.djq_commands.specs.declared.change.Outcome.TheVariants.{Added, Deleted, Done}
-use Rattle.djq_commands.specs.Logging.{line_where, batch_lines}
+use Rattle.djq_commands.specs.Logging.{line_where}
 use Rattle.djq_commands.specs.Views.{Talk}
 
 -- whether the change was accepted; a copy of a row that stays is none
@@ -63,7 +63,8 @@ is_accepted (Done (Err r) held) = false
 abbrev pub lines_logged : Outcome → Bytes → List Bytes
 lines_logged (Added result) line = line_where (is_done result) line
 lines_logged (Deleted result) line = line_where (is_removal result) line
-lines_logged (Done result held) line = if is_done result then batch_lines held else []
+lines_logged (Done (Ok count) held) line = log_lines held
+lines_logged (Done (Err r) held) line = []
 
 -- its reply, at a number of changes
 abbrev pub reply_of : Outcome → ℕ → Bytes
@@ -96,19 +97,19 @@ pub record Deletes (old : Kept) (name : Bytes) (row : Tuple) (outcome : Outcome)
     pub done : DeletesRow old.store name row result new.store
     pub changed : EngineChanged old (delete_outcome (row_out (old.store).relations name row) result) new was now
 
--- The rows that a batch held were to be added, at once.
-pub record AddsAll (old : Kept) (held : List HeldRow) (outcome : Outcome) (new : Kept) (was now : ℕ) : Type 0
-  where
-    pub result : Result ℕ Refusal
-    pub is : outcome ≡ Done result held
-    pub done : AddsBatch old.store held result new.store
-    pub changed : EngineChanged old (batch_outcome old.store held result) new was now
+-- The lines that a batch held were to be carried out, as one change.
+pub record CarriesOutAll (old : Kept) (held : HeldTransaction) (given : Option ℕ) (outcome : Outcome) (new : Kept)
+    (was now : ℕ) : Type 0 where
+  pub result : Result ℕ DoneRefusal
+  pub is : outcome ≡ Done result held
+  pub done : DoesAll old.store held.lines given result new.store
+  pub changed : EngineChanged old (lines_outcome (old.store).relations held.lines result) new was now
 
 -- What a command that may change rows comes to, of a session with this batch open, or with none.
-abbrev pub IsChange : Command → Option (List HeldRow) → Kept → Outcome → Kept → ℕ → ℕ → Type 0
+abbrev pub IsChange : Command → Option HeldTransaction → Kept → Outcome → Kept → ℕ → ℕ → Type 0
 IsChange (Add name row) None old outcome new was now = TriesToAdd old name row outcome new was now
 IsChange (Del name row) None old outcome new was now = Deletes old name row outcome new was now
-IsChange SayDone (Some held) old outcome new was now = AddsAll old held outcome new was now
+IsChange (SayDone given) (Some held) old outcome new was now = CarriesOutAll old held given outcome new was now
 IsChange _ _ old outcome new was now = ⊥
 
 -- A session's line was taken and its command done. What is left is to tell the change and to answer, for which there

@@ -1,17 +1,16 @@
 -- What a session's end does to the engine and to the session.
-use Rattle.std.specs.Prelude.{ℕ, [], ◌∷◌, ◌≡◌, true, Option, None, Some}
-use Rattle.djq_model.specs.Data.{Bytes}
+use Rattle.std.specs.Prelude.{ℕ, [], ◌≡◌, ◌++◌, true, None}
 use Rattle.djq_protocol.specs.declared.answer.EndCause.TheVariants.{Input}
 use Rattle.djq_protocol.specs.declared.answer.EndCause.TheVariants.{Memory}
-use Rattle.djq_protocol.specs.Reply.{input_cut, end_memory}
+use Rattle.djq_protocol.specs.Reply.{end_memory}
 use Rattle.djq_machine.specs.State.{State, with_session, ended_by}
-use Rattle.djq_machine.specs.Effect.{Effect}
+use Rattle.djq_machine.specs.Effect.{Effect, says_any, lost_line}
+use Rattle.djq_machine.specs.Step.{cut_line}
 use Rattle.djq_session.specs.Dialog.{DialogEndsWith}
 use Rattle.djq_engine.specs.declared.cursor.CursorId.{CursorId}
 use Rattle.djq_engine.specs.Kept.{Kept, held_at}
 use Rattle.djq_commands.specs.Views.{Talk}
 use Rattle.djq_commands.specs.Sound.{ids_of_cursors, is_cursor_among, IsApart, StaysCounted, without_watchers}
-use Rattle.djq_commands.specs.Performs.{to_one}
 
 -- The cursors of a session are gone, and nothing else.
 pub record GivesUpCursors (old : Kept) (before : Talk) (new : Kept) (after : Talk) : Type 0 where
@@ -45,11 +44,7 @@ pub record CutsOff (old : Kept) (before : Talk) (new : Kept) (after : Talk) : Ty
   pub gives_up : SessionGivesUp old before new (record before { cursors = []; watches = [] })
   pub ends : DialogEndsWith (record before { cursors = []; watches = [] }) after end_memory Memory
 
--- that bytes are held which no line end follows
-abbrev pub cut_text : Bytes → Option Bytes
-cut_text [] = None
-cut_text (b ∷ bs) = Some input_cut
-
--- A session ends with its input.
-abbrev pub EndsQuietly : Bytes → State → ℕ → Effect → State → Type 0
-EndsQuietly held old s e new = (e ≡ to_one s (cut_text held) 0) × (new ≡ with_session old s (ended_by Input))
+-- A session ends with its input: that bytes of a line are held is said, and that lines of a batch are.
+abbrev pub EndsQuietly : Talk → State → ℕ → Effect → State → Type 0
+EndsQuietly d old s e new = (e ≡ says_any s (cut_line d.held ++ lost_line d.batch))
+    × (new ≡ with_session old s (ended_by Input))

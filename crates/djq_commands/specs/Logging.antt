@@ -1,10 +1,10 @@
 -- The open commit: the lines that steps log, as they are stored until they are written.
-use Rattle.std.specs.Prelude.{ℕ, List, [], ◌∷◌, ◌++◌, ◌≡◌, ◌+◌, ◌<◌, ◌≤◌, ◌⊎◌, ◌^◌, Bool, true, false, map, length, codes}
+use Rattle.std.specs.Prelude.{ℕ, List, [], ◌∷◌, ◌≡◌, ◌+◌, ◌<◌, ◌≤◌, ◌⊎◌, ◌^◌, Bool, true, false, length}
 use Rattle.std.specs.Prelude.{slice_range, slice_index, ⊤}
 use Rattle.std.specs.List.{flat_map}
 use Rattle.djq_model.specs.Data.{Bytes}
 use Rattle.djq_protocol.specs.declared.limits.TheConstants.{LINE_BYTES}
-use Rattle.djq_protocol.specs.declared.held.HeldRow.{HeldRow}
+use Rattle.djq_store_spec.specs.Held.{log_lines}
 use Rattle.djq_commands.specs.declared.commit.Entry.{Entry}
 use Rattle.djq_commands.specs.declared.commit.Entry.TheVariants.{Line, Batch}
 
@@ -26,14 +26,10 @@ abbrev pub line_where : Bool → Bytes → List Bytes
 line_where true line = line ∷ []
 line_where false line = []
 
--- the lines of a batch, as they are logged
-abbrev pub batch_lines : List HeldRow → List Bytes
-batch_lines held = codes "batch" ∷ map (λ h. h.line) held ++ codes "done" ∷ []
-
 -- the lines of an entry: one, which stands in the buffer, or those of a batch
 abbrev pub entry_lines : Bytes → Entry → List Bytes
 entry_lines bytes (Line start end) = slice_range bytes start end ∷ []
-entry_lines bytes (Batch held) = batch_lines held
+entry_lines bytes (Batch held) = log_lines held
 
 -- the lines of entries
 abbrev pub lines_of_entries : Bytes → List Entry → List Bytes
@@ -42,7 +38,7 @@ lines_of_entries bytes entries = flat_map (λ e. entry_lines bytes e) entries
 -- how many lines an entry has
 abbrev pub entry_count : Entry → ℕ
 entry_count (Line start end) = 1
-entry_count (Batch held) = length held + 2
+entry_count (Batch held) = length held.logged + 2
 
 -- of each entry the number of its first line, the first one's being this
 abbrev pub firsts_from : ℕ → List Entry → List ℕ

@@ -6,13 +6,13 @@ use Rattle.djq_model.specs.Data.{Bytes, bytes_eq}
 use Rattle.djq_model.specs.Answer.{AreDifferent}
 use Rattle.djq_model.specs.Listed.{listed_name}
 use Rattle.djq_protocol.specs.declared.answer.EndCause.{EndCause}
-use Rattle.djq_protocol.specs.declared.limits.TheConstants.{SESSIONS, REPLY_BYTES, LAST_LINE_BYTES, HELD}
-use Rattle.djq_protocol.specs.declared.held.HeldRow.{HeldRow}
+use Rattle.djq_protocol.specs.declared.limits.TheConstants.{SESSIONS, REPLY_BYTES, LAST_LINE_BYTES}
 use Rattle.djq_session.specs.declared.named.NamedCursor.{NamedCursor}
 use Rattle.djq_engine.specs.declared.cursor.CursorId.{CursorId}
 use Rattle.djq_engine.specs.Kept.{Kept, HeldCursor, Registered, held_at, same_id, registered_of}
 use Rattle.djq_store_spec.specs.Store.{Store, Position, open_at, stale}
-use Rattle.djq_store_spec.specs.Batch.{SuitAll}
+use Rattle.djq_store_spec.specs.Held.{HeldTransaction}
+use Rattle.djq_store_spec.specs.Transaction.{SuitAll}
 use Rattle.djq_commands.specs.declared.open.OpenSession.{OpenSession}
 use Rattle.djq_commands.specs.Views.{Talk}
 
@@ -156,16 +156,16 @@ pub record CommandIsReady (k : Kept) (d : Talk) : Type 0 where
   pub running : d.cause ≡ None
   pub room : REPLY_BYTES + LAST_LINE_BYTES ≤ d.room
 
--- What a batch holds is at most so much, and each row suits its relation.
-abbrev pub BatchSuits : Store → Option (List HeldRow) → Type 0
+-- The row of each line that a batch holds suits its relation.
+abbrev pub BatchSuits : Store → Option HeldTransaction → Type 0
 BatchSuits st None = ⊤
-BatchSuits st (Some held) = (length held ≤ HELD) × SuitAll st held
+BatchSuits st (Some held) = SuitAll st held.lines
 
--- Each of these batches, where it is open, holds few rows enough, which suit their relations.
-abbrev pub BatchesSuit : Store → List (Option (List HeldRow)) → Type 0
+-- Each of these batches, if it is open, holds lines whose rows suit their relations.
+abbrev pub BatchesSuit : Store → List (Option HeldTransaction) → Type 0
 BatchesSuit st [] = ⊤
 BatchesSuit st (b ∷ bs) = BatchSuits st b × BatchesSuit st bs
 
 -- the batches of the sessions, behind that of the loaded lines
-abbrev pub batches_of : Option (List HeldRow) → List OpenSession → List (Option (List HeldRow))
+abbrev pub batches_of : Option HeldTransaction → List OpenSession → List (Option HeldTransaction)
 batches_of loading xs = loading ∷ map (λ (x : OpenSession). (x.session).batch) xs

@@ -1,7 +1,7 @@
 -- What the join machine sees of what the core keeps.
 use Rattle.std.specs.Prelude.{ℕ, List, [], Bool, Option, None, Some, map}
 use Rattle.djq_model.specs.Data.{Bytes}
-use Rattle.djq_protocol.specs.declared.held.HeldRow.{HeldRow}
+use Rattle.djq_store_spec.specs.Held.{HeldTransaction}
 use Rattle.djq_session.specs.declared.named.NamedCursor.{NamedCursor}
 use Rattle.djq_session.specs.Dialog.{Dialog}
 use Rattle.djq_engine.specs.declared.cursor.CursorId.{CursorId}
@@ -52,18 +52,18 @@ abbrev pub state_in : Kept → Bool → List OpenSession → State
 state_in k stopped xs = record { store = k.store; stopped = stopped; sessions = map (session_seen k.cursors) xs }
 
 -- What contracts see of the core: the state of the join machine, the lines of the open commit, whether there is
--- room for what one step more logs, and the rows that the batch of the loaded lines holds, where one is open.
+-- room for what one step more logs, and what the batch of the loaded lines holds, if one is open.
 pub record Visible : Type 0 where
   pub state : State
   pub commit : List Bytes
   pub room : Bool
-  pub batch : Option (List HeldRow)
+  pub batch : Option HeldTransaction
 
 -- where the loading of lines has come to
 abbrev pub loading_in : Visible → Loading
 loading_in c = record { store = (c.state).store; batch = c.batch }
 
 -- a core with this engine, these sessions, this open commit, and the batch of the loaded lines
-abbrev pub seen_in : Kept → Bool → List OpenSession → OpenCommit → Option (List HeldRow) → Visible
+abbrev pub seen_in : Kept → Bool → List OpenSession → OpenCommit → Option HeldTransaction → Visible
 seen_in k stopped xs commit batch =
     record { state = state_in k stopped xs; commit = commit.lines; room = commit.room; batch = batch }

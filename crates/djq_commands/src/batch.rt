@@ -1,27 +1,26 @@
-//! A session's batch: its rows are held, and are inserted at once when it is done.
+//! A session's batch: its lines are held, and are carried out as one change when it is done.
 ghost use Rattle.std.specs.Prelude.{◌≡◌, ◌+◌, ◌≤◌, None, IsSome, false, length, take, drop};
 ghost use Rattle.djq_protocol.specs.Line.{a_line, front_of, is_blank as is_blank_line};
 ghost use Rattle.djq_protocol.specs.declared.command.Command.TheVariants.{Batch};
 ghost use Rattle.djq_protocol.specs.declared.limits.TheConstants.{PENDING_BYTES, REPLY_BYTES, LAST_LINE_BYTES};
-ghost use Rattle.djq_session.specs.Dialog.{batch_rows};
-ghost use Rattle.djq_commands.specs.Batching.{HoldsMadeRow};
-ghost use Rattle.djq_commands.specs.Changing.{AddsAll};
+ghost use Rattle.djq_session.specs.Dialog.{held_in_batch};
+ghost use Rattle.djq_commands.specs.Batching.{HoldsLine};
+ghost use Rattle.djq_commands.specs.Changing.{CarriesOutAll};
 ghost use Rattle.djq_commands.specs.Performs.{Executes};
 ghost use Rattle.djq_commands.specs.Sound.{BatchSuits, CommandIsReady};
 ghost use Rattle.djq_commands.specs.Stepping.{LineLeaves};
 
 use crate::change::{Left, Outcome};
 use crate::commands::{run_quit, run_stop};
-use crate::held::new_row;
 use crate::reading::{BatchLine, read_in_batch};
 use djq_counters::{Ledgers, Steps};
 use djq_model::{Name, Value};
-use djq_protocol::{HeldRow, Refusal};
+use djq_protocol::{Refusal, Verb};
 use djq_session::Session;
 use djq_store::{CursorId, Store};
 use std::alloc::Global;
 
-/// `batch`: rows that are added are held from now on.
+/// `batch`: lines that insert and delete rows are held from now on.
 pub(crate) fn run_batch(engine: &Store, session: &mut Session<CursorId, Name>)
     requires { CommandIsReady engine.now session.old }
     ensures { Executes Batch false engine.now session.old engine.now session.new 0 0 }
@@ -53,17 +52,16 @@ pub(crate) fn run_in_batch<L: Ledgers>(
         engine.old session.old engine.new session.new steps.old.listing steps.new.listing }
 {
     match read_in_batch(alloc, &session.held()[..end], row) {
-        BatchLine::Hold(name) => {
+        BatchLine::Hold(verb, name) => {
             let name = Name::new(name);
-            let line = &session.held()[..end];
-            let made = new_row(alloc, engine, session.rows_held(), line, &name, row);
+            let outcome = hold(engine, session, verb, &name, row.as_slice(), end);
             session.take_line(rest);
-            hold(session, made);
+            session.answer_held(outcome, session.lines_held());
             Left::Nothing { logged: false }
         }
-        BatchLine::Done => {
+        BatchLine::Done(given) => {
             session.take_line(rest);
-            Left::Telling(run_done(engine, session, steps))
+            Left::Telling(run_done(engine, session, given, steps))
         }
         BatchLine::Abandon => {
             session.take_line(rest);
@@ -89,38 +87,52 @@ pub(crate) fn run_in_batch<L: Ledgers>(
     }
 }
 
-/// A row that was made is held, unless there is no memory for it, and the outcome is answered.
-fn hold(session: &mut Session<CursorId, Name>, made: Result<HeldRow, Refusal>)
+/// The line in front of a session is held after the others of its batch.
+///
+/// # Errors
+///
+/// Why it isn't held: its row doesn't suit a relation, or the batch has no room for it; or out of memory.
+fn hold(
+    engine: &Store,
+    session: &mut Session<CursorId, Name>,
+    verb: Verb,
+    name: &Name,
+    row: &[Value],
+    end: usize,
+) -> Result<(), Refusal>
     requires open { IsSome session.old.batch }
-    requires room { REPLY_BYTES + LAST_LINE_BYTES ≤ session.old.room }
-    ensures { HoldsMadeRow session.old made session.new }
+    requires within { end ≤ length session.old.held }
+    ensures { HoldsLine engine.now.store session.old (take end session.old.held) verb name.now row.now result
+        session.new }
 {
-    let outcome = match made {
-        Ok(row) => match session.hold(row) {
-            Ok(()) => Ok(()),
-            Err(_) => Err(Refusal::NoMemory),
-        },
-        Err(refusal) => Err(refusal),
-    };
-    session.answer_held(outcome, session.rows_held());
+    engine.held_ok(name, row)?;
+    if !session.may_hold(end) {
+        return Err(Refusal::Limit);
+    }
+    match session.hold(verb, *name, row, end) {
+        Ok(()) => Ok(()),
+        Err(_) => Err(Refusal::NoMemory),
+    }
 }
 
-/// `done`: the batch is closed, and its rows are inserted at once. What is left is to publish it and to answer.
+/// `done`: the batch is closed, and its lines are carried out as one change. What is left is to publish it and to
+/// answer.
 fn run_done<L: Ledgers>(
     engine: &mut Store,
     session: &mut Session<CursorId, Name>,
+    given: Option<u32>,
     steps: &mut Steps<L>,
 ) -> Outcome
     requires open { IsSome session.old.batch }
     requires suits { BatchSuits engine.old.store session.old.batch }
-    ensures adds { AddsAll engine.old (batch_rows session.old.batch) result engine.new
+    ensures carries_out { CarriesOutAll engine.old (held_in_batch session.old.batch) given result engine.new
         steps.old.listing steps.new.listing }
     ensures closed { session.new ≡ record session.old { batch = None } }
 {
     engine.laws();
     match session.take_batch() {
         Some(held) => {
-            let result = engine.done(held.as_slice(), steps);
+            let result = engine.done(&held, given, steps);
             Outcome::Done(result, held)
         }
         None => unreachable!(),

@@ -1,8 +1,8 @@
 ghost use Rattle.std.specs.Prelude.{◌≡◌};
 ghost use Rattle.djq_machine.specs.Keeping.{is_removal};
 
-use djq_model::Sequence;
-use djq_protocol::{AddOutcome, DeleteOutcome, HeldRow, Refusal};
+use djq_protocol::{AddOutcome, DeleteOutcome, DoneRefusal, Refusal};
+use djq_transaction::Transaction;
 
 /// The outcome of a command that may change rows.
 #[derive(Drop)]
@@ -11,8 +11,8 @@ pub enum Outcome {
     Added(Result<AddOutcome, Refusal>),
     /// Of `del`.
     Deleted(Result<DeleteOutcome, Refusal>),
-    /// Of `done`, with the rows that the batch held.
-    Done(Result<usize, Refusal>, Sequence<HeldRow>),
+    /// Of `done`, with the lines that the batch held.
+    Done(Result<usize, DoneRefusal>, Transaction),
 }
 
 /// Whether a copy of a row was deleted.

@@ -2,15 +2,16 @@ ghost use Rattle.std.specs.Prelude.{◌≡◌, ◌≤◌, ◌<◌, ◌+◌, ◌^
 ghost use Rattle.std.specs.Prelude.{vec_len, vec_capacity};
 ghost use Rattle.std.specs.Option.{option_copied};
 ghost use Rattle.djq_protocol.specs.declared.limits.TheConstants.{LINE_BYTES};
-ghost use Rattle.djq_commands.specs.Logging.{EndsAreWithin, HasRoom, IsPlace, batch_lines, entry_lines, line_where};
+ghost use Rattle.djq_commands.specs.Logging.{EndsAreWithin, HasRoom, IsPlace, entry_lines, line_where};
+ghost use Rattle.djq_store_spec.specs.Held.{log_lines};
 ghost use Rattle.djq_commands.specs.Changing.{lines_logged};
 ghost use Rattle.djq_commands.specs.Sound.{Rises};
 
 use crate::change::{Outcome, is_removal};
 use bytes::BytesMut;
-use djq_model::{NoMem, Sequence};
-use djq_protocol::HeldRow;
+use djq_model::NoMem;
 use djq_protocol::limits::LINE_BYTES;
+use djq_transaction::Transaction;
 use std::alloc::Global;
 use std::marker::Model;
 
@@ -19,6 +20,9 @@ const COMMIT_BYTES: usize = 1_048_576;
 
 /// And where more bytes than these were queued for one session since it began.
 const QUEUED_BYTES: u64 = 65_536;
+
+/// The bytes of `batch` and of `done`.
+const BATCH_BYTES: usize = 9;
 
 /// A number of lines that no commit reaches, by their bytes.
 const MOST_LINES: u128 = 1 << 64;
@@ -39,8 +43,8 @@ pub enum Entry {
         /// Where it ends.
         end: usize,
     },
-    /// A batch, by the rows that it held: their lines aren't copied.
-    Batch(Sequence<HeldRow>),
+    /// A batch, by what it held: its lines aren't copied.
+    Batch(Transaction),
 }
 
 /// The open commit: the lines that steps logged since it was last cleared. Contracts see their list, the line
@@ -49,7 +53,7 @@ pub enum Entry {
 /// ```text
 /// bytes     add r 1 10 add r 1 11 add r 2 5      two lines that were logged, and the copy of a third
 /// end       20
-/// entries   0..10    10..20    a batch of 3 rows
+/// entries   0..10    10..20    a batch of 3 lines
 /// firsts    0        1         2
 /// lines     7                                    those of the batch with `batch` and `done`
 /// ```
@@ -149,14 +153,16 @@ impl Commit {
         }
     }
 
-    /// Appends a batch that was done, by the rows that it held: `batch`, their lines, and `done`. It takes no
-    /// memory.
-    fn log_batch(&mut self, held: Sequence<HeldRow>)
+    /// Appends a batch that was done, by what it held: `batch`, its lines, and `done`. It takes no memory.
+    fn log_batch(&mut self, held: Transaction)
         requires room { HasRoom self.old }
-        ensures { self.new.lines ≡ self.old.lines ++ batch_lines held }
+        ensures { self.new.lines ≡ self.old.lines ++ log_lines held }
     {
         let rows = held.len();
-        self.size = self.size.saturating_add(size_of_batch(held.as_slice()));
+        self.size = self
+            .size
+            .saturating_add(held.bytes())
+            .saturating_add(BATCH_BYTES);
         self.firsts.push_reserved(self.lines);
         self.entries.push_reserved(Entry::Batch(held));
         self.lines += rows as u128 + 2;
@@ -291,17 +297,8 @@ fn line_of<'a>(entry: &'a Entry, bytes: &'a [u8], nth: usize) -> Option<&'a [u8]
                 None
             }
         }
-        Entry::Batch(rows) => line_of_batch(rows.as_slice(), nth),
+        Entry::Batch(held) => held.line(nth),
     }
-}
-
-/// How many bytes the lines of a batch have, at most as many as a number can say.
-fn size_of_batch(rows: &[HeldRow]) -> usize {
-    let mut size: usize = 9;
-    for row in rows {
-        size = size.saturating_add(row.line.len());
-    }
-    size
 }
 
 /// Which entry has the line with this number, if one does, by the numbers of their first lines: the last one of
@@ -320,24 +317,5 @@ fn place_of(firsts: &[u128], i: u128) -> usize
     match firsts.binary_search(&i) {
         Ok(at) => at,
         Err(at) => at.saturating_sub(1),
-    }
-}
-
-/// The line with this number of a batch: `batch`, the lines of its rows, and `done`.
-fn line_of_batch(rows: &[HeldRow], i: usize) -> Option<&[u8]>
-    ensures { option_copied result ≡ slice_get (batch_lines rows.now) i }
-{
-    if i == 0 {
-        return Some(b"batch");
-    }
-    match rows.get(i - 1) {
-        Some(row) => Some(row.line.as_slice()),
-        None => {
-            if i == rows.len() + 1 {
-                Some(b"done")
-            } else {
-                None
-            }
-        }
     }
 }

@@ -80,15 +80,11 @@ pub fn end_by(
 pub fn end_input(engine: &mut Store, session: &mut Session<CursorId, Name>)
     requires own { IsOwn engine.old session.old }
     requires running { session.old.cause ≡ None }
-    ensures performs { Performs (λ st s x e st'. EndsQuietly session.old.held st s e st') false
+    ensures performs { Performs (λ st s x e st'. EndsQuietly session.old st s e st') false
         engine.old session.old engine.new session.new 0 0 }
     ensures told { KeepsTold engine.old engine.new }
     ensures closed { session.new.batch ≡ None }
 {
     give_up(engine, session);
-    if session.held().is_empty() {
-        session.end(EndCause::Input);
-    } else {
-        session.end_cut();
-    }
+    session.end_input();
 }

@@ -19,9 +19,8 @@
 //!
 //! Inside: `line` has the order of checks and the dispatch; `commands`, `watch`, `listing` and `ending`
 //! what commands do, `next` line by line, and a session's end. While a session has a batch open,
-//! `reading` has what its line means to the batch, `held` makes the rows that are held, and `batch` runs
-//! it. `commit` has the lines that steps log until they are written, and `queued` counts what is queued for one
-//! session meanwhile.
+//! `reading` has what its line means to the batch, and `batch` holds or runs it. `commit` has the lines that steps
+//! log until they are written, and `queued` counts what is queued for one session meanwhile.
 #![tactic(auto)]
 
 mod batch;
@@ -29,7 +28,6 @@ mod change;
 mod commands;
 mod commit;
 mod ending;
-mod held;
 mod line;
 mod listing;
 mod open;
@@ -41,7 +39,6 @@ pub use change::{Left, Outcome, is_removal};
 pub use commands::is_registered;
 pub use commit::{Commit, Entry};
 pub use ending::{cut_off, end_by, end_input, give_up};
-pub use held::new_row;
 pub use line::step_session;
 pub use open::OpenSession;
 pub use queued::Queued;

@@ -98,7 +98,7 @@ fn run_command<L: Ledgers>(
             run_batch(engine, session);
             Left::Nothing { logged: false }
         }
-        Command::Done | Command::Abandon => unreachable!(),
+        Command::Done { .. } | Command::Abandon => unreachable!(),
         Command::Quit => {
             run_quit(engine, session);
             Left::Nothing { logged: false }
@@ -199,7 +199,7 @@ fn run_other<L: Ledgers>(
 fn is_for_batch(command: &Command) -> bool
     ensures { result ≡ is_misplaced {A = ⊤} None command.now }
 {
-    matches!(command, Command::Done | Command::Abandon)
+    matches!(command, Command::Done { .. } | Command::Abandon)
 }
 
 /// Runs the line in front of a session that hasn't ended, in the order of checks, and returns what is left to do.

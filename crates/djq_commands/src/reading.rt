@@ -3,21 +3,21 @@ ghost use Rattle.std.specs.Prelude.{◌≡◌, false};
 ghost use Rattle.djq_model.specs.Data.{Tuple};
 ghost use Rattle.djq_parser.specs.RowReading.{begins_row};
 ghost use Rattle.djq_value.specs.Token.{tokens};
-ghost use Rattle.djq_commands.specs.Batching.{ReadsInBatch, in_batch, misplaced_as, row_refused_as};
+ghost use Rattle.djq_commands.specs.Batching.{ReadsInBatch, in_batch, misplaced_as};
 ghost use Rattle.djq_commands.specs.Stepping.{refused_as};
 
 use djq_model::Value;
-use djq_parser::{LineRefusal, RowLine, RowWord, read_command, read_row};
-use djq_protocol::{Command, Refusal};
+use djq_parser::{LineRefusal, RowLine, read_command, read_row};
+use djq_protocol::{Command, Refusal, Verb};
 use std::alloc::Global;
 
 /// What a line means while a batch is open. A name is bytes of the line.
 #[derive(Clone, Copy, Debug)]
 pub enum BatchLine<'a> {
-    /// The row that was read is to be held for the relation of this name.
-    Hold(&'a [u8]),
-    /// The batch is done.
-    Done,
+    /// The row that was read is to be inserted into the relation of this name, or to be deleted from it.
+    Hold(Verb, &'a [u8]),
+    /// The batch is done, with the number of lines that the line names.
+    Done(Option<u32>),
     /// It is dropped.
     Abandon,
     /// The session ends.
@@ -33,9 +33,9 @@ pub fn read_in_batch<'a>(alloc: Global, line: &'a [u8], row: &mut Vec<Value>) ->
     ensures { ReadsInBatch line.now result row.new.items }
 {
     match read_row(alloc, line, row) {
-        RowLine::Add(name) => BatchLine::Hold(name),
-        RowLine::Del(_name) => BatchLine::Refused(Refusal::Misplaced),
-        RowLine::Refused(verb, refusal) => BatchLine::Refused(row_refusal_of(verb, refusal)),
+        RowLine::Add(name) => BatchLine::Hold(Verb::Add, name),
+        RowLine::Del(name) => BatchLine::Hold(Verb::Delete, name),
+        RowLine::Refused(_verb, refusal) => BatchLine::Refused(refusal_of(refusal)),
         RowLine::Other => read_other(alloc, line),
     }
 }
@@ -56,21 +56,11 @@ fn line_of<'a>(command: &Command) -> BatchLine<'a>
     ensures { result ≡ in_batch command.now }
 {
     match command {
-        Command::Done => BatchLine::Done,
+        Command::Done { count } => BatchLine::Done(*count),
         Command::Abandon => BatchLine::Abandon,
         Command::Quit => BatchLine::Quit,
         Command::Stop => BatchLine::Stop,
         _ => BatchLine::Refused(Refusal::Misplaced),
-    }
-}
-
-/// The refusal that answers, in a batch, a line of a row that gives no row.
-fn row_refusal_of(verb: RowWord, refusal: LineRefusal) -> Refusal
-    ensures { result ≡ row_refused_as verb refusal }
-{
-    match verb {
-        RowWord::Add => refusal_of(refusal),
-        RowWord::Del => misplaced_of(refusal),
     }
 }
 

@@ -1,21 +1,19 @@
 -- The rows that batches hold suit their relations, whatever a step does.
-use Rattle.std.proofs.Common.{ℕ, zero, suc, ◌≡◌, ◌+◌, ◌++◌, ◌⊎◌, Bool, true, false, not, List, [], ◌∷◌, length, map}
+use Rattle.std.proofs.Common.{ℕ, ◌≡◌, ◌+◌, ◌++◌, ◌⊎◌, Bool, true, false, not, List, [], ◌∷◌, length, map}
 use Rattle.std.proofs.Common.{find, cond, Option, None, Some, option_map, Result, Ok, Err, refl, sym, ap, ◌∙◌, subst}
-use Rattle.std.proofs.Common.{arith, inl, inr, eqb, length-append}
-use Rattle.std.specs.Prelude.{⊤, IsSome, IsSomeAnd, MatchOption, is_none, is_some, ◌==◌, nat_le}
+use Rattle.std.proofs.Common.{inl, inr, eqb}
+use Rattle.std.specs.Prelude.{⊤, fold, IsSome, IsSomeAnd, MatchOption, is_none, is_some, ◌==◌}
 use Rattle.std.specs.List.{list_any}
-use Rattle.std.proofs.lemmas.Bool.{leb-false}
 use Rattle.std.proofs.lemmas.List.Elements.{All-append, All-cons, All-nil}
 use Rattle.djq_model.specs.declared.relation.ColumnType.{ColumnType}
 use Rattle.djq_model.specs.declared.relation.CountedRow.{CountedRow}
 use Rattle.djq_model.specs.declared.relation.Relation.{Relation}
 use Rattle.djq_model.specs.declared.query.Query.{Query}
 use Rattle.djq_model.specs.Data.{Bytes, Tuple, bytes_eq, change_first, drop_first, relation_of, counted_of, has_row}
-use Rattle.djq_model.specs.Data.{rows_of, with_row}
-use Rattle.djq_model.specs.Known.{texts_in, all_learned}
+use Rattle.djq_model.specs.Data.{rows_of}
+use Rattle.djq_model.specs.Known.{texts_in}
 use Rattle.djq_model.specs.Listed.{Listed, a_query, a_union, listed_name, listed_of}
 use Rattle.djq_model.specs.Typed.{fits}
-use Rattle.djq_protocol.specs.declared.limits.TheConstants.{HELD}
 use Rattle.djq_protocol.specs.declared.answer.EndCause.{EndCause}
 use Rattle.djq_protocol.specs.declared.answer.EndCause.TheVariants.{Quit as SaidQuit, Stop as SaidStop, Long, Slow}
 use Rattle.djq_protocol.specs.declared.answer.EndCause.TheVariants.{Memory}
@@ -32,7 +30,9 @@ use Rattle.djq_protocol.specs.declared.command.Command.TheVariants.{Next, Close,
 use Rattle.djq_protocol.specs.declared.command.Command.TheVariants.{Batch, Done, Abandon, Quit, Stop}
 use Rattle.djq_protocol.specs.declared.rest.QueryOutcome.{QueryOutcome}
 use Rattle.djq_protocol.specs.declared.rest.QueryOutcome.TheVariants.{Registered, Cyclic, NotConnex}
-use Rattle.djq_protocol.specs.declared.held.HeldRow.{HeldRow}
+use Rattle.djq_protocol.specs.declared.held.Verb.{Verb}
+use Rattle.djq_protocol.specs.declared.held.Verb.TheVariants.{Add as Adds, Delete as Deletes}
+use Rattle.djq_protocol.specs.declared.held.DoneRefusal.{DoneRefusal}
 use Rattle.djq_protocol.specs.Columns.{types_of}
 use Rattle.djq_protocol.specs.Conditions.{first_refusal, Answers, OutOfMemoryWhere}
 use Rattle.djq_protocol.specs.Grammar.{Reading, outside, past_limit, says_command, reading_of}
@@ -45,22 +45,23 @@ use Rattle.djq_store_spec.specs.Union.{union_refusal, AreUnder, RegistersUnion}
 use Rattle.djq_store_spec.specs.Registering.{answer_steps, query_refusal, drop_refusal, RegistersAs, RefusedLate}
 use Rattle.djq_store_spec.specs.Registering.{RegistersQuery, DropsQuery}
 use Rattle.djq_store_spec.specs.Relations.{with_rows, rel_refusal, MakesRelation, RefusedByTexts}
-use Rattle.djq_store_spec.specs.Rows.{with_copies_of, copies_of, add_refusal, delete_refusal, AddsAs, AddsRow}
+use Rattle.djq_store_spec.specs.Rows.{add_refusal, delete_refusal, AddsAs, AddsRow}
 use Rattle.djq_store_spec.specs.Rows.{DeletesAs, DeletesRow}
-use Rattle.djq_store_spec.specs.Batch.{suit_refusal, hold_refusal, SuitAll, is_there, with_held, with_all, count_came}
-use Rattle.djq_store_spec.specs.Batch.{AddsBatch}
+use Rattle.djq_store_spec.specs.Held.{HeldLine, HeldTransaction, nothing_held, holding, has_room}
+use Rattle.djq_store_spec.specs.Lines.{with_copies_left, with_so_many, copies_after, first_lines}
+use Rattle.djq_store_spec.specs.Transaction.{suit_refusal, hold_refusal, SuitAll, DoesAll}
 use Rattle.djq_machine.specs.State.{Cursor, Session, State, session_of, with_session, cursor_of, ended_by, state_ids}
 use Rattle.djq_machine.specs.Outdating.{outdated_sessions, changed}
 use Rattle.djq_machine.specs.Effect.{Effect, queue, queue_all, RefusedStep}
 use Rattle.djq_machine.specs.Walk.{Walk}
 use Rattle.djq_machine.specs.Watch.{Telling, says_more, ends_more, watcher_of, TellsWatcher, TellsSession, TellsDelta}
 use Rattle.djq_machine.specs.Watch.{RepliesLast, ChangeStep}
-use Rattle.djq_machine.specs.Command.{uses, AddStep, NextStepAt, CloseStep, OpensTo, with_cursor, BecomesWhere}
+use Rattle.djq_machine.specs.Command.{uses, AddStep, DeleteStep, NextStepAt, CloseStep, OpensTo}
+use Rattle.djq_machine.specs.Command.{with_cursor, BecomesWhere}
 use Rattle.djq_machine.specs.Command.{with_watch, without_watch, TellsLines, explain_lines, union_lines, ExplainStepOf}
 use Rattle.djq_machine.specs.Command.{with_batch, without_batch, HoldStep, DoneStep, is_misplaced, CommandStep}
 use Rattle.djq_machine.specs.LineStep.{LineOutcome, long, blank, slow, no_room, run, behind_line, FrontStep, ReadStep}
 use Rattle.djq_machine.specs.Step.{SameRelations, Step, stepped, with_relations}
-use Rattle.djq_engine.proofs.HeldRows.{refusal_by}
 use Rattle.djq_commands.specs.Sound.{BatchSuits, BatchesSuit}
 use Rattle.djq_commands.proofs.ReadLines.{CarriedOut}
 
@@ -152,10 +153,14 @@ types_reordered (r ∷ rs) [] h name there = absurd h
 
 -- ---- so a row that suits its relation still does
 
+-- why a row doesn't suit a relation, if one is there
+abbrev suit_by : Option Relation → Tuple → Option Refusal
+suit_by o row = first_refusal ((is_none o, NoRelation) ∷ (not (length row == length (types_of o)), Arity) ∷
+    (not (fits (types_of o) row), WrongType) ∷ [])
+
 suits_by : (o p : Option Relation) (row : Tuple)
     → (IsSome o → option_map (λ (r : Relation). r.types) p ≡ option_map (λ (r : Relation). r.types) o)
-    → refusal_by o row ≡ None → refusal_by p row ≡ None
-unfolding refusal_by
+    → suit_by o row ≡ None → suit_by p row ≡ None
 suits_by None p row f h = absurd (cc (h))
 suits_by (Some r) None row f h = absurd (cc (f refl))
 suits_by (Some r) (Some q) row f h =
@@ -165,11 +170,10 @@ suits_by (Some r) (Some q) row f h =
 
 pub suits_still : (old new : Store) (name : Bytes) (row : Tuple) → KeepTypes old.relations new.relations
     → suit_refusal old name row ≡ None → suit_refusal new name row ≡ None
-unfolding refusal_by
 suits_still old new name row keep h = suits_by (relation_of old.relations name) (relation_of new.relations name) row
     (keep name) h
 
-pub suit_all_still : (old new : Store) (held : List HeldRow) → KeepTypes old.relations new.relations → SuitAll old held
+pub suit_all_still : (old new : Store) (held : List HeldLine) → KeepTypes old.relations new.relations → SuitAll old held
     → SuitAll new held
 suit_all_still old new held keep h k d lt = suits_still old new _ _ keep (h k d lt)
 
@@ -278,57 +282,35 @@ drop_keeps old new used name (Ok d) h = by (drop_refusal old used name) h.answer
     by (Some e) a = absurd a
     by None a = same_types old new (ap (λ (s : Store). s.relations) a)
 
-held_keeps : (st : Store) (h : HeldRow) → KeepTypes st.relations (with_held st h).relations
-held_keeps st h = by (is_there st h)
-  where
-    by : (b : Bool)
-        → KeepTypes st.relations
-        (cond b (record st {
-          relations = with_copies_of st.relations h.relation h.row
-              (copies_of st h.relation h.row + 1);
-        })
-        (record st {
-          relations = with_rows st.relations h.relation
-              (with_row (counted_of st.relations h.relation) h.row);
-          texts = all_learned st.texts (texts_in h.row);
-        })).relations
-    by true = types_with_rows st.relations h.relation _
-    by false = types_with_rows st.relations h.relation _
+-- with the copies that held lines leave
+left_keep : (base : List Relation) (lines : List HeldLine) (now : List Relation) (hs : List HeldLine)
+    → KeepTypes now (fold (with_copies_left base lines) now hs)
+left_keep base lines now [] = types_stay now
+left_keep base lines now (h ∷ hs) =
+    let next = with_copies_left base lines now h in
+    types_stay_on now next (fold (with_copies_left base lines) next hs)
+    (types_with_rows now h.relation (with_so_many (counted_of now h.relation) h.row (copies_after base lines h)))
+    (left_keep base lines next hs)
 
-all_keep : (st : Store) (held : List HeldRow) → KeepTypes st.relations (with_all st held).relations
-all_keep st [] = types_stay st.relations
-all_keep st (h ∷ hs) = types_stay_on st.relations (with_held st h).relations (with_all (with_held st h) hs).relations
-    (held_keeps st h) (all_keep (with_held st h) hs)
-
--- the store behind a batch, by how many rows came
-abbrev behind : Store → Store → ℕ → Store
-behind st after zero = after
-behind st after (suc n) = record after { seq = st.seq + 1 }
-
-behind_is : (st after : Store) (n : ℕ) → (behind st after n).relations ≡ after.relations
-behind_is st after zero = refl
-behind_is st after (suc n) = refl
-
-pub batch_keeps : (old new : Store) (held : List HeldRow) (r : Result ℕ Refusal) → AddsBatch old held r new
-    → KeepTypes old.relations new.relations
-batch_keeps old new held (Ok n) h =
-    subst (λ (rs : List Relation). KeepTypes old.relations rs)
-    (sym (ap (λ (s : Store). s.relations) h.2 ∙ behind_is old (with_all old held) (count_came old held)))
-    (all_keep old held)
-batch_keeps old new held (Err e) h = same_types old new (ap (λ (s : Store). s.relations) h.stays)
+pub done_keeps : (old new : Store) (lines : List HeldLine) (given : Option ℕ) (r : Result ℕ DoneRefusal)
+    → DoesAll old lines given r new → KeepTypes old.relations new.relations
+done_keeps old new lines given (Ok n) h =
+    subst (λ (rs : List Relation). KeepTypes old.relations rs) (sym (ap (λ (s : Store). s.relations) h.does.1))
+    (left_keep old.relations lines old.relations (first_lines lines))
+done_keeps old new lines given (Err e) h = same_types old new (ap (λ (s : Store). s.relations) h.does.1)
 
 -- ---- what sessions hold
 
 -- what all of them hold
-abbrev pub batches : List Session → List (Option (List HeldRow))
+abbrev pub batches : List Session → List (Option HeldTransaction)
 batches xs = map (λ (x : Session). x.batch) xs
 
-pub batch_still : (old new : Store) (b : Option (List HeldRow)) → KeepTypes old.relations new.relations
+pub batch_still : (old new : Store) (b : Option HeldTransaction) → KeepTypes old.relations new.relations
     → BatchSuits old b → BatchSuits new b
 batch_still old new None keep h = tt
-batch_still old new (Some held) keep h = (h.0, suit_all_still old new held keep h.1)
+batch_still old new (Some held) keep h = suit_all_still old new held.lines keep h
 
-pub batches_still : (old new : Store) (bs : List (Option (List HeldRow))) → KeepTypes old.relations new.relations
+pub batches_still : (old new : Store) (bs : List (Option HeldTransaction)) → KeepTypes old.relations new.relations
     → BatchesSuit old bs → BatchesSuit new bs
 batches_still old new [] keep h = tt
 batches_still old new (b ∷ bs) keep h = (batch_still old new b keep h.0, batches_still old new bs keep h.1)
@@ -397,7 +379,7 @@ goes_queued st (p ∷ ps) = goes_then st (queue st p) (queue_all (queue st p) ps
 outdated_batches : (queries : List Listed) (f : Listed → Option Bytes) (n : ℕ) (xs : List Session)
     → batches (outdated_sessions queries f n xs) ≡ batches xs
 outdated_batches queries f n [] = refl
-outdated_batches queries f n (x ∷ xs) = ap (λ (bs : List (Option (List HeldRow))). x.batch ∷ bs)
+outdated_batches queries f n (x ∷ xs) = ap (λ (bs : List (Option HeldTransaction)). x.batch ∷ bs)
     (outdated_batches queries f n xs)
 
 goes_changed : (old : State) (o : Option RowsChange) (store : Store) → KeepTypes (old.store).relations store.relations
@@ -475,50 +457,49 @@ becomes_goes : {A : Type 0} (old : State) (s : ℕ) (f : Session → Session) (n
 becomes_goes old s f new (Ok a) still h = goes_to old (with_session old s f) new h (goes_session old s f still)
 becomes_goes old s f new (Err e) still h = goes_same old new h
 
--- a row that is held suits, and one more may be held
-pub holds : (st : Store) (held : List HeldRow) (l name : Bytes) (row : Tuple) (r : Result ⊤ Refusal)
-    → Answers (hold_refusal st held name row) r (λ (x : ⊤). ⊤) (OutOfMemoryWhere ⊤) → BatchSuits st (Some held)
-    → (d : ⊤) → r ≡ Ok d → BatchSuits st (Some (held ++ record { line = l; relation = name; row = row } ∷ []))
-holds st held l name row (Err e) a own d is = absurd (cc (is))
-holds st held l name row (Ok x) a own d is = by (is_none (relation_of st.relations name))
-    (not (length row == length types)) (not (fits types row)) (nat_le HELD (length held)) refl refl refl refl a
+-- the row of a line that is held suits
+pub holds : (st : Store) (held : HeldTransaction) (l : Bytes) (verb : Verb) (name : Bytes) (row : Tuple)
+    (r : Result ⊤ Refusal) → Answers (hold_refusal st held l name row) r (λ (x : ⊤). ⊤) (OutOfMemoryWhere ⊤)
+    → BatchSuits st (Some held) → (d : ⊤) → r ≡ Ok d → BatchSuits st (Some (holding held verb name row l))
+holds st held l verb name row (Err e) a own d is = absurd (cc (is))
+holds st held l verb name row (Ok x) a own d is = by (is_none (relation_of st.relations name))
+    (not (length row == length types)) (not (fits types row)) (not (has_room held (length l))) refl refl refl a
   where
     types : List ColumnType
     types = types_of (relation_of st.relations name)
 
     by : (b c d e : Bool) → is_none (relation_of st.relations name) ≡ b
         → not (length row == length (types_of (relation_of st.relations name))) ≡ c
-        → not (fits (types_of (relation_of st.relations name)) row) ≡ d → nat_le HELD (length held) ≡ e
+        → not (fits (types_of (relation_of st.relations name)) row) ≡ d
         → Answers (first_refusal ((b, NoRelation) ∷ (c, Arity) ∷ (d, WrongType) ∷ (e, Limit) ∷ [])) (Ok x)
         (λ (x : ⊤). ⊤)
         (OutOfMemoryWhere ⊤)
-        → BatchSuits st (Some (held ++ record { line = l; relation = name; row = row } ∷ []))
-    by true c d e f g i j k = absurd k
-    by false true d e f g i j k = absurd k
-    by false false true e f g i j k = absurd k
-    by false false false true f g i j k = absurd k
-    by false false false false f g i j k =
-        let new : HeldRow = record { line = l; relation = name; row = row } in
-        let suits : suit_refusal st name row ≡ None = rw (f, g, i) refl in (
-          omega (arith, own.0, leb-false HELD (length held) j, length-append held (new ∷ [])),
-          All-append (λ (h : HeldRow). suit_refusal st h.relation h.row ≡ None) held (new ∷ []) own.1
-              (All-cons (λ (h : HeldRow). suit_refusal st h.relation h.row ≡ None) new [] suits
-              (All-nil (λ (h : HeldRow). suit_refusal st h.relation h.row ≡ None))),
-        )
+        → BatchSuits st (Some (holding held verb name row l))
+    by true c d e f g i k = absurd k
+    by false true d e f g i k = absurd k
+    by false false true e f g i k = absurd k
+    by false false false true f g i k = absurd k
+    by false false false false f g i k =
+        let new : HeldLine = record { verb = verb; relation = name; row = row } in
+        let suits : suit_refusal st name row ≡ None = rw (f, g, i) refl in
+        All-append (λ (h : HeldLine). suit_refusal st h.relation h.row ≡ None) held.lines (new ∷ []) own
+        (All-cons (λ (h : HeldLine). suit_refusal st h.relation h.row ≡ None) new [] suits
+        (All-nil (λ (h : HeldLine). suit_refusal st h.relation h.row ≡ None)))
 
-hold_goes : (old : State) (s : ℕ) (held : List HeldRow) (l name : Bytes) (row : Tuple) (e : Effect) (new : State)
-    → BatchSuits old.store (Some held) → HoldStep old s held l name row e new → GoesOn old new
-hold_goes old s held l name row e new own h = by h.result h.answer h.state
+hold_goes : (old : State) (s : ℕ) (held : HeldTransaction) (l : Bytes) (verb : Verb) (name : Bytes) (row : Tuple)
+    (e : Effect) (new : State) → BatchSuits old.store (Some held) → HoldStep old s held l verb name row e new
+    → GoesOn old new
+hold_goes old s held l verb name row e new own h = by h.result h.answer h.state
   where
-    by : (r : Result ⊤ Refusal) → Answers (hold_refusal old.store held name row) r (λ (x : ⊤). ⊤) (OutOfMemoryWhere ⊤)
-        → BecomesWhere old s (with_batch (held ++ record { line = l; relation = name; row = row } ∷ [])) new r
-        → GoesOn old new
-    by (Ok d) a b = becomes_goes old s (with_batch (held ++ record { line = l; relation = name; row = row } ∷ [])) new
-        (Ok d) (λ x k. holds old.store held l name row (Ok d) a own d refl) b
+    by : (r : Result ⊤ Refusal)
+        → Answers (hold_refusal old.store held l name row) r (λ (x : ⊤). ⊤) (OutOfMemoryWhere ⊤)
+        → BecomesWhere old s (with_batch (holding held verb name row l)) new r → GoesOn old new
+    by (Ok d) a b = becomes_goes old s (with_batch (holding held verb name row l)) new (Ok d)
+        (λ x k. holds old.store held l verb name row (Ok d) a own d refl) b
     by (Err r) a b = goes_same old new b
 
-pub none_held : (st : Store) → BatchSuits st (Some [])
-none_held st = (omega arith, All-nil (λ (h : HeldRow). suit_refusal st h.relation h.row ≡ None))
+pub none_held : (st : Store) → BatchSuits st (Some nothing_held)
+none_held st = All-nil (λ (h : HeldLine). suit_refusal st h.relation h.row ≡ None)
 
 refused_goes : (old : State) (s : ℕ) (r : Refusal) (e : Effect) (new : State) → RefusedStep old s r e new
     → GoesOn old new
@@ -573,12 +554,18 @@ command_goes old s x l (Rel name types) e new own h =
     (goes_store old h.store (rel_keeps old.store h.store name types h.result h.done))
 command_goes old s x l (Add name row) e new own h = by x.batch own h
   where
-    by : (o : Option (List HeldRow)) → BatchSuits old.store o
-        → MatchOption o (AddStep old s name row e new) (λ held. HoldStep old s held l name row e new) → GoesOn old new
+    by : (o : Option HeldTransaction) → BatchSuits old.store o
+        → MatchOption o (AddStep old s name row e new) (λ held. HoldStep old s held l Adds name row e new)
+        → GoesOn old new
     by None b k = change_goes old s _ k.store _ e new (add_keeps old.store k.store name row k.result k.done) k.change
-    by (Some held) b k = hold_goes old s held l name row e new b k
-command_goes old s x l (Del name row) e new own h = change_goes old s _ h.store _ e new
-    (delete_keeps old.store h.store name row h.result h.done) h.change
+    by (Some held) b k = hold_goes old s held l Adds name row e new b k
+command_goes old s x l (Del name row) e new own h = by x.batch own h
+  where
+    by : (o : Option HeldTransaction) → BatchSuits old.store o
+        → MatchOption o (DeleteStep old s name row e new) (λ held. HoldStep old s held l Deletes name row e new)
+        → GoesOn old new
+    by None b k = change_goes old s _ k.store _ e new (delete_keeps old.store k.store name row k.result k.done) k.change
+    by (Some held) b k = hold_goes old s held l Deletes name row e new b k
 command_goes old s x l (Register q) e new own (inl h) = goes_to old (record old { store = h.store }) new h.state
     (goes_store old h.store (query_keeps old.store h.store q h.result h.done))
 command_goes old s x l (Register q) e new own (inr h) =
@@ -600,16 +587,16 @@ command_goes old s x l (Watch q) e new own h = becomes_goes old s (with_watch q)
 command_goes old s x l (Unwatch q) e new own h = becomes_goes old s (without_watch q) new h.result (λ y b. b) h.state
 command_goes old s x l (Explain q) e new own h = explain_goes old s (listed_of (old.store).queries q) e new h
 command_goes old s x l (Shape q) e new own h = goes_same old new h.state
-command_goes old s x l Batch e new own h = becomes_goes old s (with_batch []) new h.result (λ y b. none_held old.store)
-    h.state
-command_goes old s x l Done e new own h = by x.batch h
+command_goes old s x l Batch e new own h =
+    becomes_goes old s (with_batch nothing_held) new h.result (λ y b. none_held old.store) h.state
+command_goes old s x l (Done given) e new own h = by x.batch h
   where
-    by : (o : Option (List HeldRow)) → MatchOption o ⊥ (λ held. DoneStep old s held e new) → GoesOn old new
+    by : (o : Option HeldTransaction) → MatchOption o ⊥ (λ held. DoneStep old s held given e new) → GoesOn old new
     by None k = absurd k
     by (Some held) k =
         let mid = with_session old s without_batch in
         goes_then old mid new (goes_session old s without_batch (λ y b. tt))
-        (change_goes mid s _ k.store _ e new (batch_keeps old.store k.store held k.result k.done) k.change)
+        (change_goes mid s _ k.store _ e new (done_keeps old.store k.store held.lines given k.result k.done) k.change)
 command_goes old s x l Abandon e new own h = goes_to old (with_session old s without_batch) new h.1
     (goes_session old s without_batch (λ y b. tt))
 command_goes old s x l Quit e new own h = goes_to old (with_session old s (ended_by SaidQuit)) new h.1

@@ -7,10 +7,16 @@ use Rattle.std.specs.List.{list_any}
 use Rattle.std.proofs.lemmas.Bool.{lt-ltb}
 use Rattle.std.proofs.lemmas.List.Elements.{All-filter, All-map}
 use Rattle.djq_model.specs.Data.{Bytes}
+use Rattle.djq_model.specs.declared.relation.Relation.{Relation}
 use Rattle.djq_model.specs.Listed.{Listed, listed_name}
 use Rattle.djq_protocol.specs.declared.command.Command.{Command}
 use Rattle.djq_protocol.specs.declared.command.Command.TheVariants.{Add, Del, Done as SayDone, Done as CommandDone}
-use Rattle.djq_protocol.specs.declared.held.HeldRow.{HeldRow}
+use Rattle.djq_protocol.specs.declared.held.Verb.TheVariants.{Add as Adds, Delete as Deletes}
+use Rattle.djq_protocol.specs.declared.held.LineRefusal.{LineRefusal}
+use Rattle.djq_protocol.specs.declared.held.LineRefusal.TheVariants.{Limit, Absent as NoCopies, NoMemory as LineMemory}
+use Rattle.djq_protocol.specs.declared.held.DoneRefusal.{DoneRefusal}
+use Rattle.djq_protocol.specs.declared.held.DoneRefusal.TheVariants.{OtherNumber, Line, LastChange}
+use Rattle.djq_protocol.specs.declared.held.DoneRefusal.TheVariants.{NoMemory as DoneMemory}
 use Rattle.djq_protocol.specs.declared.answer.Refusal.{Refusal}
 use Rattle.djq_protocol.specs.declared.answer.Refusal.TheVariants.{NoMemory}
 use Rattle.djq_protocol.specs.declared.answer.AddOutcome.{AddOutcome}
@@ -21,8 +27,8 @@ use Rattle.djq_protocol.specs.declared.limits.TheConstants.{PENDING_BYTES}
 use Rattle.djq_protocol.specs.declared.answer.EndCause.TheVariants.{Slow, Memory}
 use Rattle.djq_protocol.specs.Grammar.{Reading, reading_of}
 use Rattle.djq_protocol.specs.Reply.{add_reply, delete_reply, done_reply, end_slow, end_memory}
-use Rattle.djq_store_spec.specs.Batch.{batch_outcome}
-use Rattle.djq_store_spec.specs.Store.{Store}
+use Rattle.djq_store_spec.specs.Held.{HeldTransaction, log_lines}
+use Rattle.djq_store_spec.specs.Transaction.{lines_outcome}
 use Rattle.djq_store_spec.specs.Changes.{RowsChange, RowsOutcome, accepted, out_of_memory, unchanged, row_in, row_out}
 use Rattle.djq_store_spec.specs.Changes.{add_outcome, delete_outcome, is_made, tried, is_outdated}
 use Rattle.djq_store_spec.specs.DeltaCost.{Delta, AreDeltas, ListsDeltas, deltas_steps}
@@ -35,7 +41,7 @@ use Rattle.djq_machine.specs.Effect.{Effect, queue_all, EndsWith}
 use Rattle.djq_machine.specs.Watch.{Telling, ChangeStep, affected, is_watching}
 use Rattle.djq_machine.specs.LineStep.{run, behind_line, FrontStep, ReadStep}
 use Rattle.djq_machine.specs.Call.{Counts, StepsLine}
-use Rattle.djq_machine.specs.Command.{AddStep, HoldStep, DoneStep, CommandStep, is_misplaced, without_batch}
+use Rattle.djq_machine.specs.Command.{AddStep, DeleteStep, HoldStep, DoneStep, CommandStep, is_misplaced, without_batch}
 use Rattle.djq_session.specs.Dialog.{Replies}
 use Rattle.djq_engine.specs.declared.cursor.CursorId.{CursorId}
 use Rattle.djq_engine.specs.declared.cursor.QueryId.{QueryId}
@@ -50,7 +56,6 @@ use Rattle.djq_commands.specs.Sound.{ids_of_cursors, all_ids, AreHeld, IsSound, 
 use Rattle.djq_commands.specs.Performs.{among, Performs}
 use Rattle.djq_commands.specs.Changing.{EngineChanged, IsChange, LeavesChange, is_accepted, reply_of}
 use Rattle.djq_commands.specs.Changing.{lines_logged}
-use Rattle.djq_commands.specs.Logging.{batch_lines}
 use Rattle.djq_commands.specs.Stepping.{CopiesFront}
 use Rattle.djq_commands.specs.Telling.{AreAffected, TellsAll, HearsDelta}
 use Rattle.djq_commands.proofs.Cursors.{agree_same, agree_held, agree_open, outdated_find, outdated_all_held}
@@ -284,12 +289,20 @@ delete_made change (Ok (Left copies)) = refl
 delete_made change (Ok Absent) = refl
 delete_made change (Err r) = refl
 
-pub batch_made : (st : Store) (held : List HeldRow) (result : Result ℕ Refusal) → is_accepted (Done result held)
-    ≡ is_made (batch_outcome st held result)
-batch_made st held (Ok zero) = refl
-batch_made st held (Ok (suc n)) = refl
-batch_made st held (Err NoMemory) = refl
-batch_made st held (Err _) = refl
+pub done_made : (relations : List Relation) (held : HeldTransaction) (result : Result ℕ DoneRefusal)
+    → is_accepted (Done result held) ≡ is_made (lines_outcome relations held.lines result)
+done_made relations held (Ok zero) = refl
+done_made relations held (Ok (suc n)) = refl
+done_made relations held (Err OtherNumber) = refl
+done_made relations held (Err (Line r)) = by r.refusal
+  where
+    by : (w : LineRefusal)
+        → false ≡ is_made (lines_outcome relations held.lines (Err (Line (record { at = r.at; refusal = w }))))
+    by Limit = refl
+    by NoCopies = refl
+    by LineMemory = refl
+done_made relations held (Err LastChange) = refl
+done_made relations held (Err DoneMemory) = refl
 
 -- what is kept of a change, as the machine says it
 abbrev pub keeping_of : Outcome → Keeping
@@ -305,11 +318,11 @@ lines_kept (Deleted (Ok Last)) l = refl
 lines_kept (Deleted (Ok (Left n))) l = refl
 lines_kept (Deleted (Ok Absent)) l = refl
 lines_kept (Deleted (Err r)) l = refl
-lines_kept (Done (Ok n) held) l = sym (append-nil (batch_lines held))
+lines_kept (Done (Ok n) held) l = sym (append-nil (log_lines held))
 lines_kept (Done (Err r) held) l = refl
 
 -- A session's batch is closed, where one is open.
-abbrev Shuts : Option (List HeldRow) → ℕ → State → State → Type 0
+abbrev Shuts : Option HeldTransaction → ℕ → State → State → Type 0
 Shuts None s old new = new ≡ old
 Shuts (Some held) s old new = new ≡ with_session old s without_batch
 
@@ -326,7 +339,7 @@ pub record Composed (old : State) (s : ℕ) (y : Session) (l : Bytes) (command :
 
 module _ (old mid new : Kept) (stopped : Bool) (xs zs ys : List OpenSession) (s : ℕ) (y : Session) (l : Bytes)
     (change : Outcome) (was now : ℕ) where
-  composed : IsSound old xs → (command : Command) (batch : Option (List HeldRow)) → y.batch ≡ batch
+  composed : IsSound old xs → (command : Command) (batch : Option HeldTransaction) → y.batch ≡ batch
       → Shuts batch s (state_in old stopped zs) (state_in old stopped xs)
       → IsChange command batch old change mid was now
       → TellsAll (is_accepted change) (reply_of change (mid.store).seq) mid s xs new ys
@@ -350,13 +363,13 @@ module _ (old mid new : Kept) (stopped : Bool) (xs zs ys : List OpenSession) (s 
       record {
         effect = r.0;
         last = r.1;
-        does = subst (λ (o : Option (List HeldRow)). MatchOption o
+        does = subst (λ (o : Option HeldTransaction). MatchOption o
             (AddStep (state_in old stopped zs) s name row r.0 r.1)
-            (λ held. HoldStep (state_in old stopped zs) s held l name row r.0 r.1)) (sym e) step;
+            (λ held. HoldStep (state_in old stopped zs) s held l Adds name row r.0 r.1)) (sym e) step;
         queued = r.3;
         counted = r.4;
         keeps = r.2.1 ∙ ap keeping_of (sym a.is);
-        placed = ap (λ (o : Option (List HeldRow)). is_misplaced o (Add name row)) e;
+        placed = ap (λ (o : Option HeldTransaction). is_misplaced o (Add name row)) e;
       }
   composed sound (Del name row) None e shut a t =
       let made = row_out (old.store).relations name row in
@@ -366,59 +379,63 @@ module _ (old mid new : Kept) (stopped : Bool) (xs zs ys : List OpenSession) (s 
       (delete_reply a.result (mid.store).seq) (kept_where (is_removal a.result)) was now a.changed sound
       (subst (λ (b : Bool). TellsAll b (delete_reply a.result (mid.store).seq) mid s xs new ys)
       (delete_made made a.result) told) in
-      record {
-        effect = r.0;
-        last = r.1;
-        does = record {
-          result = a.result;
-          store = mid.store;
-          done = a.done;
-          change = subst (λ (z : State). ChangeStep z s (delete_outcome made a.result) mid.store
-              (delete_reply a.result (mid.store).seq) r.0 r.1) shut r.2.0;
-          kept = r.2.1;
-        };
-        queued = r.3;
-        counted = r.4;
-        keeps = r.2.1 ∙ ap keeping_of (sym a.is);
-        placed = ap (λ (o : Option (List HeldRow)). is_misplaced o (Del name row)) e;
-      }
-  composed sound SayDone (Some held) e shut a t =
-      let told = subst (λ (c : Outcome). TellsAll (is_accepted c) (reply_of c (mid.store).seq) mid s xs new ys) a.is t
-      in
-      let r = change_step old mid new stopped xs ys s (batch_outcome old.store held a.result)
-      (done_reply a.result (mid.store).seq) (kept_batch held a.result) was now a.changed sound
-      (subst (λ (b : Bool). TellsAll b (done_reply a.result (mid.store).seq) mid s xs new ys)
-      (batch_made old.store held a.result) told) in
-      let step : DoneStep (state_in old stopped zs) s held r.0 r.1 = record {
+      let step : DeleteStep (state_in old stopped zs) s name row r.0 r.1 = record {
         result = a.result;
         store = mid.store;
         done = a.done;
-        change = subst (λ (z : State). ChangeStep z s (batch_outcome old.store held a.result) mid.store
+        change = subst (λ (z : State). ChangeStep z s (delete_outcome made a.result) mid.store
+            (delete_reply a.result (mid.store).seq) r.0 r.1) shut r.2.0;
+        kept = r.2.1;
+      } in
+      record {
+        effect = r.0;
+        last = r.1;
+        does = subst (λ (o : Option HeldTransaction). MatchOption o
+            (DeleteStep (state_in old stopped zs) s name row r.0 r.1)
+            (λ held. HoldStep (state_in old stopped zs) s held l Deletes name row r.0 r.1)) (sym e) step;
+        queued = r.3;
+        counted = r.4;
+        keeps = r.2.1 ∙ ap keeping_of (sym a.is);
+        placed = ap (λ (o : Option HeldTransaction). is_misplaced o (Del name row)) e;
+      }
+  composed sound (SayDone given) (Some held) e shut a t =
+      let told = subst (λ (c : Outcome). TellsAll (is_accepted c) (reply_of c (mid.store).seq) mid s xs new ys) a.is t
+      in
+      let r = change_step old mid new stopped xs ys s (lines_outcome (old.store).relations held.lines a.result)
+      (done_reply a.result (mid.store).seq) (kept_batch held a.result) was now a.changed sound
+      (subst (λ (b : Bool). TellsAll b (done_reply a.result (mid.store).seq) mid s xs new ys)
+      (done_made (old.store).relations held a.result) told) in
+      let step : DoneStep (state_in old stopped zs) s held given r.0 r.1 = record {
+        result = a.result;
+        store = mid.store;
+        done = a.done;
+        change = subst (λ (z : State). ChangeStep z s
+            (lines_outcome (old.store).relations held.lines a.result) mid.store
             (done_reply a.result (mid.store).seq) r.0 r.1) shut r.2.0;
         kept = r.2.1;
       } in
       record {
         effect = r.0;
         last = r.1;
-        does = subst (λ (o : Option (List HeldRow)). MatchOption o ⊥
-            (λ rows. DoneStep (state_in old stopped zs) s rows r.0 r.1)) (sym e) step;
+        does = subst (λ (o : Option HeldTransaction). MatchOption o ⊥
+            (λ t. DoneStep (state_in old stopped zs) s t given r.0 r.1)) (sym e) step;
         queued = r.3;
         counted = r.4;
         keeps = r.2.1 ∙ ap keeping_of (sym a.is);
-        placed = ap (λ (o : Option (List HeldRow)). is_misplaced o SayDone) e;
+        placed = ap (λ (o : Option HeldTransaction). is_misplaced o (SayDone given)) e;
       }
   composed sound _ _ e shut a t = absurd a
 
 -- the session behind the line, and then without its batch
 shut_batch : (old : Kept) (stopped : Bool) (front : List OpenSession) (s : ℕ) (taken after : Talk)
-    (back : List OpenSession) (batch : Option (List HeldRow)) → taken.batch ≡ batch
+    (back : List OpenSession) (batch : Option HeldTransaction) → taken.batch ≡ batch
     → after ≡ record taken { batch = None } → IsSound old (among front s taken back)
     → Shuts batch s (state_in old stopped (among front s taken back))
     (state_in old stopped (among front s after back))
 shut_batch old stopped front s taken after back None e same sound =
     looks old stopped front s taken after back
     (ap (session_in old.cursors s) same
-    ∙ ap (λ (b : Option (List HeldRow)). record (session_in old.cursors s taken) { batch = b }) (sym e))
+    ∙ ap (λ (b : Option HeldTransaction). record (session_in old.cursors s taken) { batch = b }) (sym e))
 shut_batch old stopped front s taken after back (Some held) e same sound =
     becomes old stopped front s taken after back without_batch (parts old front s taken back sound)
     (ap (session_in old.cursors s) same)
@@ -474,7 +491,7 @@ change_steps change old mid new before after front s back ys stopped copy was no
     }
 
 -- What of it the cursors see.
-outdated_by : (command : Command) (batch : Option (List HeldRow)) (old : Kept) (change : Outcome) (new : Kept)
+outdated_by : (command : Command) (batch : Option HeldTransaction) (old : Kept) (change : Outcome) (new : Kept)
     (was now : ℕ) → IsChange command batch old change new was now
     → (o : Option RowsChange) × Outdates old o new × (new.registered ≡ old.registered)
 outdated_by (Add name row) None old change new was now a =
@@ -484,8 +501,8 @@ outdated_by (Del name row) None old change new was now a = (
   (a.changed).outdated,
   (a.changed).registered,
 )
-outdated_by CommandDone (Some held) old change new was now a =
-    (tried (batch_outcome old.store held a.result), (a.changed).outdated, (a.changed).registered)
+outdated_by (CommandDone given) (Some held) old change new was now a =
+    (tried (lines_outcome (old.store).relations held.lines a.result), (a.changed).outdated, (a.changed).registered)
 outdated_by _ _ old change new was now a = absurd a
 
 -- All is sound behind it.
@@ -518,7 +535,7 @@ readers_are old new outcome was now c held =
     (All-map (IsRegistered new) (λ (x : Registered). x.id) (readers_by old.registered outcome)
     (λ k d lt. subst (λ (o : Option Registered). IsSome o) (sym (r.there k d lt)) refl))
 
-registered_by : (command : Command) (batch : Option (List HeldRow)) (old : Kept) (change : Outcome) (new : Kept)
+registered_by : (command : Command) (batch : Option HeldTransaction) (old : Kept) (change : Outcome) (new : Kept)
     (was now : ℕ) → IsChange command batch old change new was now → is_accepted change ≡ true
     → All (IsRegistered new) new.affected
 registered_by (Add name row) None old change new was now a held =
@@ -529,9 +546,9 @@ registered_by (Del name row) None old change new was now a held =
     let made = row_out (old.store).relations name row in
     readers_are old new (delete_outcome made a.result) was now a.changed
     (sym (delete_made made a.result) ∙ subst (λ (c : Outcome). is_accepted c ≡ true) a.is held)
-registered_by CommandDone (Some rows) old change new was now a held =
-    readers_are old new (batch_outcome old.store rows a.result) was now a.changed
-    (sym (batch_made old.store rows a.result) ∙ subst (λ (c : Outcome). is_accepted c ≡ true) a.is held)
+registered_by (CommandDone given) (Some held) old change new was now a made =
+    readers_are old new (lines_outcome (old.store).relations held.lines a.result) was now a.changed
+    (sym (done_made (old.store).relations held a.result) ∙ subst (λ (c : Outcome). is_accepted c ≡ true) a.is made)
 registered_by _ _ old change new was now a held = absurd a
 
 -- The queries that an accepted change affects are registered.

@@ -9,11 +9,12 @@ use Rattle.std.proofs.lemmas.List.Elements.{All-append, All-cons, All-contains, 
 use Rattle.djq_model.specs.declared.query.Query.{Query}
 use Rattle.djq_model.specs.Data.{Bytes, Tuple, bytes_eq}
 use Rattle.djq_model.specs.Listed.{a_query, a_union, listed_name}
-use Rattle.djq_protocol.specs.declared.held.HeldRow.{HeldRow}
+use Rattle.djq_protocol.specs.declared.held.Verb.{Verb}
+use Rattle.djq_protocol.specs.declared.held.Verb.TheVariants.{Add as Adds, Delete as Deletes}
+use Rattle.djq_protocol.specs.declared.held.DoneRefusal.{DoneRefusal}
 use Rattle.djq_protocol.specs.declared.answer.Refusal.{Refusal}
-use Rattle.djq_protocol.specs.declared.answer.Refusal.TheVariants.{NoMemory}
 use Rattle.djq_protocol.specs.declared.command.Command.{Command}
-use Rattle.djq_protocol.specs.declared.command.Command.TheVariants.{Add, Batch, Done, Abandon, Quit, Stop}
+use Rattle.djq_protocol.specs.declared.command.Command.TheVariants.{Add, Del, Batch, Done, Abandon, Quit, Stop}
 use Rattle.djq_protocol.specs.declared.rest.QueryOutcome.{QueryOutcome}
 use Rattle.djq_protocol.specs.declared.rest.QueryOutcome.TheVariants.{Registered as HasRegistered, Cyclic, NotConnex}
 use Rattle.djq_protocol.specs.Conditions.{Answers, OutOfMemoryWhere}
@@ -24,7 +25,8 @@ use Rattle.djq_parser.specs.Reading.{LineReadsAs}
 use Rattle.djq_store_spec.specs.Store.{Store}
 use Rattle.djq_store_spec.specs.Registering.{DropsQuery}
 use Rattle.djq_store_spec.specs.Changes.{RowsChange}
-use Rattle.djq_store_spec.specs.Batch.{AddsBatch, hold_refusal}
+use Rattle.djq_store_spec.specs.Held.{HeldTransaction, nothing_held}
+use Rattle.djq_store_spec.specs.Transaction.{hold_refusal, DoesAll}
 use Rattle.djq_answer_laws.proofs.Lists.{hold_each}
 use Rattle.djq_machine.specs.declared.machine.Loaded.{Loaded}
 use Rattle.djq_machine.specs.declared.machine.Loaded.TheVariants.{Ran as ran, Refused as refused, NoMem as no_memory}
@@ -34,6 +36,7 @@ use Rattle.djq_machine.specs.Command.{is_misplaced}
 use Rattle.djq_machine.specs.Keeping.{is_done}
 use Rattle.djq_machine.specs.LineStep.{past_limit_refusal}
 use Rattle.djq_machine.specs.Loading.{CommandLoads, Loading, LoadStep, ReadingLoads, StoreLoads, loaded_by, refused_by}
+use Rattle.djq_machine.specs.Loading.{HoldsLoaded, HoldsOrRefuses, done_loaded}
 use Rattle.djq_engine.specs.declared.cursor.CursorId.{CursorId}
 use Rattle.djq_engine.specs.Kept.{Kept, HeldCursor, Registered, held_at, is_watched, SameCursors, Outdates}
 use Rattle.djq_engine.specs.Kept.{outdated_held, Uses, DropGives, DropsRegistered}
@@ -43,23 +46,23 @@ use Rattle.djq_commands.specs.declared.open.OpenSession.{OpenSession}
 use Rattle.djq_commands.specs.Sound.{BatchSuits, BatchesSuit, batches_of, IsSound}
 use Rattle.djq_commands.specs.Views.{session_seen, state_in}
 use Rattle.djq_commands.specs.Stepping.{refused_as}
-use Rattle.djq_commands.specs.Batching.{MakesRow, RefusedBy, held_row_of}
+use Rattle.djq_commands.specs.Batching.{RefusedBy, row_command}
 use Rattle.djq_commands.proofs.Cursors.{outdated_find}
 use Rattle.djq_commands.proofs.ReadLines.{in_any_batch, in_memory, in_outside, in_range_past, late_alone, reads_as}
-use Rattle.djq_core.specs.Loading.{IsUnused, LoadsRow, comes_to, is_batch, loading_by}
+use Rattle.djq_core.specs.Loading.{IsUnused, HeldAsLoaded, HoldsInBatch, comes_to, is_batch, loading_by}
 use Rattle.djq_core.proofs.BatchRows.{batches, batch_still, step_goes, holds}
 use Rattle.djq_core.proofs.Replies.{same_relations}
 
 -- ---- What the batches of the core's sessions hold suits, as sessions come, change and go.
 
 -- the batches of sessions
-abbrev pub own_batches : List OpenSession → List (Option (List HeldRow))
+abbrev pub own_batches : List OpenSession → List (Option HeldTransaction)
 own_batches xs = map (λ (x : OpenSession). (x.session).batch) xs
 
 -- as the machine sees them
 seen : (hs : List HeldCursor) (xs : List OpenSession) → batches (map (session_seen hs) xs) ≡ own_batches xs
 seen hs [] = refl
-seen hs (x ∷ xs) = ap (λ (bs : List (Option (List HeldRow))). (x.session).batch ∷ bs) (seen hs xs)
+seen hs (x ∷ xs) = ap (λ (bs : List (Option HeldTransaction)). (x.session).batch ∷ bs) (seen hs xs)
 
 -- the batch of one of them
 suits_there : (st : Store) (xs : List OpenSession) (at : ℕ) (e : OpenSession) → BatchesSuit st (own_batches xs)
@@ -68,7 +71,7 @@ suits_there st [] at e h l g = absurd (omega (arith, l))
 suits_there st (x ∷ xs) zero e h l g = subst (λ (y : OpenSession). BatchSuits st (y.session).batch) (sym g) h.0
 suits_there st (x ∷ xs) (suc at) e h l g = suits_there st xs at e h.1 (omega (arith, l)) g
 
-pub suits_at : (st : Store) (batch : Option (List HeldRow)) (xs : List OpenSession) (at : ℕ) (e : OpenSession)
+pub suits_at : (st : Store) (batch : Option HeldTransaction) (xs : List OpenSession) (at : ℕ) (e : OpenSession)
     → BatchesSuit st (batches_of batch xs) → at < length xs → e ≡ get_or xs at e
     → BatchSuits st (e.session).batch
 suits_at st batch xs at e h l g = suits_there st xs at e h.1 l g
@@ -80,14 +83,14 @@ set_there st [] at y h g = tt
 set_there st (x ∷ xs) zero y h g = (g, h.1)
 set_there st (x ∷ xs) (suc at) y h g = (h.0, set_there st xs at y h.1 g)
 
-pub suited_set : (st new : Store) (batch : Option (List HeldRow)) (xs : List OpenSession) (at : ℕ) (y : OpenSession)
+pub suited_set : (st new : Store) (batch : Option HeldTransaction) (xs : List OpenSession) (at : ℕ) (y : OpenSession)
     → BatchesSuit st (batches_of batch xs) → new ≡ st → BatchSuits st (y.session).batch
     → BatchesSuit new (batches_of batch (set xs at y))
 suited_set st new batch xs at y h e g = subst (λ (s : Store). BatchesSuit s (batches_of batch (set xs at y))) (sym e)
     (h.0, set_there st xs at y h.1 g)
 
 -- a session without a batch
-pub suits_none : (st : Store) (batch : Option (List HeldRow)) → batch ≡ None → BatchSuits st batch
+pub suits_none : (st : Store) (batch : Option HeldTransaction) → batch ≡ None → BatchSuits st batch
 suits_none st batch e = subst (BatchSuits st) (sym e) tt
 
 -- one of them is gone
@@ -98,7 +101,7 @@ gone_there st [] (suc at) h = tt
 gone_there st (x ∷ xs) zero h = h.1
 gone_there st (x ∷ xs) (suc at) h = (h.0, gone_there st xs at h.1)
 
-pub suited_gone : (st : Store) (batch : Option (List HeldRow)) (xs ys : List OpenSession) (at : ℕ)
+pub suited_gone : (st : Store) (batch : Option HeldTransaction) (xs ys : List OpenSession) (at : ℕ)
     → BatchesSuit st (batches_of batch xs) → ys ≡ remove xs at → BatchesSuit st (batches_of batch ys)
 suited_gone st batch xs ys at h e = subst (λ (zs : List OpenSession). BatchesSuit st (batches_of batch zs)) (sym e)
     (h.0, gone_there st xs at h.1)
@@ -109,14 +112,14 @@ more_there : (st : Store) (xs : List OpenSession) (y : OpenSession) → BatchesS
 more_there st [] y h g = (g, tt)
 more_there st (x ∷ xs) y h g = (h.0, more_there st xs y h.1 g)
 
-pub suited_more : (st : Store) (batch : Option (List HeldRow)) (xs ys : List OpenSession) (y : OpenSession)
+pub suited_more : (st : Store) (batch : Option HeldTransaction) (xs ys : List OpenSession) (y : OpenSession)
     → BatchesSuit st (batches_of batch xs) → (y.session).batch ≡ None → ys ≡ xs ++ y ∷ []
     → BatchesSuit st (batches_of batch ys)
 suited_more st batch xs ys y h n e = subst (λ (zs : List OpenSession). BatchesSuit st (batches_of batch zs)) (sym e)
     (h.0, more_there st xs y h.1 (suits_none st (y.session).batch n))
 
 -- So it is behind a step.
-pub suited_behind : (k new : Kept) (batch : Option (List HeldRow)) (stopped stops : Bool) (xs ys : List OpenSession)
+pub suited_behind : (k new : Kept) (batch : Option HeldTransaction) (stopped stops : Bool) (xs ys : List OpenSession)
     (s : ℕ) (was now : Counts) (commit commit' : List Bytes)
     → BatchesSuit k.store (batches_of batch xs)
     → StepsLine (state_in k stopped xs) s (state_in new stops ys) was now commit commit'
@@ -180,7 +183,7 @@ pub core_idle : (new : Kept) (xs : List OpenSession) → xs ≡ [] → IsUnused 
 core_idle new xs none idle = subst (IsSound new) (sym none) (sound_idle new idle)
 
 -- where no session is open, the batch of the loaded lines is the only one
-pub suits_loaded : (st : Store) (batch : Option (List HeldRow)) (xs : List OpenSession) → xs ≡ [] → BatchSuits st batch
+pub suits_loaded : (st : Store) (batch : Option HeldTransaction) (xs : List OpenSession) → xs ≡ [] → BatchSuits st batch
     → BatchesSuit st (batches_of batch xs)
 suits_loaded st batch xs none h = subst (λ (ys : List OpenSession). BatchesSuit st (batches_of batch ys)) (sym none)
     (h, tt)
@@ -314,12 +317,13 @@ step_loads old new line how l =
 module _ (k : Kept) (line : Bytes) where
   -- outside a batch: one opens
   pub opens_batch : (c : Command) → LineReadsAs line (Ok c) → is_batch c ≡ true
-      → ReadingLoads (loading_by k None) line (reading_of line) ran (loading_by k (Some []))
+      → ReadingLoads (loading_by k None) line (reading_of line) ran (loading_by k (Some nothing_held))
   opens_batch c g b =
-      subst (λ (r : Reading). ReadingLoads (loading_by k None) line r ran (loading_by k (Some [])))
+      subst (λ (r : Reading). ReadingLoads (loading_by k None) line r ran (loading_by k (Some nothing_held)))
       (sym (reads_as line c g)) (inl (by c b))
     where
-      by : (c : Command) → is_batch c ≡ true → CommandLoads (loading_by k None) line c ran (loading_by k (Some []))
+      by : (c : Command) → is_batch c ≡ true
+          → CommandLoads (loading_by k None) line c ran (loading_by k (Some nothing_held))
       by Batch e = inl (refl, refl)
       by _ e = absurd (cc (e))
 
@@ -351,70 +355,45 @@ module _ (k : Kept) (line : Bytes) where
       subst (λ (r : Reading). ReadingLoads (loading_by k None) line r no_memory (loading_by k None)) (sym m.2)
       (inr (m.3, late_alone m.0 (inr m.3), refl, refl))
 
-module _ (k : Kept) (line : Bytes) (held : List HeldRow) where
-  -- in a batch: a row is held
-  pub said_hold : (name : Bytes) (row : Tuple) (made : Result HeldRow Refusal) (how : Loaded) (rows : List HeldRow)
-      → reading_of line ≡ says_command (Add name row)
-      → MakesRow k.store (length held) line name row made → LoadsRow held made how rows
-      → ReadingLoads (loading_by k (Some held)) line (reading_of line) how (loading_by k (Some rows))
-      × (BatchSuits k.store (Some held) → BatchSuits k.store (Some rows))
-  said_hold name row made how rows g makes loads = (
-    subst (λ (r : Reading). ReadingLoads (loading_by k (Some held)) line r how (loading_by k (Some rows))) (sym g)
-        (inl (by made (makes held refl) loads).0),
-    (by made (makes held refl) loads).1,
+module _ (k : Kept) (line : Bytes) (held : HeldTransaction) where
+  -- in a batch: a line is held
+  pub said_hold : (verb : Verb) (name : Bytes) (row : Tuple) (result : Result ⊤ Refusal) (how : Loaded)
+      (new : HeldTransaction)
+      → reading_of line ≡ says_command (row_command verb name row)
+      → HoldsInBatch k.store held line verb name row result new → how ≡ loaded_by is_done result
+      → ReadingLoads (loading_by k (Some held)) line (reading_of line) how (loading_by k (Some new))
+      × (BatchSuits k.store (Some held) → BatchSuits k.store (Some new))
+  said_hold verb name row result how new g h e = (
+    subst (λ (r : Reading). ReadingLoads (loading_by k (Some held)) line r how (loading_by k (Some new))) (sym g)
+        (inl (by verb (result, h.0, e, into result h.1))),
+    suits result h.0 h.1,
   )
     where
-      made_new : (o : Option Refusal) (new : HeldRow)
-          → Answers {A = HeldRow} o (Ok new) (λ h. h ≡ held_row_of line name row) (OutOfMemoryWhere ⊤)
-          → (new ≡ held_row_of line name row) × Answers {A = ⊤} o (Ok tt) (λ d. ⊤) (OutOfMemoryWhere ⊤)
-          × Answers {A = ⊤} o (Err NoMemory) (λ d. ⊤) (OutOfMemoryWhere ⊤)
-      made_new None new a = (a, tt, tt)
-      made_new (Some r) new a = absurd a
+      into : (r : Result ⊤ Refusal) → HeldAsLoaded held line verb name row r new
+          → HoldsLoaded (loading_by k (Some held)) held line verb name row r (loading_by k (Some new))
+      into (Ok d) e = ap (λ (t : HeldTransaction). loading_by k (Some t)) e
+      into (Err r) e = ap (λ (t : HeldTransaction). loading_by k (Some t)) e
 
-      made_none : (o : Option Refusal) (r : Refusal)
-          → Answers {A = HeldRow} o (Err r) (λ h. h ≡ held_row_of line name row) (OutOfMemoryWhere ⊤)
-          → Answers {A = ⊤} o (Err r) (λ d. ⊤) (OutOfMemoryWhere ⊤)
-      made_none None r a = a
-      made_none (Some q) r a = a
+      by : (v : Verb) → HoldsOrRefuses (loading_by k (Some held)) held line v name row how (loading_by k (Some new))
+          → CommandLoads (loading_by k (Some held)) line (row_command v name row) how (loading_by k (Some new))
+      by Adds x = x
+      by Deletes x = x
 
-      by : (m : Result HeldRow Refusal)
-          → Answers (hold_refusal k.store held name row) m (λ h. h ≡ held_row_of line name row) (OutOfMemoryWhere ⊤)
-          → LoadsRow held m how rows
-          → CommandLoads (loading_by k (Some held)) line (Add name row) how (loading_by k (Some rows))
-          × (BatchSuits k.store (Some held) → BatchSuits k.store (Some rows))
-      by (Ok new) a (inl l) =
-          let n = made_new (hold_refusal k.store held name row) new a in
-          let grown : rows ≡ held ++ held_row_of line name row ∷ [] = l.1
-          ∙ ap (λ (h : HeldRow). held ++ h ∷ []) n.0 in (
-            (Ok tt, n.1, l.0, ap (λ (hs : List HeldRow). loading_by k (Some hs)) grown),
-            λ h. subst (λ (hs : List HeldRow). BatchSuits k.store (Some hs)) (sym grown)
-                (holds k.store held line name row (Ok tt) n.1 h tt refl),
-          )
-      by (Ok new) a (inr l) =
-          let n = made_new (hold_refusal k.store held name row) new a in (
-            (Err NoMemory, n.2, l.0, ap (λ (hs : List HeldRow). loading_by k (Some hs)) l.1),
-            λ h. subst
-                (λ (hs : List HeldRow). BatchSuits k.store (Some hs)) (sym l.1) h,
-          )
-      by (Err r) a l = (
-        (
-          Err r,
-          made_none (hold_refusal k.store held name row) r a,
-          l.0,
-          ap
-              (λ (hs : List HeldRow). loading_by k (Some hs)) l.1,
-        ),
-        λ h. subst
-            (λ (hs : List HeldRow). BatchSuits k.store (Some hs)) (sym l.1) h,
-      )
+      suits : (r : Result ⊤ Refusal) → Answers (hold_refusal k.store held line name row) r (λ (d : ⊤). ⊤)
+          (OutOfMemoryWhere ⊤)
+          → HeldAsLoaded held line verb name row r new → BatchSuits k.store (Some held) → BatchSuits k.store (Some new)
+      suits (Ok d) a e own = subst (λ (t : HeldTransaction). BatchSuits k.store (Some t)) (sym e)
+          (holds k.store held line verb name row (Ok d) a own d refl)
+      suits (Err r) a e own = subst (λ (t : HeldTransaction). BatchSuits k.store (Some t)) (sym e) own
 
   -- it is done
-  pub said_done : (new : Kept) (result : Result ℕ Refusal) (how : Loaded) → reading_of line ≡ says_command Done
-      → AddsBatch k.store held result new.store → how ≡ loaded_by is_done result
+  pub said_done : (new : Kept) (given : Option ℕ) (result : Result ℕ DoneRefusal) (how : Loaded)
+      → reading_of line ≡ says_command (Done given) → DoesAll k.store held.lines given result new.store
+      → how ≡ done_loaded result
       → ReadingLoads (loading_by k (Some held)) line (reading_of line) how (loading_by new None)
-  said_done new result how g adds e =
+  said_done new given result how g does e =
       subst (λ (r : Reading). ReadingLoads (loading_by k (Some held)) line r how (loading_by new None)) (sym g)
-      (inl (result, adds, e, refl))
+      (inl (result, does, e, refl))
 
   -- it is dropped
   pub said_abandon : reading_of line ≡ says_command Abandon
@@ -433,10 +412,11 @@ module _ (k : Kept) (line : Bytes) (held : List HeldRow) where
   said_stop g = subst (λ (r : Reading). ReadingLoads (loading_by k (Some held)) line r refused
       (loading_by k (Some held))) (sym g) (inl (refl, refl))
 
-  misplaced_loads : (c : Command) → is_misplaced {A = List HeldRow} (Some []) c ≡ true
+  misplaced_loads : (c : Command) → is_misplaced {A = HeldTransaction} (Some nothing_held) c ≡ true
       → CommandLoads (loading_by k (Some held)) line c refused (loading_by k (Some held))
   misplaced_loads (Add name row) e = absurd (cc (e))
-  misplaced_loads Done e = absurd (cc (e))
+  misplaced_loads (Del name row) e = absurd (cc (e))
+  misplaced_loads (Done given) e = absurd (cc (e))
   misplaced_loads Abandon e = absurd (cc (e))
   misplaced_loads Quit e = absurd (cc (e))
   misplaced_loads Stop e = absurd (cc (e))
@@ -447,14 +427,14 @@ module _ (k : Kept) (line : Bytes) (held : List HeldRow) where
   past_is false why e = ap refused_by e
 
   -- or the line is refused
-  pub said_nothing : (why : Refusal) → RefusedBy (Some []) (reading_of line) why
+  pub said_nothing : (why : Refusal) → RefusedBy (Some nothing_held) (reading_of line) why
       → ReadingLoads (loading_by k (Some held)) line (reading_of line) (refused_by why) (loading_by k (Some held))
   said_nothing why h = by (reading_of line) h
     where
-      by : (r : Reading) → RefusedBy (Some []) r why
+      by : (r : Reading) → RefusedBy (Some nothing_held) r why
           → ReadingLoads (loading_by k (Some held)) line r (refused_by why) (loading_by k (Some held))
       by outside e = (ap refused_by e, refl)
-      by (past_limit c) e = (past_is (is_misplaced {A = List HeldRow} (Some []) c) why e, refl)
+      by (past_limit c) e = (past_is (is_misplaced {A = HeldTransaction} (Some nothing_held) c) why e, refl)
       by (says_command c) (inl (m, e)) =
           inl (subst (λ (h : Loaded). CommandLoads (loading_by k (Some held)) line c h (loading_by k (Some held)))
           (sym (ap refused_by e)) (misplaced_loads c m))

@@ -11,7 +11,7 @@ use Rattle.std.proofs.lemmas.Option.{get_or_from_slice_get}
 use Rattle.djq_model.specs.Data.{Bytes}
 use Rattle.djq_protocol.specs.declared.limits.TheConstants.{SESSIONS}
 use Rattle.djq_protocol.specs.declared.answer.EndCause.{EndCause}
-use Rattle.djq_protocol.specs.declared.held.HeldRow.{HeldRow}
+use Rattle.djq_store_spec.specs.Held.{HeldTransaction}
 use Rattle.djq_protocol.specs.declared.answer.EndCause.TheVariants.{Memory}
 use Rattle.djq_protocol.specs.Reply.{end_memory}
 use Rattle.djq_machine.specs.declared.machine.Fed.TheVariants.{Held, Ended}
@@ -390,23 +390,22 @@ ended_had k xs at s e stopped c h is =
     (at_session k stopped (take at xs) s e.session (drop (suc at) xs) _ h.sound
     (by_some (e.session).cause c _ _ is (refl, refl))))
 
-quiet_acts : (held : Bytes) (s : ℕ) (x : Session) (eff : Effect) (st st' : State) → is_dry held ≡ true
-    → EndsQuietly held st s eff st' → EndedStep st s (record x { held = held; cause = None }) eff st'
-quiet_acts [] s x eff st st' dry m = (dry, m.0, m.1)
-quiet_acts (b ∷ bs) s x eff st st' dry m = (dry, m.0, m.1)
+quiet_acts : (hs : List HeldCursor) (d : Talk) (s : ℕ) (eff : Effect) (st st' : State) → is_dry d.held ≡ true
+    → EndsQuietly d st s eff st' → EndedStep st s (record (session_in hs s d) { cause = None }) eff st'
+quiet_acts hs d s eff st st' dry m = (dry, m.0, m.1)
 
 pub ended_now : (k new : Kept) (xs : List OpenSession) (at s : ℕ) (e : OpenSession) (d : Talk) (stopped : Bool)
     → Here k xs at s e → (e.session).cause ≡ None
     → is_dry (e.session).held ≡ true
-    → Performs (λ st i x eff st'. EndsQuietly (e.session).held st i eff st') false k e.session new d 0 0
+    → Performs (λ st i x eff st'. EndsQuietly e.session st i eff st') false k e.session new d 0 0
     → Makes (state_in k stopped xs) (ended s) (state_in new stopped (set xs at (record e { session = d })))
     × IsSound new (set xs at (record e { session = d }))
 ended_now k new xs at s e d stopped h running dry p = (
-  makes_by (λ st i x eff st'. EndsQuietly (e.session).held st i eff st') (ended s) k new xs at s e d stopped h p
+  makes_by (λ st i x eff st'. EndsQuietly e.session st i eff st') (ended s) k new xs at s e d stopped h p
       (λ eff st st' o m. same_session (session_of st s) (session_in k.cursors s e.session) _ o
       (subst (λ (x : Session). EndedStep st s x eff st')
       (ap (λ (c : Option EndCause). record (session_in k.cursors s e.session) { cause = c }) (sym running))
-      (quiet_acts (e.session).held s (session_in k.cursors s e.session) eff st st' dry m))),
+      (quiet_acts k.cursors e.session s eff st st' dry m))),
   still_sound k new xs at s e d h (p.sound (take at xs) (drop (suc at) xs) s h.sound),
 )
 
@@ -538,7 +537,7 @@ fresh_session hs s d f =
     }) f.cause f.cursors
     ∙ ap (λ (ws : List Bytes). record
     { id = s; held = []; pending = []; cause = None; cursors = []; watches = ws; batch = d.batch }) f.watches
-    ∙ ap (λ (b : Option (List HeldRow)). record
+    ∙ ap (λ (b : Option HeldTransaction). record
     { id = s; held = []; pending = []; cause = None; cursors = []; watches = []; batch = b }) f.batch
 
 pub opens : (k : Kept) (xs : List OpenSession) (s : ℕ) (d : Talk) (st : State) (stopped : Bool) → IsSound k xs

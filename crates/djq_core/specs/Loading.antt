@@ -1,11 +1,6 @@
 -- What loading lines stands on, while no session is open.
 use Rattle.std.specs.Prelude.{
-  List,
-  [],
-  ◌∷◌,
   ◌≡◌,
-  ◌++◌,
-  ◌⊎◌,
   Bool,
   true,
   false,
@@ -15,15 +10,20 @@ use Rattle.std.specs.Prelude.{
   Ok,
   Err,
   if◌then◌else◌,
+  ⊤,
 }
-use Rattle.djq_model.specs.Data.{Bytes}
+use Rattle.djq_model.specs.Data.{Bytes, Tuple}
 use Rattle.djq_protocol.specs.declared.answer.Refusal.{Refusal}
 use Rattle.djq_protocol.specs.declared.command.Command.{Command}
 use Rattle.djq_protocol.specs.declared.command.Command.TheVariants.{Batch}
-use Rattle.djq_protocol.specs.declared.held.HeldRow.{HeldRow}
+use Rattle.djq_protocol.specs.declared.held.Verb.{Verb}
+use Rattle.djq_protocol.specs.Conditions.{Answers, OutOfMemoryWhere}
+use Rattle.djq_store_spec.specs.Store.{Store}
+use Rattle.djq_store_spec.specs.Held.{HeldTransaction, holding}
+use Rattle.djq_store_spec.specs.Transaction.{hold_refusal}
 use Rattle.djq_protocol.specs.Grammar.{reading_of}
 use Rattle.djq_machine.specs.declared.machine.Loaded.{Loaded}
-use Rattle.djq_machine.specs.declared.machine.Loaded.TheVariants.{Ran, Refused, NoMem}
+use Rattle.djq_machine.specs.declared.machine.Loaded.TheVariants.{Ran, Refused}
 use Rattle.djq_machine.specs.Loading.{Loading, ReadingLoads, refused_by}
 use Rattle.djq_engine.specs.declared.cursor.CursorId.{CursorId}
 use Rattle.djq_engine.specs.Kept.{Kept, held_at, IsUnwatched}
@@ -45,18 +45,24 @@ is_batch Batch = true
 is_batch _ = false
 
 -- where loading has come to, by the engine and the batch that is open
-abbrev pub loading_by : Kept → Option (List HeldRow) → Loading
+abbrev pub loading_by : Kept → Option HeldTransaction → Loading
 loading_by k batch = record { store = k.store; batch = batch }
 
 -- A line is loaded, and nobody watches behind it either. Batches suit as before.
-pub record LoadsLine (line : Bytes) (how : Loaded) (old : Kept) (before : Option (List HeldRow)) (new : Kept)
-    (after : Option (List HeldRow)) : Type 0 where
+pub record LoadsLine (line : Bytes) (how : Loaded) (old : Kept) (before : Option HeldTransaction) (new : Kept)
+    (after : Option HeldTransaction) : Type 0 where
   pub loads : ReadingLoads (loading_by old before) line (reading_of line) how (loading_by new after)
   pub idle : IsUnused new
   pub suits : BatchSuits old.store before → BatchSuits new.store after
 
--- A row that was made is held behind the others, or nothing changes.
-abbrev pub LoadsRow : List HeldRow → Result HeldRow Refusal → Loaded → List HeldRow → Type 0
-LoadsRow old (Ok row) how new =
-    ((how ≡ Ran) × (new ≡ old ++ row ∷ [])) ⊎ ((how ≡ NoMem) × (new ≡ old))
-LoadsRow old (Err r) how new = (how ≡ refused_by r) × (new ≡ old)
+-- A loaded line is held after those of its batch, or all is as before.
+abbrev pub HeldAsLoaded : HeldTransaction → Bytes → Verb → Bytes → Tuple → Result ⊤ Refusal → HeldTransaction → Type 0
+HeldAsLoaded old line verb name row (Ok _) new = new ≡ holding old verb name row line
+HeldAsLoaded old line verb name row (Err r) new = new ≡ old
+
+-- A loaded line is held; or it isn't, by the first condition that holds, or out of memory.
+abbrev pub HoldsInBatch : Store → HeldTransaction → Bytes → Verb → Bytes → Tuple → Result ⊤ Refusal → HeldTransaction
+    → Type 0
+HoldsInBatch st old line verb name row result new =
+    Answers (hold_refusal st old line name row) result (λ _. ⊤) (OutOfMemoryWhere ⊤)
+    × HeldAsLoaded old line verb name row result new

@@ -1,6 +1,6 @@
 //! The join machine over one store of relations, queries and unions, for up to 64 sessions.
 //!
-//! [`Core`] keeps the store, the open sessions by rising id, and whether a session said `stop`.
+//! [`Core`] keeps the store, the open sessions by rising id, and whether a session sent `stop`.
 //! Each of its calls makes one step of the join machine, of which contracts see the state. It reads
 //! and sends nothing, and knows no time.
 //!

@@ -9,11 +9,12 @@ use bytes::BytesMut;
 use djq_commands::{Commit, Left, OpenSession, Queued, end_by, end_input, give_up, step_session};
 use djq_counters::{Ledgers, Steps};
 use djq_machine::{Fed, Machine, OpenRefusal};
-use djq_model::{Name, NoMem, Sequence, Value};
+use djq_model::{Name, NoMem, Value};
 use djq_protocol::limits::{COLUMNS, SESSIONS};
-use djq_protocol::{EndCause, EndLine, HeldRow};
+use djq_protocol::{EndCause, EndLine};
 use djq_session::Session;
 use djq_store::Store;
+use djq_transaction::Transaction;
 use std::alloc::Global;
 use std::marker::Model;
 
@@ -36,8 +37,8 @@ pub struct Core {
     // the lines that steps logged since the commit was cleared, and what was queued for one session since then
     commit: Commit,
     queued: Queued,
-    // the rows that the batch of the loaded lines holds, where one is open
-    batch: Option<Sequence<HeldRow>>,
+    // what the batch of the loaded lines holds, if one is open
+    batch: Option<Transaction>,
     // the values of the last row that was read, in memory that is used again
     row: Vec<Value>,
     alloc: Global,

@@ -1,3 +1,3 @@
-mod Alone
+pub mod Alone
 mod Packed
-mod Net
+pub mod Net

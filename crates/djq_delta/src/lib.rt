@@ -14,8 +14,9 @@
 //!
 //! Of a union, [`is_reported`] decides by the settled deltas of its members which answers it gained or lost.
 //!
-//! It lists no answers, and doesn't know its query: whoever lists the answers pushes the lines. The program doesn't use
-//! it yet; its deltas are logs of `djq_enumeration`, which this crate is to replace.
+//! It lists no answers, and doesn't know its query: whoever lists the answers pushes the lines. The program's deltas are
+//! logs of `djq_enumeration`, which are settled in the same way and by the lemmas of this crate; a [`Delta`] is to
+//! replace them.
 //!
 //! What surprises: lines of both signs are in another order once they are settled. The cells of a line that was dropped
 //! use memory until the delta is cleared, and the line still counts among those that were pushed.

@@ -8,8 +8,8 @@
 //! as changes   + ("a", 7) + ("a", 9) - ("a", 7)       settled    + ("a", 9)
 //! ```
 //!
-//! It has no code that runs, and no crate uses it yet. What surprises: different cells may be read as one tuple, as long
-//! as no two of the lines at hand have them.
+//! It has no code that runs. What surprises: different cells may be read as one tuple, as long as no two of the lines at
+//! hand have them.
 //!
 //! Inside, opposite lines are opposite changes, so the four facts of settled lines are those of changes.
 #![tactic(auto)]

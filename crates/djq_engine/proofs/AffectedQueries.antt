@@ -15,7 +15,7 @@ use Rattle.djq_enumeration.specs.declared.log.Line.{Line}
 use Rattle.djq_enumeration.specs.Log.{Log}
 use Rattle.djq_store_spec.specs.Changes.{RowsChange, accepted, out_of_memory, is_outdated}
 use Rattle.djq_store_spec.specs.Delta.{Change, IsDelta}
-use Rattle.djq_store_spec.specs.DeltaCost.{Delta, AreDeltas, ArePartsOf, delta_steps}
+use Rattle.djq_store_spec.specs.DeltaCost.{Delta, AreDeltas, ArePartsOf, ListsAnswers, ListsDelta, delta_steps}
 use Rattle.djq_live_query.specs.Live.{Live, IsShowable}
 use Rattle.djq_live_query.specs.Updating.{change_of}
 use Rattle.djq_live_query.specs.Cursors.{Progress, slot_at}
@@ -55,11 +55,18 @@ all_made P g (x ∷ xs) h (suc k) d l = all_made P g xs (λ i e. h i (step i (x 
 -- ---- the deltas
 
 -- a query has no parts
-no_parts : (before : List Relation) (change : RowsChange) (changes : List Change) (o : Option Live)
-    → ArePartsOf before change (record { query = query_in o; changes = changes; parts = [] })
-no_parts before change changes None = record { of_members = refl; are_deltas = λ k d low. absurd (omega (arith, low)) }
-no_parts before change changes (Some l) = record
-    { of_members = refl; are_deltas = λ k d low. absurd (omega (arith, low)) }
+no_parts : (before : List Relation) (change : RowsChange) (changes : List Change) (n : ℕ) (o : Option Live)
+    → ArePartsOf before change (record { query = query_in o; changes = changes; listed = n; parts = [] })
+no_parts before change changes n None = record {
+  of_members = refl;
+  are_deltas = λ k d low. absurd (omega (arith, low));
+  list = λ k d low. absurd (omega (arith, low));
+}
+no_parts before change changes n (Some l) = record {
+  of_members = refl;
+  are_deltas = λ k d low. absurd (omega (arith, low));
+  list = λ k d low. absurd (omega (arith, low));
+}
 
 -- the places of the queries that a change outdates, in order of registration
 abbrev pub outdated_places : List (Option Live) → List ℕ → RowsChange → List ℕ
@@ -92,47 +99,59 @@ module _ (c : Catalog) (gs : List (Option Live)) (order : List ℕ) (readers : L
   pub place_outdated : (i : ℕ) → There gs i → is_reader places i ≡ is_outdated change (query_in (place_at gs i))
   place_outdated i t = place_is i ∙ ap (λ b. b && is_outdated change (query_in (place_at gs i))) (ap is_some t.is)
 
-  abbrev delta_at : (ℕ → List Change) → ℕ → Delta
-  delta_at f i = record { query = query_in (place_at gs i); changes = f i; parts = [] }
+  abbrev delta_at : (ℕ → List Change) → (ℕ → ℕ) → ℕ → Delta
+  delta_at f n i = record { query = query_in (place_at gs i); changes = f i; listed = n i; parts = [] }
 
-  abbrev pub deltas_with : (ℕ → List Change) → List Delta
-  deltas_with f = map (delta_at f) watched
+  -- these changes of each, of which so many were listed
+  abbrev pub deltas_with : (ℕ → List Change) → (ℕ → ℕ) → List Delta
+  deltas_with f n = map (delta_at f n) watched
 
   -- deltas of the watched readers
   abbrev pub AreFor : (ℕ → List Change) → Type 0
   AreFor f = (i : ℕ) (l : Live) → is_reader places i ≡ true → watched_at ws i ≡ true → place_at gs i ≡ Some l
       → IsDelta (IsAnswer c.relations l.query) (IsAnswer change.after l.query) (f i)
 
+  -- so many were listed for them
+  abbrev pub AreListed : (ℕ → List Change) → (ℕ → ℕ) → Type 0
+  AreListed f n = (i : ℕ) (l : Live) → is_reader places i ≡ true → watched_at ws i ≡ true → place_at gs i ≡ Some l
+      → ListsAnswers c.relations change l.query (f i) (n i)
+
   reader_there : (i : ℕ) → is_reader places i ≡ true → There gs i
   reader_there i e = live_there gs i (and_parts (is_live gs i) _ (sym (place_is i) ∙ e)).0
 
-  pub listed_with : (f : ℕ → List Change) → AreFor f
+  pub listed_with : (f : ℕ → List Change) (n : ℕ → ℕ) → AreFor f → AreListed f n
       → AreDeltas c.relations change (map (λ r. r.query) (affected_of (registered_in gs ws order) change))
-      (deltas_with f)
-  listed_with f h = record {
+      (deltas_with f n)
+  listed_with f n h k = record {
     of_queries =
-        map_mapped (λ (d : Delta). d.query) (delta_at f) watched
+        map_mapped (λ (d : Delta). d.query) (delta_at f n) watched
         ∙ sym (map_mapped (λ (r : Registered). r.query) (query_registered_as gs ws) watched)
         ∙ ap (map (λ (r : Registered). r.query)) (sym affected_here);
     are_deltas = all_made (λ d. IsDelta (AnswersOf c.relations d.query) (AnswersOf change.after d.query) d.changes)
-        (delta_at f) watched (λ i e.
+        (delta_at f n) watched (λ i e.
         let b = and_parts (is_reader places i) (watched_at ws i) (sym (reader_filter (watched_at ws) places i) ∙ e) in
         let t = reader_there i b.0 in
         subst (λ (o : Option Live). IsDelta (AnswersOf c.relations (query_in o)) (AnswersOf change.after (query_in o))
         (f i)) (sym t.is) (h i t.query b.0 b.1 t.is));
-    have_parts = all_made (ArePartsOf c.relations change) (delta_at f) watched
-        (λ i e. no_parts c.relations change (f i) (place_at gs i));
+    have_parts = all_made (ArePartsOf c.relations change) (delta_at f n) watched
+        (λ i e. no_parts c.relations change (f i) (n i) (place_at gs i));
+    list = all_made (ListsDelta c.relations change) (delta_at f n) watched (λ i e.
+        let b = and_parts (is_reader places i) (watched_at ws i) (sym (reader_filter (watched_at ws) places i) ∙ e) in
+        let t = reader_there i b.0 in
+        subst (λ (o : Option Live). ListsDelta c.relations change
+        (record { query = query_in o; changes = f i; listed = n i; parts = [] })) (sym t.is)
+        (k i t.query b.0 b.1 t.is));
   }
 
   -- where a cost of each place is bounded, so is that of all
-  pub steps_by : (cost : ℕ → ℕ) (f : ℕ → List Change)
+  pub steps_by : (cost : ℕ → ℕ) (f : ℕ → List Change) (n : ℕ → ℕ)
       → ((i : ℕ) → is_reader places i ≡ true → watched_at ws i ≡ false → cost i ≡ 0)
-      → ((i : ℕ) → is_reader places i ≡ true → watched_at ws i ≡ true → cost i ≤ delta_steps change (delta_at f i))
-      → sum_by cost places ≤ sum_by (delta_steps change) (deltas_with f)
-  steps_by cost f none some = over places (λ i e. e)
+      → ((i : ℕ) → is_reader places i ≡ true → watched_at ws i ≡ true → cost i ≤ delta_steps change (delta_at f n i))
+      → sum_by cost places ≤ sum_by (delta_steps change) (deltas_with f n)
+  steps_by cost f n none some = over places (λ i e. e)
     where
       over : (xs : List ℕ) → ((i : ℕ) → is_reader xs i ≡ true → is_reader places i ≡ true)
-          → sum_by cost xs ≤ sum_by (delta_steps change) (map (delta_at f) (filter (watched_at ws) xs))
+          → sum_by cost xs ≤ sum_by (delta_steps change) (map (delta_at f n) (filter (watched_at ws) xs))
       over [] h = omega arith
       over (x ∷ xs) h = step (watched_at ws x) refl (over xs (λ i e. h i (behind i (x == i) e)))
         where
@@ -144,13 +163,13 @@ module _ (c : Catalog) (gs : List (Option Live)) (order : List ℕ) (readers : L
           behind i false e = e
 
           step : (b : Bool) → watched_at ws x ≡ b
-              → sum_by cost xs ≤ sum_by (delta_steps change) (map (delta_at f) (filter (watched_at ws) xs))
+              → sum_by cost xs ≤ sum_by (delta_steps change) (map (delta_at f n) (filter (watched_at ws) xs))
               → sum_by cost (x ∷ xs) ≤ sum_by (delta_steps change)
-              (map (delta_at f) (cond b (x ∷ filter (watched_at ws) xs) (filter (watched_at ws) xs)))
+              (map (delta_at f n) (cond b (x ∷ filter (watched_at ws) xs) (filter (watched_at ws) xs)))
           step true e more =
               let first = sum_by-cons cost x xs in
-              let second = sum_by-cons (delta_steps change) (delta_at f x)
-              (map (delta_at f) (filter (watched_at ws) xs)) in
+              let second = sum_by-cons (delta_steps change) (delta_at f n x)
+              (map (delta_at f n) (filter (watched_at ws) xs)) in
               let bound = some x here e in
               omega (arith, first, second, bound, more)
           step false e more =
@@ -163,17 +182,17 @@ module _ (c : Catalog) (gs : List (Option Live)) (order : List ℕ) (readers : L
       sym (map_mapped (λ (r : Registered). r.id) (query_registered_as gs ws) places)
       ∙ ap (map (λ (r : Registered). r.id)) (sym outdated_are)
 
-  pub logs_with : (f : ℕ → List Change) (new : Kept)
-      → ((i : ℕ) → is_reader places i ≡ true → LogTells new (query_registered_as gs ws i) (delta_at f i))
-      → LogsTell new (affected_of (registered_in gs ws order) change) (deltas_with f)
-  logs_with f new h =
-      subst (λ (rs : List Registered). LogsTell new rs (deltas_with f)) (sym affected_here)
+  pub logs_with : (f : ℕ → List Change) (n : ℕ → ℕ) (new : Kept)
+      → ((i : ℕ) → is_reader places i ≡ true → LogTells new (query_registered_as gs ws i) (delta_at f n i))
+      → LogsTell new (affected_of (registered_in gs ws order) change) (deltas_with f n)
+  logs_with f n new h =
+      subst (λ (rs : List Registered). LogsTell new rs (deltas_with f n)) (sym affected_here)
       (over watched (λ i e. h i
       (and_parts (is_reader places i) (watched_at ws i) (sym (reader_filter (watched_at ws) places i) ∙ e)).0))
     where
       over : (xs : List ℕ)
-          → ((i : ℕ) → is_reader xs i ≡ true → LogTells new (query_registered_as gs ws i) (delta_at f i))
-          → LogsTell new (registered_in gs ws xs) (map (delta_at f) xs)
+          → ((i : ℕ) → is_reader xs i ≡ true → LogTells new (query_registered_as gs ws i) (delta_at f n i))
+          → LogsTell new (registered_in gs ws xs) (map (delta_at f n) xs)
       over [] k = tt
       over (x ∷ xs) k = (
         k x (ap (λ b. b || is_reader xs x) (eq-eqb x x refl)),
@@ -232,9 +251,10 @@ module _ (c : Catalog) (gs : List (Option Live)) (order : List ℕ) (readers : L
         by_told None e = some_are i l there
         by_told (Some changes) e = h i l r w there changes e
 
-    pub told_by_log : (new : Kept) (i : ℕ) → LogTells new (query_registered_as gs ws i) (delta_at (told_changes new) i)
+    pub told_by_log : (new : Kept) (n : ℕ → ℕ) (i : ℕ)
+        → LogTells new (query_registered_as gs ws i) (delta_at (told_changes new) n i)
     unfolding told_changes told_or
-    told_by_log new i = by_told (told_at new (id_at i)) refl
+    told_by_log new n i = by_told (told_at new (id_at i)) refl
       where
         by_told : (o : Option (List Change)) → told_at new (id_at i) ≡ o
             → (told_at new (id_at i) ≡ None) ⊎ (told_at new (id_at i) ≡ Some (told_or i o))
@@ -278,12 +298,17 @@ pub record Discards (old : Parts) (reached : ℕ → Bool) (new : Parts) : Type 
 module _ (old : Parts) (s : EngineIsWhole old) (change : RowsChange) (places : List ℕ)
     (are : places ≡ outdated_places old.queries.items old.order change)
     (have : (i : ℕ) (l : Live) → place_at old.queries.items i ≡ Some l → (changes : List Change)
-    × IsDelta (IsAnswer (old.catalog).relations l.query) (IsAnswer change.after l.query) changes) (before now : ℕ)
+    × IsDelta (IsAnswer (old.catalog).relations l.query) (IsAnswer change.after l.query) changes)
+    (many : (ℕ → List Change) → ℕ → ℕ)
+    (lists : (f : ℕ → List Change)
+    → AreFor old.catalog old.queries.items old.order old.readers.items s old.watchers.items change places are f
+    → AreListed old.catalog old.queries.items old.order old.readers.items s old.watchers.items change places are f
+    (many f)) (before now : ℕ)
     (counts : (f : ℕ → List Change)
     → AreFor old.catalog old.queries.items old.order old.readers.items s old.watchers.items change places are f
     → now ≤ before + sum_by (delta_steps change)
     (deltas_with old.catalog old.queries.items old.order old.readers.items s old.watchers.items change places are
-    f)) where
+    f (many f))) where
   outdated_here : (i : ℕ) → There old.queries.items i → is_reader places i
       ≡ is_outdated change (query_in (place_at old.queries.items i))
   outdated_here = place_outdated old.catalog old.queries.items old.order old.readers.items s old.watchers.items change
@@ -301,9 +326,9 @@ module _ (old : Parts) (s : EngineIsWhole old) (change : RowsChange) (places : L
       old.readers.items s old.watchers.items change places are have i l there in
       record {
         deltas = deltas_with old.catalog old.queries.items old.order old.readers.items s old.watchers.items change
-            places are f;
+            places are f (many f);
         listed = listed_with old.catalog old.queries.items old.order old.readers.items s old.watchers.items change
-            places are f be;
+            places are f (many f) be (lists f be);
         counted = counts f be;
         affected = affected;
         logs = tt;
@@ -337,16 +362,16 @@ module _ (old : Parts) (s : EngineIsWhole old) (change : RowsChange) (places : L
       changes e) in
       record {
         deltas = deltas_with old.catalog old.queries.items old.order old.readers.items s old.watchers.items change
-            places are f;
+            places are f (many f);
         listed = listed_with old.catalog old.queries.items old.order old.readers.items s old.watchers.items change
-            places are f be;
+            places are f (many f) be (lists f be);
         counted = counts f be;
         affected = ap (map id_at) affected
             ∙ affected_with old.catalog old.queries.items old.order old.readers.items s old.watchers.items change places
             are;
         logs = logs_with old.catalog old.queries.items old.order old.readers.items s old.watchers.items change places
-            are f (kept_in new) (λ i r. told_by_log old.catalog old.queries.items old.order old.readers.items s
-            old.watchers.items change places are have (kept_in new) i);
+            are f (many f) (kept_in new) (λ i r. told_by_log old.catalog old.queries.items old.order
+            old.readers.items s old.watchers.items change places are have (kept_in new) (many f) i);
         discards = tt;
         stays = λ id h.
             let r = registered_has old.catalog old.queries.items old.order old.readers.items old.watchers.items s id

@@ -23,7 +23,6 @@ use Rattle.djq_database.specs.Catalog.{relation_at, counted_at, rows_at, Catalog
 use Rattle.djq_database.specs.Laws.{NamesTell}
 use Rattle.djq_store_spec.specs.Rows.{row_refusals, add_refusal, delete_refusal, AddsRow, AddsAs, DeletesRow, DeletesAs}
 use Rattle.djq_store_spec.specs.Rows.{copies_of, with_copies_of}
-use Rattle.djq_store_spec.specs.Batch.{suit_refusal}
 use Rattle.djq_store_spec.specs.Store.{Store}
 use Rattle.djq_store_spec.specs.Relations.{with_rows, LearnsFirst, RefusedByTexts}
 use Rattle.djq_store_spec.specs.Stale.{by_relation}
@@ -238,28 +237,12 @@ module _ (rs : List Relation) (name : Bytes) (row : Tuple) where
       by_limit (inl l) = inl (le-leb ROWS (length (rows_at rs at)) l)
       by_limit (inr l) = inr (le-leb LAST_SEQ seq (omega (arith, l)))
 
-      -- a row that isn't there has no place at a limit, and else it has
+      -- a row that isn't there has no place at a limit
       pub place_limited : has_row (rows_at rs at) row ≡ false → (ROWS ≤ length (rows_at rs at)) ⊎ (seq ≡ LAST_SEQ)
           → first_refusal (adding (counted_of rs name) seq) ≡ Some Limit
       place_limited e h =
           place_by false false (nat_le ROWS (length (rows_at rs at))) (nat_le LAST_SEQ seq) (none_yet e) e refl refl
           ∙ limits (nat_le ROWS (length (rows_at rs at))) (nat_le LAST_SEQ seq) (by_limit h)
-
-      pub place_passes : has_row (rows_at rs at) row ≡ false → length (rows_at rs at) < ROWS → seq < LAST_SEQ
-          → first_refusal (adding (counted_of rs name) seq) ≡ None
-      place_passes e l m = place_by false false false false (none_yet e) e (lt-leb ROWS (length (rows_at rs at)) l)
-          (lt-leb LAST_SEQ seq m)
-
-      -- one that is has a place where it has fewer copies than there may be
-      pub place_more : has_row (rows_at rs at) row ≡ true → copies_among (counted_at rs at) row < COPIES
-          → first_refusal (adding (counted_of rs name) seq) ≡ None
-      place_more e l = place_by false true (nat_le ROWS (length (rows_at rs at))) (nat_le LAST_SEQ seq)
-          (lt-leb COPIES (copies_among (counted_at rs at) row) l) e refl refl
-
-      pub place_most : COPIES ≤ copies_among (counted_at rs at) row → first_refusal (adding (counted_of rs name) seq)
-          ≡ Some Limit
-      place_most l = place_by true (has_row (rows_at rs at) row) (nat_le ROWS (length (rows_at rs at)))
-          (nat_le LAST_SEQ seq) (le-leb COPIES (copies_among (counted_at rs at) row) l) refl refl refl
 
       pub add_limited : has_row (rows_at rs at) row ≡ false → (ROWS ≤ length (rows_at rs at)) ⊎ (seq ≡ LAST_SEQ)
           → add_refusal (bare_store rs seq) name row ≡ Some Limit
@@ -303,24 +286,6 @@ module _ (rs : List Relation) (name : Bytes) (row : Tuple) where
       pub delete_several : (copies_among (counted_at rs at) row ≡ 1 → ⊥)
           → delete_refusal (bare_store rs seq) name row ≡ None
       delete_several d = delete_by false (nat_le LAST_SEQ seq) (apart (copies_among (counted_at rs at) row) 1 d) refl
-
--- a row that suits a relation that is found suits it in its place
-pub suits_here : (rs : List Relation) (seq : ℕ) (name : Bytes) (row : Tuple) (at : ℕ)
-    → suit_refusal (bare_store rs seq) name row ≡ None → at < length rs → (relation_at rs at).name ≡ name
-    → relation_of rs name ≡ Some (relation_at rs at) → RowSuits rs name row at
-suits_here rs seq name row at suit low named found = record {
-  below = low;
-  named = named;
-  found = found;
-  suits = by_tests (length row == length (relation_at rs at).types) (fits (relation_at rs at).types row)
-      (sym (by_parts rs name row (relation_at rs at) (length row == length (relation_at rs at).types)
-      (fits (relation_at rs at).types row) found refl refl) ∙ suit);
-}
-  where
-    by_tests : (a b : Bool) → cond (not a) (Some Arity) (cond (not b) (Some WrongType) None) ≡ None → b ≡ true
-    by_tests a true e = refl
-    by_tests true false e = absurd cc
-    by_tests false false e = absurd cc
 
 -- ---- What the machine says of rows that are added and deleted.
 

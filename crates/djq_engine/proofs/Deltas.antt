@@ -61,7 +61,8 @@ use Rattle.djq_engine.proofs.Logs.{query_alike_at, alike_same}
 use Rattle.djq_engine.proofs.Conditions.{counted_found}
 use Rattle.djq_engine.proofs.QueryPlaces.{filter_members, reader_filter, There, live_there, order_there}
 use Rattle.djq_engine.proofs.Catalogs.{reader_is, reader_reads}
-use Rattle.djq_engine.proofs.AffectedQueries.{outdated_places, AreFor, deltas_with, steps_by, ToldStay, Discards}
+use Rattle.djq_engine.proofs.AffectedQueries.{outdated_places, AreFor, AreListed, deltas_with, steps_by, ToldStay}
+use Rattle.djq_engine.proofs.AffectedQueries.{Discards}
 use Rattle.djq_engine.proofs.AffectedQueries.{refused_tells, accepted_tells}
 use Rattle.djq_engine.proofs.RegisteredQueries.{outdated_reads, registered_same}
 
@@ -95,13 +96,13 @@ atoms_of c at variables (a ∷ atoms) (m ∷ ms) h = step (m.relation == at) ref
 
 pub bound_steps : (c : Catalog) (at : ℕ) (l : Live) (changes : List Change) (after : List Relation) → IsKept c l
     → delta_bound l at changes ≤ delta_steps (one_change (relation_at c.relations at).name after)
-    (record { query = a_query l.query; changes = changes; parts = [] })
+    (record { query = a_query l.query; changes = changes; listed = length changes; parts = [] })
 bound_steps c at l changes after k =
     let fewer : atoms_over l at ≤ length
     (filter (λ a. bytes_eq a.relation (relation_at c.relations at).name) l.query.atoms) = atoms_of c at
     l.numbered.variables l.query.atoms l.numbered.atoms k.over.asked.atoms in
     mul-le (length changes + atoms_over l at) (most_steps (length l.query.head))
-    (length changes + length (filter (λ a. bytes_eq a.relation (relation_at c.relations at).name) l.query.atoms))
+    (length changes + length (filter (λ a. bytes_eq a.relation (relation_at c.relations at).name) l.query.atoms) + 0)
     (most_steps (length l.query.head)) (omega (arith, fewer)) (omega arith)
 
 -- ---- the parts of an engine
@@ -258,31 +259,44 @@ module _ (old : Parts) (s : EngineIsWhole old) (at : ℕ) (low : at < length (ol
       → (changes : List Change)
       × IsDelta (IsAnswer (old.catalog).relations l.query) (IsAnswer rs l.query) changes) after_is have
 
+  -- no others are listed than those that changed
+  many_one : (ℕ → List Change) → ℕ → ℕ
+  many_one f i = length (f i)
+
+  lists_one : (f : ℕ → List Change)
+      → AreFor old.catalog old.queries.items old.order old.readers.items s old.watchers.items one
+      (readers_at old.readers.items at) places_are f
+      → AreListed old.catalog old.queries.items old.order old.readers.items s old.watchers.items one
+      (readers_at old.readers.items at) places_are f (many_one f)
+  unfolding many_one
+  lists_one f h i l r w there = refl
+
   counts_one : (f : ℕ → List Change)
       → AreFor old.catalog old.queries.items old.order old.readers.items s old.watchers.items one
       (readers_at old.readers.items at) places_are f
       → now ≤ before + sum_by (delta_steps one)
       (deltas_with old.catalog old.queries.items old.order old.readers.items s old.watchers.items one
-      (readers_at old.readers.items at) places_are f)
+      (readers_at old.readers.items at) places_are f (many_one f))
+  unfolding many_one
   counts_one f h =
       let total = counts f (λ i l r w there. subst
       (λ (rs : List Relation). IsDelta (IsAnswer (old.catalog).relations l.query) (IsAnswer rs l.query) (f i))
       (sym after_is) (h i l r w there)) in
       let steps = steps_by old.catalog old.queries.items old.order old.readers.items s old.watchers.items one
       (readers_at old.readers.items at) places_are
-      (cost_at old.watchers.items old.queries.items at f) f
+      (cost_at old.watchers.items old.queries.items at f) f (many_one f)
       (λ i e w. ap (λ b. cond b (listing_cost at (f i) (place_at old.queries.items i)) 0) w)
       (λ i e w.
       let t = live_there old.queries.items i
       (and_parts (is_live old.queries.items i) _
       (sym (reader_is old.catalog old.queries.items old.order old.readers.items s at low i) ∙ e)).0 in
       let bound : listing_cost at (f i) (place_at old.queries.items i) ≤ delta_steps one
-      (record { query = query_in (place_at old.queries.items i); changes = f i; parts = [] }) =
+      (record { query = query_in (place_at old.queries.items i); changes = f i; listed = length (f i); parts = [] }) =
       subst (λ (o : Option Live). listing_cost at (f i) o ≤ delta_steps one
-      (record { query = query_in o; changes = f i; parts = [] })) (sym t.is)
+      (record { query = query_in o; changes = f i; listed = length (f i); parts = [] })) (sym t.is)
       (subst (λ (x : Bytes). delta_bound t.query at (f i) ≤ delta_steps
       (one_change x (with_rows (old.catalog).relations name rows))
-      (record { query = a_query t.query.query; changes = f i; parts = [] })) named
+      (record { query = a_query t.query.query; changes = f i; listed = length (f i); parts = [] })) named
       (bound_steps old.catalog at t.query (f i) (with_rows (old.catalog).relations name rows)
       (s.live i t.query t.is).kept)) in
       let cost : cost_at old.watchers.items old.queries.items at f i
@@ -295,7 +309,8 @@ module _ (old : Parts) (s : EngineIsWhole old) (at : ℕ) (low : at < length (ol
   pub tells_refused : (new : Parts) → (kept_in new).affected ≡ (kept_in old).affected
       → Discards old (reads_at old at) new → ToldStay old new
       → EngineTellsChange (kept_in old) (out_of_memory one) (kept_in new) before now
-  tells_refused = refused_tells old s one (readers_at old.readers.items at) places_are have_one before now counts_one
+  tells_refused = refused_tells old s one (readers_at old.readers.items at) places_are have_one many_one lists_one
+      before now counts_one
 
   -- where the change was accepted
   pub tells_done : (new : Parts)
@@ -308,7 +323,8 @@ module _ (old : Parts) (s : EngineIsWhole old) (at : ℕ) (low : at < length (ol
       → KeepsLogs (tells_at old at) old new → ToldStay old new
       → EngineTellsChange (kept_in old) (accepted one) (kept_in new) before now
   tells_done new tells =
-      accepted_tells old s one (readers_at old.readers.items at) places_are have_one before now counts_one new
+      accepted_tells old s one (readers_at old.readers.items at) places_are have_one many_one lists_one before
+      now counts_one new
       (λ i l r w there lost. subst
       (λ (rs : List Relation). IsDelta (IsAnswer (old.catalog).relations l.query) (IsAnswer rs l.query)
       (map (change_of (new.catalog).texts l) (log_at new.logs.items i).lines)) after_is (tells i l r w there lost))

@@ -13,7 +13,10 @@ pub mod Refusals
 pub mod AffectedQueries
 pub mod Deltas
 pub mod Costs
-pub mod RefusedBatches
-pub mod HeldRows
-pub mod PutRows
-pub mod Batches
+pub mod ReachedQueries
+pub mod GivenUp
+pub mod CarriedLines
+pub mod ChangedRows
+pub mod CountedLines
+pub mod TransactionCosts
+pub mod DoneTransactions

@@ -4,10 +4,8 @@ use Rattle.djq_model.specs.declared.relation.Relation.{Relation}
 use Rattle.djq_model.specs.Data.{Bytes, Tuple, relation_of, rows_of, has_row, copies_among}
 use Rattle.djq_model.specs.Typed.{fits}
 use Rattle.djq_protocol.specs.declared.limits.TheConstants.{ROWS, LAST_SEQ}
-use Rattle.djq_protocol.specs.declared.held.HeldRow.{HeldRow}
 use Rattle.djq_store_spec.specs.Store.{Store}
 use Rattle.djq_store_spec.specs.Rows.{delete_refusal}
-use Rattle.djq_store_spec.specs.Batch.{place_refusal}
 use Rattle.djq_database.specs.Cells.{HaveCells, cells_of}
 use Rattle.djq_database.specs.Catalog.{Catalog, relation_at, counted_at, rows_at}
 use Rattle.djq_database.specs.declared.relation_id.RelationId.{RelationId}
@@ -29,11 +27,6 @@ pub record MayCome (relations : List Relation) (name : Bytes) (row : Tuple) (seq
   pub relation : RowSuits relations name row at
   pub room : has_row (rows_at relations at) row ≡ false → length (rows_at relations at) < ROWS
   pub more : has_row (rows_at relations at) row ≡ false → seq < LAST_SEQ
-
--- A held row suits the relation at this place, and has its place there.
-pub record MayStand (relations : List Relation) (h : HeldRow) (seq : ℕ) (at : ℕ) : Type 0 where
-  pub relation : RowSuits relations h.relation h.row at
-  pub passes : place_refusal (bare_store relations seq) h ≡ None
 
 -- a row of which a copy may be deleted, by its cells
 pub record Deletion : Type 0 where

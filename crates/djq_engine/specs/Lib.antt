@@ -10,9 +10,9 @@ pub mod Changing
 pub mod Outdating
 pub mod Registering
 pub mod Watching
+pub mod Transacting
+pub mod Carrying
 pub mod Lending
 pub mod Laws
-pub mod Putting
-pub mod Taking
 pub mod Cursors
 pub mod Sizes

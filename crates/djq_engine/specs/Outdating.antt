@@ -1,18 +1,16 @@
 -- Queries whose cursors become stale by the first of several relations that they read.
-use Rattle.std.specs.Prelude.{ℕ, List, ◌≡◌, ◌<◌, Bool, true, false, Option, None, Some, if◌then◌else◌, length}
+use Rattle.std.specs.Prelude.{ℕ, List, ◌≡◌, ◌<◌, Bool, true, false, Option, None, Some, find, length}
 use Rattle.std.specs.List.{list_any}
 use Rattle.djq_model.specs.declared.relation.Relation.{Relation}
 use Rattle.djq_model.specs.Data.{Bytes}
 use Rattle.djq_model.specs.Listed.{Listed, a_query}
-use Rattle.djq_protocol.specs.declared.held.HeldRow.{HeldRow}
 use Rattle.djq_enumeration.specs.Log.{Log}
-use Rattle.djq_store_spec.specs.Stale.{by_relation}
-use Rattle.djq_store_spec.specs.Batch.{first_read}
+use Rattle.djq_store_spec.specs.Stale.{listed_reads}
+use Rattle.djq_store_spec.specs.Held.{HeldLine}
+use Rattle.djq_store_spec.specs.Transaction.{first_read}
 use Rattle.djq_database.specs.Catalog.{relation_at}
 use Rattle.djq_live_query.specs.Live.{Live}
 use Rattle.djq_live_query.specs.Updating.{IsEmpty}
-use Rattle.djq_reach.specs.declared.group.Group.{Group}
-use Rattle.djq_reach.specs.Grouping.{group_relations}
 use Rattle.djq_reach.specs.Places.{place_at, reads_place, is_reader, readers_at, log_at, AreOnce}
 use Rattle.djq_reach.specs.Reaching.{Ages}
 use Rattle.djq_engine.specs.declared.parts.Parts.{Parts}
@@ -43,18 +41,13 @@ pub record AgesAll (outdater : Listed → Option Bytes) (n : ℕ) (gs hs : List 
     pub long : length hs ≡ length gs
     pub each : (i : ℕ) → AgesAt outdater n (place_at gs i) (place_at hs i)
 
--- A test passes the relations of these groups, and no others.
-abbrev pub AreTested : List Relation → List Group → (Bytes → Bool) → Type 0
-AreTested relations groups test = (r : ℕ) → r < length relations
-    → test (relation_at relations r).name ≡ is_reader (group_relations groups) r
+-- the first of these relations that a query reads
+abbrev pub first_of_names : List Bytes → Listed → Option Bytes
+first_of_names names q = find (listed_reads q) names
 
--- the relation outdates the queries that read it, where it passes the test
-abbrev pub by_tested : (Bytes → Bool) → Bytes → Listed → Option Bytes
-by_tested test relation q = if test relation then by_relation relation q else None
-
--- whether the query in a place reads the relation of one of these rows
-abbrev pub reads_held : List HeldRow → Option Live → Bool
-reads_held held o = list_any (λ h. reads_place h.relation o) held
+-- whether the query in a place reads the relation of one of these lines
+abbrev pub reads_held : List HeldLine → Option Live → Bool
+reads_held held o = list_any (λ (h : HeldLine). reads_place h.relation o) held
 
 -- The logs in the places that pass are emptied, and no other changes.
 pub record ClearsLogs (passes : ℕ → Bool) (old new : List Log) : Type 0 where
@@ -62,9 +55,9 @@ pub record ClearsLogs (passes : ℕ → Bool) (old new : List Log) : Type 0 wher
   pub emptied : (i : ℕ) → passes i ≡ true → IsEmpty (log_at new i)
   pub others : (i : ℕ) → passes i ≡ false → log_at new i ≡ log_at old i
 
--- Out of memory: the logs of all queries that read the relation of one of these rows are emptied, and
+-- Out of memory: the logs of all queries that read the relation of one of these lines are emptied, and
 -- their open cursors become stale by the first of these relations that a query reads.
-pub record BatchGivesUp (held : List HeldRow) (old new : Parts) : Type 0 where
+pub record BatchGivesUp (held : List HeldLine) (old new : Parts) : Type 0 where
   pub logs : ClearsLogs (λ i. reads_held held (place_at old.queries.items i)) old.logs.items new.logs.items
   pub queries : AgesAll (first_read held (λ name. true)) old.seq old.queries.items new.queries.items
   pub catalog : new.catalog ≡ old.catalog

@@ -14,13 +14,16 @@ use Rattle.djq_protocol.specs.declared.answer.DeleteOutcome.TheVariants.{Last, L
 use Rattle.djq_protocol.specs.declared.answer.Refusal.{Refusal}
 use Rattle.djq_protocol.specs.declared.answer.Refusal.TheVariants.{NoMemory}
 use Rattle.djq_protocol.specs.declared.answer.Shape.TheVariants.{Flat}
-use Rattle.djq_protocol.specs.declared.held.HeldRow.{HeldRow}
+use Rattle.djq_protocol.specs.declared.held.DoneRefusal.{DoneRefusal}
+use Rattle.djq_protocol.specs.declared.held.DoneRefusal.TheVariants.{NoMemory as NoneLeft}
 use Rattle.djq_protocol.specs.declared.rest.QueryOutcome.{QueryOutcome}
 use Rattle.djq_protocol.specs.declared.rest.QueryOutcome.TheVariants.{Registered as HasRegistered}
 use Rattle.djq_store_spec.specs.Stale.{listed_reads}
 use Rattle.djq_store_spec.specs.Changes.{RowsChange, RowsOutcome, accepted, out_of_memory, unchanged, tried}
 use Rattle.djq_store_spec.specs.Changes.{is_outdated}
-use Rattle.djq_store_spec.specs.Batch.{rows_held}
+use Rattle.djq_store_spec.specs.Held.{HeldLine}
+use Rattle.djq_store_spec.specs.Lines.{lines_come}
+use Rattle.djq_store_spec.specs.Transaction.{has_inserted, has_deleted, lines_change}
 use Rattle.djq_store_spec.specs.Asking.{IsShapeOf}
 use Rattle.djq_store_spec.specs.DeltaCost.{Delta, ListsDeltas, deltas_steps}
 use Rattle.djq_engine.specs.declared.cursor.QueryId.{QueryId}
@@ -99,13 +102,17 @@ EnrolsTelling old q (Ok (HasRegistered most)) new = (new.affected ≡ old.affect
 EnrolsTelling old q _ new =
     (new.affected ≡ old.affected) × ((id : QueryId) → told_at new id ≡ told_at old id)
 
--- What an update of a query counts at most, where no leaf has more than n tuples before it: for each
--- atom over a relation that changes 16(m + v)(n + 1), with m atoms and v variables, holes counted in.
--- The updates of a union are its members'.
-abbrev pub update_steps : RowsChange → ℕ → Listed → ℕ
-update_steps change n (a_query q) = length (filter (λ a. change.touches a.relation) q.atoms)
+-- What updates of a query count at most if no leaf has more than n tuples before them: for each atom over a relation
+-- for which this holds 16(m + v)(n + 1), with m atoms and v variables, holes counted in. The updates of a union are its
+-- members'.
+abbrev pub atoms_steps : (Bytes → Bool) → ℕ → Listed → ℕ
+atoms_steps test n (a_query q) = length (filter (λ a. test a.relation) q.atoms)
     * (16 * ((length q.atoms + length (variables_of q.atoms)) * (n + 1)))
-update_steps change n (a_union name qs) = 0
+atoms_steps test n (a_union name qs) = 0
+
+-- what an update of a query counts at most, by the relations that change
+abbrev pub update_steps : RowsChange → ℕ → Listed → ℕ
+update_steps change n q = atoms_steps change.touches n q
 
 -- What an update of a flat query counts at most, whatever the rows: 16(m + v) for each such atom.
 abbrev pub flat_steps : RowsChange → Listed → ℕ
@@ -139,19 +146,23 @@ pub record CountsUpdates (times : ℕ) (old : Kept) (change : RowsChange) (befor
         + sum_by (λ r. bounded_steps change times n (as_flat r.query) r.query)
         (readers_of old.registered change)
 
--- how often, of a batch: where memory is refused, rows that were taken in are given back one by one
-abbrev pub batch_times : List HeldRow → Result ℕ Refusal → ℕ
-batch_times held (Ok n) = 1
-batch_times held (Err NoMemory) = length held + 2
-batch_times held (Err _) = 0
+-- What lines count at most of a query if no relation that it reads has more than n rows before: once for each atom over
+-- a relation of which rows are inserted, and once for each over one of which rows are deleted, each with as many rows
+-- more as are inserted in all. If memory is refused, rows that were inserted into queries are deleted again one by one.
+abbrev pub lines_steps : List Relation → List HeldLine → ℕ → Result ℕ DoneRefusal → Listed → ℕ
+lines_steps relations lines n (Ok count) q =
+    atoms_steps (has_inserted relations lines) (n + length (lines_come relations lines)) q
+    + atoms_steps (has_deleted relations lines) (n + length (lines_come relations lines)) q
+lines_steps relations lines n (Err NoneLeft) q = (length lines + 2)
+    * atoms_steps (has_inserted relations lines) (n + length (lines_come relations lines)) q
+lines_steps relations lines n (Err _) q = 0
 
--- A batch counts so many times at most what the updates of the queries do that read a relation of which
--- a row comes, each of them bounded by its rows and by as many more as the batch has.
-pub record CountsBatch (times : ℕ) (old : Kept) (held : List HeldRow) (before now : ℕ) : Type 0
+-- The lines of a transaction count at most what they do of each query that reads a relation which they change.
+pub record CountsLines (result : Result ℕ DoneRefusal) (old : Kept) (lines : List HeldLine) (before now : ℕ) : Type 0
   where
-    pub counted : (n : ℕ) → AreBounded old (rows_held old.store held) n (λ q. false) → now ≤ before
-        + sum_by (λ r. times * update_steps (rows_held old.store held) (n + length held) r.query)
-        (readers_of old.registered (rows_held old.store held))
+    pub counted : (n : ℕ) → AreBounded old (lines_change (old.store).relations lines) n (λ q. false)
+        → now ≤ before + sum_by (λ r. lines_steps (old.store).relations lines n result r.query)
+        (readers_of old.registered (lines_change (old.store).relations lines))
 
 -- how often: a further copy of a row reaches no query; where memory is refused, rows that were taken
 -- in are given back

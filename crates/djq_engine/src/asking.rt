@@ -17,7 +17,7 @@ use djq_reduct::Answer;
 use djq_tree::Lines;
 
 impl Engine {
-    /// A registered query. Its tables are those of its tree over the rows as they are: they say which
+    /// A registered query. Its tables are those of its tree over the rows as they are: they determine which
     /// tuples are its answers. Its cursors stand where those of the engine do.
     pub fn live(&self, id: QueryId) -> &LiveQuery
         requires { IsRegistered self.now id }

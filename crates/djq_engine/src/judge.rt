@@ -4,7 +4,6 @@ ghost use Rattle.djq_model.specs.Data.{has_row};
 ghost use Rattle.djq_model.specs.Typed.{fits};
 ghost use Rattle.djq_protocol.specs.Conditions.{first_refusal};
 ghost use Rattle.djq_store_spec.specs.Rows.{row_refusals, add_refusal, delete_refusal};
-ghost use Rattle.djq_store_spec.specs.Batch.{suit_refusal, place_refusal};
 ghost use Rattle.djq_database.specs.Catalog.{relation_at, rows_at};
 ghost use Rattle.djq_engine.specs.Judging.{bare_store, RowSuits, MayCome, JudgesDelete};
 
@@ -12,8 +11,8 @@ use djq_counters::Tally;
 use djq_database::{Catalog, RelationId};
 use djq_index::Cells;
 use djq_model::{Name, Value};
+use djq_protocol::Refusal;
 use djq_protocol::limits::{LAST_SEQ, ROWS};
-use djq_protocol::{HeldRow, Refusal};
 use std::sync::ledger::Ledger;
 
 /// The relation of a name, where a row suits its columns.
@@ -78,37 +77,6 @@ pub fn check_add<L: Ledger>(
         add_refusal (bare_store catalog.now.relations seq) name.now row.now ≡ Some r) }
 {
     let id = relation_for_row(catalog, name, row)?;
-    if catalog.row_count(id) < ROWS && seq != LAST_SEQ {
-        return Ok(id);
-    }
-    if !is_there(catalog, id, row, tally) {
-        return Err(Refusal::Limit);
-    }
-    Ok(id)
-}
-
-/// The relation of a held row that suits it, unless no row may come into it and this one isn't there. Its texts
-/// aside, the row has its place there unless it has as many copies as there may be.
-///
-/// # Errors
-///
-/// `Limit` where the row isn't there, and the relation or the number of changes is at its limit.
-pub fn check_held<L: Ledger>(
-    catalog: &Catalog,
-    held: &HeldRow,
-    seq: u64,
-    tally: &mut Tally<L>,
-) -> Result<RelationId, Refusal>
-    requires { suit_refusal (bare_store catalog.now.relations seq) held.now.relation held.now.row ≡ None }
-    ensures ok { IfOk result (λ id. MayCome catalog.now.relations held.now.relation held.now.row seq
-        id.at) }
-    ensures err { IfErr result (λ r.
-        place_refusal (bare_store catalog.now.relations seq) held.now ≡ Some r) }
-{
-    let row = held.row.as_slice();
-    let Some(id) = catalog.id(&held.relation) else {
-        unreachable!()
-    };
     if catalog.row_count(id) < ROWS && seq != LAST_SEQ {
         return Ok(id);
     }

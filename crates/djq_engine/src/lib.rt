@@ -6,8 +6,8 @@
 //! [`Engine::add`], [`Engine::done`], [`Engine::del`], [`Engine::query`] and
 //! [`Engine::drop_query`] change it, [`Engine::open`], [`Engine::next`], [`Engine::more`] and
 //! [`Engine::close`] serve cursors, and [`Engine::has`] and [`Engine::explain`] ask. Each is refused
-//! by the first condition that holds, or does what djq_machine says (`specs/Store.antt`, and of a
-//! batch `specs/Batch.antt`). Behind a change [`Engine::affected`] tells which queries read its
+//! by the first condition that holds, or does what djq_machine states (djq_store_spec, of a
+//! transaction `Transaction.antt`). Behind a change [`Engine::affected`] tells which queries read its
 //! relations, and [`Engine::delta_line`] the answers of each that came or went. Contracts see one
 //! record, `Kept` (`specs/Kept.antt`).
 //!
@@ -36,10 +36,10 @@
 //! Inside, `parts` has what is kept side by side, and each call is a few lines over it. A change of
 //! rows goes through `judge`, whether the row may come or go, which changes nothing; `change`, the
 //! catalog first; and djq_reach, the queries that read the relation, one after another. Where one of
-//! them finds no memory, those before it give the row back, and so does the catalog. A batch goes
-//! through `putting`, which judges its rows and puts them into the catalog one after another, and
-//! groups those that came by relation; djq_reach, group after group; and `outdating`, the cursors and
-//! the affected queries, once for all rows.
+//! them finds no memory, those before it give the row back, and so does the catalog. The lines of a
+//! transaction go through djq_transaction, which judges them and changes the catalog; djq_queries, the
+//! queries that read a relation of which rows are inserted or deleted; and `outdating`, the cursors and
+//! the affected queries, once for all lines.
 //!
 //! A read of a cursor is bounded by the head alone, since just the free-connex queries are
 //! registered (Bagan, Durand, Grandjean, *On acyclic conjunctive queries and constant delay
@@ -55,10 +55,11 @@ pub use djq_live_query::{LiveQuery, Next};
 pub use djq_reduct::{Answer, Cells};
 pub use engine::Engine;
 pub use lent::LentAnswer;
+pub use transaction::Changed;
 pub use watching::{WATCHERS, sign_of};
 
 mod asking;
-mod batch;
+mod carrying;
 mod change;
 mod cursor;
 mod engine;
@@ -67,9 +68,9 @@ mod lent;
 mod outdating;
 mod parts;
 mod places;
-mod putting;
 mod reading;
 mod registering;
 mod rows;
 mod sizes;
+mod transaction;
 mod watching;

@@ -1,24 +1,24 @@
-//! Queries that read relations of held rows: their logs and their cursors, where these rows change
+//! Queries that read relations of held lines: their logs and their cursors, where these rows change
 //! something or memory lacks for them.
-ghost use Rattle.std.specs.Prelude.{◌≡◌, ◌<◌, ◌≤◌, ◌==◌, ℕ, List, Option, Bool, true, All, IsSome};
+ghost use Rattle.std.specs.Prelude.{◌≡◌, ◌<◌, ◌≤◌, ℕ, List, Option, true, All, IsSome};
 ghost use Rattle.std.specs.Prelude.{length, filter, vec_capacity};
-ghost use Rattle.std.specs.List.{list_any};
-ghost use Rattle.djq_model.specs.Data.{Bytes, relation_of};
+ghost use Rattle.djq_model.specs.Data.{relation_of};
 ghost use Rattle.djq_store_spec.specs.Stale.{by_relation};
-ghost use Rattle.djq_store_spec.specs.Batch.{first_read};
+ghost use Rattle.djq_store_spec.specs.Transaction.{first_read};
 ghost use Rattle.djq_live_query.specs.Live.{Live};
 ghost use Rattle.djq_reach.specs.Places.{place_at, reads_place, is_reader, readers_at};
 ghost use Rattle.djq_reach.specs.Grouping.{reached};
+ghost use Rattle.djq_queries.specs.Changing.{touched};
 ghost use Rattle.djq_engine.specs.Outdating.{AreReaders, AgesAll, ClearsLogs, BatchGivesUp, reads_held};
-ghost use Rattle.djq_engine.specs.Outdating.{AreTested, by_tested};
+ghost use Rattle.djq_engine.specs.Outdating.{first_of_names};
 
 use crate::parts::Parts;
-use djq_database::{Catalog, RelationId};
+use djq_database::Catalog;
 use djq_enumeration::DeltaLog;
 use djq_live_query::LiveQuery;
 use djq_model::Name;
-use djq_protocol::HeldRow;
 use djq_reach::{Group, QueryPlaces, empty_logs, outdate};
+use djq_transaction::Transaction;
 
 /// The logs of all queries that read a relation are emptied.
 fn empty_readers(
@@ -42,24 +42,24 @@ fn empty_readers(
     }
 }
 
-/// The logs of all queries that read a relation of these rows are emptied.
+/// The logs of all queries that read a relation of these lines are emptied.
 fn empty_held(
     logs: &mut Vec<DeltaLog>,
     readers: &Vec<QueryPlaces>,
     catalog: &Catalog,
-    held: &[HeldRow],
+    held: &Transaction,
 )
     requires long { length readers.now.items ≡ length catalog.now.relations }
     requires logged { (r i : ℕ) → is_reader (readers_at readers.now.items r) i ≡ true
         → i < length logs.old.items }
-    requires found { All (λ h. IsSome (relation_of catalog.now.relations h.relation)) held.now }
+    requires found { All (λ h. IsSome (relation_of catalog.now.relations h.relation)) held.now.lines }
     ensures long { length logs.new.items ≡ length logs.old.items }
     ensures cleared { (gs : List (Option Live))
         → AreReaders catalog.now.relations readers.now.items gs
-        → ClearsLogs (λ i. reads_held held.now (place_at gs i)) logs.old.items logs.new.items }
+        → ClearsLogs (λ i. reads_held held.now.lines (place_at gs i)) logs.old.items logs.new.items }
 {
     for at in 0..held.len() {
-        empty_readers(logs, readers, catalog, &held[at].relation);
+        empty_readers(logs, readers, catalog, &held.relation(at));
     }
 }
 
@@ -81,73 +81,40 @@ fn outdate_named(
     }
 }
 
-/// The open cursors of all queries that read a relation of these rows become stale, by the first of
+/// The open cursors of all queries that read a relation of these lines become stale, by the first of
 /// these relations that a query reads.
 fn outdate_held(
     queries: &mut Vec<Option<LiveQuery>>,
     readers: &Vec<QueryPlaces>,
     catalog: &Catalog,
-    held: &[HeldRow],
+    held: &Transaction,
     seq: u64,
 )
     requires readers { AreReaders catalog.now.relations readers.now.items queries.old.items }
-    requires found { All (λ h. IsSome (relation_of catalog.now.relations h.relation)) held.now }
-    ensures { AgesAll (first_read held.now (λ name. true)) seq
+    requires found { All (λ h. IsSome (relation_of catalog.now.relations h.relation)) held.now.lines }
+    ensures { AgesAll (first_read held.now.lines (λ name. true)) seq
         queries.old.items queries.new.items }
 {
     for at in 0..held.len() {
-        outdate_named(queries, readers, catalog, &held[at].relation, seq);
+        outdate_named(queries, readers, catalog, &held.relation(at), seq);
     }
 }
 
-/// Whether rows of a relation are among these groups.
-fn has_group(groups: &[Group], relation: RelationId) -> bool
-    ensures { result ≡ list_any (λ g. g.relation.at == relation.at) groups.now }
-{
-    groups.iter().any(|group| group.relation.at == relation.at)
-}
-
-/// The open cursors of all queries that read a relation of the groups become stale by it; of another
-/// relation nothing becomes stale.
-fn outdate_grouped(
+/// The open cursors of all queries that read one of these relations become stale, by the first of
+/// them that a query reads.
+pub fn outdate_changed(
     queries: &mut Vec<Option<LiveQuery>>,
     readers: &Vec<QueryPlaces>,
     catalog: &Catalog,
-    relation: &Name,
-    groups: &[Group],
+    relations: &[Name],
     seq: u64,
 )
     requires readers { AreReaders catalog.now.relations readers.now.items queries.old.items }
-    requires found { IsSome (relation_of catalog.now.relations relation.now) }
-    ensures { (test : Bytes → Bool) → AreTested catalog.now.relations groups.now test
-        → AgesAll (by_tested test relation.now) seq queries.old.items queries.new.items }
+    requires found { All (λ name. IsSome (relation_of catalog.now.relations name)) relations.now }
+    ensures { AgesAll (first_of_names relations.now) seq queries.old.items queries.new.items }
 {
-    let Some(id) = catalog.id(relation) else {
-        unreachable!()
-    };
-    if has_group(groups, id) {
-        outdate(queries, readers[id.at].as_slice(), *relation, seq);
-    }
-}
-
-/// The open cursors of all queries that read a relation of the groups become stale, by the first of
-/// these relations among those of held rows.
-pub fn outdate_came(
-    queries: &mut Vec<Option<LiveQuery>>,
-    readers: &Vec<QueryPlaces>,
-    catalog: &Catalog,
-    held: &[HeldRow],
-    groups: &[Group],
-    seq: u64,
-)
-    requires readers { AreReaders catalog.now.relations readers.now.items queries.old.items }
-    requires found { All (λ h. IsSome (relation_of catalog.now.relations h.relation)) held.now }
-    requires tested { (test : Bytes → Bool) × AreTested catalog.now.relations groups.now test }
-    ensures { (test : Bytes → Bool) → AreTested catalog.now.relations groups.now test
-        → AgesAll (first_read held.now test) seq queries.old.items queries.new.items }
-{
-    for at in 0..held.len() {
-        outdate_grouped(queries, readers, catalog, &held[at].relation, groups, seq);
+    for at in 0..relations.len() {
+        outdate_named(queries, readers, catalog, &relations[at], seq);
     }
 }
 
@@ -171,22 +138,25 @@ fn is_reached(readers: &Vec<QueryPlaces>, groups: &[Group], place: usize) -> boo
     false
 }
 
-/// The queries that read a relation of the groups are the affected ones from now on, in this order.
+/// The queries that read a relation of the groups that come or of those that go are the affected ones
+/// from now on, in this order.
 pub fn affect_reached(
     affected: &mut Vec<usize>,
     order: &[usize],
     readers: &Vec<QueryPlaces>,
-    groups: &[Group],
+    come: &[Group],
+    gone: &[Group],
 )
-    requires within { All (λ g. g.relation.at < length readers.now.items) groups.now }
+    requires come { All (λ g. g.relation.at < length readers.now.items) come.now }
+    requires gone { All (λ g. g.relation.at < length readers.now.items) gone.now }
     requires room { length order.now ≤ vec_capacity affected.old }
     ensures items { affected.new.items
-        ≡ filter (is_reader (reached readers.now.items groups.now)) order.now }
+        ≡ filter (is_reader (touched readers.now.items come.now gone.now)) order.now }
     ensures room { vec_capacity affected.old ≤ vec_capacity affected.new }
 {
     affected.clear();
     for nth in 0..order.len() {
-        if is_reached(readers, groups, order[nth]) {
+        if is_reached(readers, come, order[nth]) || is_reached(readers, gone, order[nth]) {
             affected.push_reserved(order[nth]);
         }
     }
@@ -194,14 +164,14 @@ pub fn affect_reached(
 
 /// Memory lacks for these rows: of the queries that read a relation of them nothing is told, and their
 /// open cursors become stale, by a change of the present number.
-pub fn give_up(parts: &mut Parts, held: &[HeldRow])
+pub fn give_up(parts: &mut Parts, held: &Transaction)
     requires readers { AreReaders parts.old.catalog.relations parts.old.readers.items
         parts.old.queries.items }
     requires logged { (r i : ℕ) → is_reader (readers_at parts.old.readers.items r) i ≡ true
         → i < length parts.old.logs.items }
     requires found { All (λ h. IsSome (relation_of parts.old.catalog.relations h.relation))
-        held.now }
-    ensures { BatchGivesUp held.now parts.old parts.new }
+        held.now.lines }
+    ensures { BatchGivesUp held.now.lines parts.old parts.new }
 {
     empty_held(&mut parts.logs, &parts.readers, &parts.catalog, held);
     let seq = parts.seq;

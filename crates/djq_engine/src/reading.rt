@@ -104,7 +104,7 @@ impl Engine {
         close_at(&mut self.parts.queries, id.query.at, id.cursor);
     }
 
-    /// Reads an open cursor: gives a further answer, or says that none is left, or what made it
+    /// Reads an open cursor: gives a further answer, or reports that none is left, or what made it
     /// stale. It takes no memory.
     pub fn next<L: Ledgers>(
         &mut self,

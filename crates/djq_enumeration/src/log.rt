@@ -1,5 +1,11 @@
-ghost use Rattle.std.specs.Prelude.{◌≡◌, [], ◌∷◌, ◌++◌, true, false, length};
+ghost use Rattle.std.specs.Prelude.{◌≡◌, ◌≤◌, ◌↔◌, ◌⊎◌, [], ◌∷◌, ◌++◌, true, false, not, length, take};
+ghost use Rattle.std.specs.Prelude.{All, Any, IsTrue};
 ghost use Rattle.std.specs.Bool.{OnTrue, OnFalse};
+ghost use Rattle.std.specs.Ordering.{nat_cmp};
+ghost use Rattle.std.specs.Cmp.Lexicographic.{slice_cmp};
+ghost use Rattle.std.specs.List.Sorted.{IsPermutation, IsSortedByKey};
+ghost use Rattle.djq_delta.specs.Lines.{AreDistinctLines, HaveOneSign, SettlesTo};
+ghost use Rattle.djq_enumeration.specs.Log.{signed_lines};
 
 use djq_reduct::Answer;
 use std::alloc::Global;
@@ -31,6 +37,79 @@ fn push_line(lines: &mut Vec<Line>, came: bool, answer: &Answer) -> bool
 {
     let answer = answer.copy();
     lines.push(Line { came, answer }).is_ok()
+}
+
+/// Whether one of the lines has this sign.
+fn one_has_sign(lines: &[Line], came: bool) -> bool
+    ensures some { result ≡ true → Any (λ l. l.came ≡ came) lines.now }
+    ensures none { result ≡ false → All (λ l. l.came ≡ not came) lines.now }
+{
+    lines.iter().any(|line| line.came == came)
+}
+
+/// Whether all answers were added, or all of them removed.
+fn are_one_way(lines: &[Line]) -> bool
+    ensures { IsTrue result ↔ (All (λ l. l.came ≡ true) lines.now ⊎ All (λ l. l.came ≡ false) lines.now) }
+{
+    !(one_has_sign(lines, true) && one_has_sign(lines, false))
+}
+
+/// Whether two lines are of the same answer.
+fn have_same_answer(one: &Line, other: &Line) -> bool
+    ensures { IsTrue result ↔ (one.now.answer ≡ other.now.answer) }
+{
+    one.answer.as_slice() == other.answer.as_slice()
+}
+
+/// Sorts lines by the cells of their answers. It allocates nothing.
+fn sort_by_answer(lines: &mut [Line])
+    ensures permutation { IsPermutation lines.old lines.new }
+    ensures sorted { IsSortedByKey (λ l. l.answer) (slice_cmp nat_cmp) lines.new }
+{
+    lines.sort_unstable_by(|one, other| one.answer.as_slice().cmp(other.answer.as_slice()));
+}
+
+/// Of lines that are sorted by answer, drops each pair of opposites: moves those that remain to the front, and
+/// returns how many these are.
+fn drop_opposite_lines(lines: &mut [Line]) -> usize
+    requires distinct { AreDistinctLines (signed_lines lines.old) }
+    requires sorted { IsSortedByKey (λ l. l.answer) (slice_cmp nat_cmp) lines.old }
+    ensures settled { SettlesTo (signed_lines lines.old) (signed_lines (take result lines.new)) }
+    ensures fewer { result ≤ length lines.old }
+    ensures long { length lines.new ≡ length lines.old }
+{
+    let mut remaining = 0;
+    for at in 0..lines.len() {
+        if remaining > 0 && have_same_answer(&lines[remaining - 1], &lines[at]) {
+            remaining -= 1;
+        } else {
+            lines.swap(remaining, at);
+            remaining += 1;
+        }
+    }
+    remaining
+}
+
+/// Drops lines that cancel out: moves those that remain to the front, and returns how many these are.
+fn settle_lines(lines: &mut [Line]) -> usize
+    requires { AreDistinctLines (signed_lines lines.old) }
+    ensures settled { SettlesTo (signed_lines lines.old) (signed_lines (take result lines.new)) }
+    ensures fewer { result ≤ length lines.old }
+    ensures long { length lines.new ≡ length lines.old }
+{
+    sort_by_answer(lines);
+    drop_opposite_lines(lines)
+}
+
+/// Drops those of the first lines that cancel out, and returns how many of these remain. They are in front.
+fn settle_first(lines: &mut [Line], len: usize) -> usize
+    requires within { len ≤ length lines.old }
+    requires distinct { AreDistinctLines (signed_lines (take len lines.old)) }
+    ensures settled { SettlesTo (signed_lines (take len lines.old)) (signed_lines (take result lines.new)) }
+    ensures fewer { result ≤ len }
+    ensures long { length lines.new ≡ length lines.old }
+{
+    settle_lines(&mut lines[..len])
 }
 
 /// What a change of the answers is, line by line, or that it was lost for want of memory.
@@ -111,6 +190,22 @@ impl DeltaLog {
     {
         self.len = 0;
         self.lost = true;
+    }
+
+    /// Drops the lines that cancel out: those stay whose opposite isn't among them.
+    ///
+    /// It allocates nothing. If all answers were added, or all removed, nothing changes; else the lines are sorted
+    /// by their answers' cells, in time proportional to k log k for k lines.
+    pub fn settle(&mut self)
+        requires { AreDistinctLines (signed_lines self.old.lines) }
+        ensures settled { SettlesTo (signed_lines self.old.lines) (signed_lines self.new.lines) }
+        ensures one_way { HaveOneSign (signed_lines self.old.lines) → self.new ≡ self.old }
+        ensures fewer { length self.new.lines ≤ length self.old.lines }
+        ensures lost { self.new.lost ≡ self.old.lost }
+    {
+        if !are_one_way(self.lines()) {
+            self.len = settle_first(&mut self.lines, self.len);
+        }
     }
 
     /// Takes all lines out, to begin anew.

@@ -30,25 +30,30 @@ const PROBED: [&[u8]; 4] = [
     b"1< ok removed 1 1\n1< ok removed 2 0\n1< ok absent 2\n",
 ];
 
-/// A line that is logged, and a batch of two rows.
-const BATCH: &[u8] =
-    b"open 1\nsay 1 rel r int\nsay 1 batch\nsay 1 add r 7\nsay 1 add r 8\nsay 1 done\n";
+/// Two lines that are logged, and a transaction that deletes a row and inserts another.
+const TRANSACTION: &[u8] =
+    b"open 1\nsay 1 rel r int\nsay 1 add r 7\nsay 1 batch\nsay 1 del r 7\nsay 1 add r 8\nsay 1 done 2\n";
 
 /// What they are answered.
-const BATCH_LINES: &[u8] = b"1< ok\n1< ok batch\n1< ok held 1\n1< ok held 2\n1< ok done 1 2\n";
+const TRANSACTION_LINES: &[u8] =
+    b"1< ok\n1< ok added 1 1\n1< ok batch\n1< ok held 1\n1< ok held 2\n1< ok done 2 2\n";
 
-/// The file after them.
-const BATCH_FILE: &[u8] =
-    b"DJQLOG2\n\xff\0\0\0\0\0\0\x0b\x0b\x0d\x9d\xc8k\xd0\x8e\x7fn\0\x09rel r int\xff\0\0\0\0\0\0\x1f\x1f\xff\xa6\x9d\xc1 \xa8v\xc0\0\x05batch\0\x07add r 7\0\x07add r 8\0\x04done\0";
+/// The file after them. Of `done` its number isn't logged.
+const TRANSACTION_FILE: &[u8] =
+    b"DJQLOG2\n\xff\0\0\0\0\0\0\x0b\x0b\x0d\x9d\xc8k\xd0\x8e\x7fn\0\x09rel r int\xff\0\0\0\0\0\0\x09\x09W\x19\xfa\xf5\xab\xdf\xbfg\0\x07add r 7\xff\0\0\0\0\0\0\x1f\x1fG}\xcb\xe8.\xdcp\x1a\0\x05batch\0\x07del r 7\0\x07add r 8\0\x04done\0";
 
-/// Lines whose answers tell which of them were found: none, the first, or all.
-const BATCH_PROBE: &[u8] = b"open 1\nsay 1 del r 7\nsay 1 del r 8\n";
+/// Where the record of the transaction begins, with its gate.
+const TRANSACTION_PLACE: usize = 62;
+
+/// Lines whose answers say which of them were found: none, the first, the first two, or all.
+const TRANSACTION_PROBE: &[u8] = b"open 1\nsay 1 del r 7\nsay 1 del r 8\n";
 
 /// These answers.
-const BATCH_PROBED: [&[u8]; 3] = [
+const TRANSACTION_PROBED: [&[u8]; 4] = [
     b"1< err 3 no relation\n1< err 3 no relation\n",
     b"1< ok absent 0\n1< ok absent 0\n",
-    b"1< ok removed 2 0\n1< ok removed 3 0\n",
+    b"1< ok removed 2 0\n1< ok absent 2\n",
+    b"1< ok absent 2\n1< ok removed 3 0\n",
 ];
 
 /// Replays a schedule with the log on the disk, and gives the status and what was written.
@@ -168,17 +173,20 @@ fn first_loss(
     Ok(None)
 }
 
-/// A crash leaves both rows of a batch or none.
+/// A crash leaves both lines of a transaction done or none: never is the one row deleted and the other missing.
 #[test]
-fn a_crash_at_each_call_leaves_whole_batches(rt: HostRuntime) -> Result<(), Fail> {
+fn a_crash_at_each_call_leaves_whole_transactions(rt: HostRuntime) -> Result<(), Fail> {
     let mut disk = MemDisk::of(rt.alloc(), b"")?;
-    let (status, lines) = replay_logged(&rt, &mut disk, BATCH)?;
+    let (status, lines) = replay_logged(&rt, &mut disk, TRANSACTION)?;
     assert_eq!(rt; status, Status::Done);
-    assert_eq!(rt; lines.as_slice(), BATCH_LINES);
-    assert_eq!(rt; disk.bytes(), BATCH_FILE);
+    assert_eq!(rt; lines.as_slice(), TRANSACTION_LINES);
+    assert_eq!(rt; disk.bytes(), TRANSACTION_FILE);
     let calls = disk.calls().ok_or("the record is lost")?;
-    assert!(rt; syncs(calls) == 6);
-    assert_eq!(rt; first_loss(&rt, calls, BATCH_PROBE, &BATCH_PROBED)?, None);
+    assert!(rt; syncs(calls) == 8);
+    assert_eq!(rt;
+        first_loss(&rt, calls, TRANSACTION_PROBE, &TRANSACTION_PROBED)?,
+        None
+    );
     Ok(())
 }
 
@@ -254,20 +262,20 @@ fn a_log_of_the_first_format_goes_on(rt: HostRuntime) -> Result<(), Fail> {
     Ok(())
 }
 
-/// A byte of the second record that changed is seen, at the record's gate; and its gate, once closed, ends the log.
+/// A byte of the last record that changed is seen, at the record's gate; and its gate, once closed, ends the log.
 #[test]
 fn a_changed_byte_is_seen(rt: HostRuntime) -> Result<(), Fail> {
-    for place in 36..BATCH_FILE.len().saturating_sub(1) {
-        let mut bytes = BATCH_FILE.to_vec(rt.alloc())?;
+    for place in TRANSACTION_PLACE..TRANSACTION_FILE.len().saturating_sub(1) {
+        let mut bytes = TRANSACTION_FILE.to_vec(rt.alloc())?;
         if let Some(byte) = bytes.get_mut(place) {
             *byte ^= 255;
         }
         let mut disk = MemDisk::of(rt.alloc(), &bytes)?;
-        let (status, _) = replay_logged(&rt, &mut disk, BATCH_PROBE)?;
-        let seen = if place == 36 {
+        let (status, _) = replay_logged(&rt, &mut disk, TRANSACTION_PROBE)?;
+        let seen = if place == TRANSACTION_PLACE {
             Status::Done
         } else {
-            Status::BadLog(36)
+            Status::BadLog(TRANSACTION_PLACE as u64)
         };
         assert!(rt; status == seen, "at {place}");
     }

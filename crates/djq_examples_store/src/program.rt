@@ -70,6 +70,14 @@ fn answers_line_by_line_however_the_input_is_cut(rt: HostRuntime) -> Result<(), 
         (b"".as_slice(), b"".as_slice()),
         (b"\n\n   \n", b""),
         (b"rel r int\nadd r 1", b"ok\nerr 13 cut\n"),
+        (
+            b"rel r int\nbatch\nadd r 1\n",
+            b"ok\nok batch\nok held 1\nerr 18 batch\n",
+        ),
+        (
+            b"rel r int\nbatch\nadd r 1\ndone",
+            b"ok\nok batch\nok held 1\nerr 13 cut\nerr 18 batch\n",
+        ),
         (b"rel r int\nquit\nadd r 1\n", b"ok\nbye\n"),
         (b"rel r int\nstop\nadd r 1", b"ok\nbye\n"),
         (

@@ -30,6 +30,8 @@ pub enum Move {
     Commits(&'static [u8]),
     /// It is told this, which it takes.
     IsTold(&'static [u8]),
+    /// One of these is pending for it, and it takes it: the lines of a delta come in any order.
+    TakesEither(&'static [u8], &'static [u8]),
     /// It is told this last.
     IsLast(&'static [u8]),
     /// More bytes than these are pending for it.
@@ -135,13 +137,13 @@ fn say<L: Ledgers>(core: &mut Core, steps: &mut Steps<L>, id: u64, text: &[u8], 
     true
 }
 
-/// Whether a session is told this, which is then taken.
-fn is_told(core: &mut Core, id: u64, want: &[u8]) -> bool {
+/// Whether one of these texts is pending for a session. What is pending is then taken.
+fn takes_either(core: &mut Core, id: u64, one: &[u8], other: &[u8]) -> bool {
     if !is_open(core, id) {
         return false;
     }
     let text = core.pending(id);
-    let right = text == want;
+    let right = text == one || text == other;
     let count = text.len();
     core.took(id, count);
     right
@@ -195,7 +197,8 @@ fn goes<L: Ledgers>(core: &mut Core, steps: &mut Steps<L>, id: u64, step: &Move)
         Move::Says(text) => say(core, steps, id, text, 100),
         Move::Steps(text) => say(core, steps, id, text, 1),
         Move::Commits(text) => commit(core, steps, id, text),
-        Move::IsTold(text) => is_told(core, id, text),
+        Move::IsTold(text) => takes_either(core, id, text, text),
+        Move::TakesEither(one, other) => takes_either(core, id, one, other),
         Move::IsLast(text) => is_last(core, id, text),
         Move::HasMore(count) => has_more(core, id, *count),
         Move::Ended(cause) => has_ended(core, id, *cause),

@@ -88,3 +88,19 @@ fn logs_lines_in_order(rt: HostRuntime) -> Result<(), Fail> {
     assert!(rt; log.lines().is_empty());
     Ok(())
 }
+
+/// An answer that one change adds and removes is no change.
+#[test]
+fn drops_an_answer_with_both_signs(rt: HostRuntime) {
+    let mut log = DeltaLog::new(rt.alloc());
+    let mut answer = Answer::new(1);
+    answer.set(0, 5);
+    log.push(true, &answer);
+    log.push(false, &answer);
+    answer.set(0, 7);
+    log.push(false, &answer);
+    assert!(rt; !log.lost());
+    log.settle();
+    assert!(rt; log.lines().len() == 1);
+    assert!(rt; !log.lines()[0].came && log.lines()[0].answer.as_slice() == [7].as_slice());
+}

@@ -77,7 +77,7 @@ fn put<L: Ledger>(table: &mut Table, tuple: &[u64], tally: &mut Tally<L>) -> boo
     }
 }
 
-/// Takes a tuple out, and says whether it was there.
+/// Removes a tuple, and returns whether it was there.
 fn take<L: Ledger>(table: &mut Table, tuple: &[u64], tally: &mut Tally<L>) -> bool {
     match table.find(tuple, tally) {
         None => false,
@@ -88,7 +88,7 @@ fn take<L: Ledger>(table: &mut Table, tuple: &[u64], tally: &mut Tally<L>) -> bo
     }
 }
 
-/// Touches a tuple that is there without a mark, and says whether it was.
+/// Touches a tuple that is there without a mark, and returns whether it was.
 fn touch<L: Ledger>(table: &mut Table, tuple: &[u64], tally: &mut Tally<L>) -> bool {
     match table.find(tuple, tally) {
         None => false,
@@ -102,7 +102,7 @@ fn touch<L: Ledger>(table: &mut Table, tuple: &[u64], tally: &mut Tally<L>) -> b
     }
 }
 
-/// Gives a tuple one support more, and says how many it has then.
+/// Gives a tuple one support more, and returns how many it has then.
 fn raise<L: Ledger>(table: &mut Table, tuple: &[u64], tally: &mut Tally<L>) -> Option<u32> {
     let place = table.find(tuple, tally)?;
     if table.supports(place) == u32::MAX {
@@ -113,7 +113,7 @@ fn raise<L: Ledger>(table: &mut Table, tuple: &[u64], tally: &mut Tally<L>) -> O
     Some(table.supports(place))
 }
 
-/// Takes one support of a tuple away, and says how many it has then.
+/// Removes one support of a tuple, and returns how many it has then.
 fn lower<L: Ledger>(table: &mut Table, tuple: &[u64], tally: &mut Tally<L>) -> Option<u32> {
     let place = table.find(tuple, tally)?;
     if table.supports(place) == 0 {

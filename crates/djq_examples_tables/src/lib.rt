@@ -1,5 +1,5 @@
 //! Examples of each public call of the tables: arenas, indexed tables, texts, rows, reducts and their
-//! updates, cursors, and queries by number.
+//! updates, cursors, queries by number, and transactions.
 //!
 //! The tests of these libraries stand here, one module for each library, so that no library is proved
 //! a second time for its tests. They use what any crate above may use, and nothing else.
@@ -11,8 +11,8 @@
 //! What this crate is not: it has no function of its own. What surprises: without its tests it is
 //! empty.
 //!
-//! Inside, `arena`, `index`, `dict`, `texts`, `rows`, `reduct`, `propagate`, `cursor`, `delta`, `query`
-//! and `slots` test the library of that name.
+//! Inside, `arena`, `index`, `dict`, `texts`, `rows`, `reduct`, `propagate`, `cursor`, `delta`, `query`,
+//! `slots` and `transaction` test the library of that name.
 #![tactic(auto)]
 
 #[cfg(test)]
@@ -37,3 +37,5 @@ mod rows;
 mod slots;
 #[cfg(test)]
 mod texts;
+#[cfg(test)]
+mod transaction;

@@ -97,7 +97,7 @@ fn has_marked<L: Ledger>(
     }
 }
 
-/// Puts two tuples of one cell into a leaf at once; says whether both were marked before the update's end.
+/// Puts two tuples of one cell into a leaf at once; returns whether both were marked before the update's end.
 fn put_both<L: Ledger>(
     alloc: Global,
     reducts: &mut Reducts,
@@ -134,7 +134,7 @@ fn put_both<L: Ledger>(
     Ok(one && other)
 }
 
-/// Takes a tuple out of a leaf; says whether it was there.
+/// Removes a tuple from a leaf; returns whether it was there.
 fn take<L: Ledger>(reducts: &mut Reducts, leaf: usize, tuple: &[u64], tally: &mut Tally<L>) -> bool
     requires { IsBare reducts.old.tables }
     ensures { IsBare reducts.new.tables }
@@ -152,7 +152,7 @@ fn take<L: Ledger>(reducts: &mut Reducts, leaf: usize, tuple: &[u64], tally: &mu
     }
 }
 
-/// Marks a tuple of a leaf for a removal of many; says whether it was there.
+/// Marks a tuple of a leaf for a removal of many; returns whether it was there.
 fn mark<L: Ledger>(reducts: &mut Reducts, leaf: usize, tuple: &[u64], tally: &mut Tally<L>) -> bool
     requires leaf { leaf < reducts.old.tree.leaves }
     requires within { leaf < length reducts.old.tree.nodes }
@@ -169,7 +169,7 @@ fn mark<L: Ledger>(reducts: &mut Reducts, leaf: usize, tuple: &[u64], tally: &mu
     }
 }
 
-/// Takes two tuples of one cell out of a leaf at once; says whether both were there.
+/// Removes two tuples of one cell from a leaf at once; returns whether both were there.
 fn take_both<L: Ledger>(
     reducts: &mut Reducts,
     leaf: usize,

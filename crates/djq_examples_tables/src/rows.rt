@@ -177,7 +177,7 @@ fn keep_rows<L: Ledger>(
     })
 }
 
-/// Makes as many relations as there may be, and says how many stand at their places.
+/// Makes as many relations as there may be, and returns how many have their places.
 fn make_many(alloc: Global, catalog: &mut Catalog) -> Result<usize, Fail> {
     let mut right = 0;
     for number in 0..256u16 {

@@ -20,7 +20,7 @@ fn refuses_what_may_not_come(rt: HostRuntime) {
 
 #[test]
 fn knows_the_forms(rt: HostRuntime) {
-    let forms: [&[u8]; 20] = [
+    let forms: [&[u8]; 22] = [
         b"=",
         b"= -9223372036854775808 \"\\\"\\n\"",
         b"ok added 7 2",
@@ -41,6 +41,8 @@ fn knows_the_forms(rt: HostRuntime) {
         b"union",
         b"m a",
         b"err 17 member",
+        b"err 19 absent",
+        b"err 20 held",
     ];
     let others: [&[u8]; 21] = [
         b"",

@@ -54,6 +54,22 @@ fn reads_rows(rt: HostRuntime) -> Result<(), Fail> {
     Ok(())
 }
 
+/// The number that a `done` names, if a line is one.
+fn named(alloc: Global, line: &[u8]) -> Option<Option<u32>> {
+    match read_command(alloc, line) {
+        Ok(Command::Done { count }) => Some(count),
+        _ => None,
+    }
+}
+
+#[test]
+fn reads_how_many_lines_are_held(rt: HostRuntime) {
+    assert!(rt; named(rt.alloc(), b"done") == Some(None));
+    assert!(rt; named(rt.alloc(), b"done 0065536 ") == Some(Some(65_536)));
+    assert!(rt; named(rt.alloc(), b"done 99999999999999999999999") == Some(Some(4_294_967_295)));
+    assert!(rt; named(rt.alloc(), b"done -2") == None && named(rt.alloc(), b"done 2 2") == None);
+}
+
 #[test]
 fn cuts_lines(rt: HostRuntime) {
     let Front::Line { end, rest } = Splitter::front(b"add r 1\r\nquit") else {

@@ -3,12 +3,13 @@ use djq_hypergraph::{Edges, Names, VarSet};
 use djq_model::{Name, NoMem, Row, Text, Value};
 use djq_protocol::limits::{LAST_LINE_BYTES, REPLY_BYTES};
 use djq_protocol::{
-    AddOutcome, DeleteOutcome, EndLine, NamedRest, QueryOutcome, Refusal, Shape, Sign,
+    AddOutcome, DeleteOutcome, DoneRefusal, EndLine, LineRefusal, NamedRest, QueryOutcome, Refusal,
+    RefusedLine, Shape, Sign,
 };
 use djq_reply::{
     put_answer, put_at, put_change, put_explained, put_last, put_member, put_registered, say_added,
     say_batch, say_batch_done, say_bye, say_cut, say_deleted, say_done, say_end, say_has, say_held,
-    say_opened, say_refused, say_shape, say_stale, say_union, say_watched,
+    say_lost, say_opened, say_refused, say_shape, say_stale, say_union, say_watched,
 };
 use std::alloc::{AllocError, Global};
 use std::test::Fail;
@@ -31,9 +32,10 @@ fn say_rows_and_ends(out: &mut BytesMut) -> Result<(), AllocError> {
     say_batch_done(out, Ok(2), 9);
     out.reserve(REPLY_BYTES + LAST_LINE_BYTES)?;
     say_bye(out);
-    out.reserve(REPLY_BYTES + LAST_LINE_BYTES)?;
+    out.reserve(LAST_LINE_BYTES)?;
     say_cut(out);
-    out.reserve(REPLY_BYTES + LAST_LINE_BYTES)?;
+    say_lost(out);
+    out.reserve(LAST_LINE_BYTES)?;
     say_end(out, EndLine::Slow);
     Ok(())
 }
@@ -45,9 +47,33 @@ fn answers_rows_and_ends(rt: HostRuntime) -> Result<(), Fail> {
     assert!(rt;
         out.as_slice()
             == b"err 12 memory\nok\nok added 18446744073709551615 1\nok removed 3 12\nok batch\n\
-            ok held 1000\nok done 9 2\nbye\nerr 13 cut\nend slow\n"
+            ok held 1000\nok done 9 2\nbye\nerr 13 cut\nerr 18 batch\nend slow\n"
                 .as_slice()
     );
+    Ok(())
+}
+
+/// Why a `done` is refused, and its reply.
+const REFUSED: [(DoneRefusal, &[u8]); 4] = [
+    (DoneRefusal::OtherNumber, b"err 20 held\n"),
+    (
+        DoneRefusal::Line(RefusedLine {
+            at: 1,
+            refusal: LineRefusal::Absent,
+        }),
+        b"err 19 absent\n",
+    ),
+    (DoneRefusal::LastChange, b"err 11 limit\n"),
+    (DoneRefusal::NoMemory, b"err 12 memory\n"),
+];
+
+#[test]
+fn answers_refused_transactions(rt: HostRuntime) -> Result<(), Fail> {
+    for (refusal, reply) in REFUSED {
+        let mut out = BytesMut::with_capacity(rt.alloc(), REPLY_BYTES + LAST_LINE_BYTES)?;
+        say_batch_done(&mut out, Err(refusal), 9);
+        assert!(rt; out.as_slice() == reply);
+    }
     Ok(())
 }
 

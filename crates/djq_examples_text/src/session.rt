@@ -1,7 +1,7 @@
-use djq_model::{Name, NoMem, Row, Sequence, Value};
+use djq_model::{Name, NoMem, Row, Value};
 use djq_parser::Front;
 use djq_protocol::limits::{CURSORS, REPLY_BYTES};
-use djq_protocol::{AddOutcome, DeleteOutcome, EndCause, EndLine, HeldRow, QueryOutcome, Refusal};
+use djq_protocol::{AddOutcome, DeleteOutcome, EndCause, EndLine, QueryOutcome, Refusal, Verb};
 use djq_session::Session;
 use std::alloc::Global;
 use std::test::Fail;
@@ -46,24 +46,23 @@ fn lines_come_and_bytes_go(rt: HostRuntime) -> Result<(), Fail> {
     Ok(())
 }
 
-/// Why a session ends, and the bytes of its last line.
-const ENDS: [(EndCause, &[u8]); 4] = [
+/// Why a session ends that holds bytes of a line, and the bytes of its last line.
+const ENDS: [(EndCause, &[u8]); 3] = [
     (EndCause::Input, b"err 13 cut\n"),
     (EndCause::Slow, b"end slow\n"),
     (EndCause::Quit, b"bye\n"),
-    (EndCause::Stop, b""),
 ];
 
 #[test]
 fn sessions_end(rt: HostRuntime) -> Result<(), Fail> {
     for (cause, last) in ENDS {
         let mut session = Numbered::new(rt.alloc())?;
+        session.feed(b"ad")?;
         session.keep(REPLY_BYTES)?;
         match cause {
-            EndCause::Input => session.end_cut(),
+            EndCause::Input => session.end_input(),
             EndCause::Slow => session.end_by(EndLine::Slow, cause),
-            EndCause::Quit => session.end_bye(cause),
-            _ => session.end(cause),
+            _ => session.end_bye(cause),
         }
         assert!(rt; session.cause() == Some(cause) && session.pending() == last);
     }
@@ -143,15 +142,13 @@ fn watch(session: &mut Numbered, query: u32) -> Result<bool, NoMem> {
     Ok(true)
 }
 
-/// A row that a batch holds, of no values.
-fn empty_row(alloc: Global, relation: &Name) -> Result<HeldRow, NoMem> {
-    let mut line = Sequence::new(alloc);
-    line.push(b'a')?;
-    Ok(HeldRow {
-        line,
-        relation: *relation,
-        row: Row::new(alloc),
-    })
+/// Holds the line in front, of so many bytes, if a batch is open that has room for it.
+fn hold(session: &mut Numbered, row: &Row, end: usize) -> Result<bool, NoMem> {
+    if !session.has_batch() || !session.may_hold(end) || session.held().len() < end {
+        return Ok(false);
+    }
+    session.hold(Verb::Add, name_of(1), row.as_slice(), end)?;
+    Ok(true)
 }
 
 #[test]
@@ -177,12 +174,49 @@ fn watches_are_found(rt: HostRuntime) -> Result<(), Fail> {
 }
 
 #[test]
-fn a_batch_holds_rows(rt: HostRuntime) -> Result<(), Fail> {
-    let row = empty_row(rt.alloc(), &name_of(1))?;
+fn a_batch_holds_lines(rt: HostRuntime) -> Result<(), Fail> {
+    let row = a_row(rt.alloc())?;
     let mut session = Numbered::new(rt.alloc())?;
+    session.feed(b"add c -2\ndone\n")?;
     session.open_batch();
-    session.hold(row)?;
-    assert!(rt; session.has_batch() && session.rows_held() == 1);
-    assert!(rt; session.take_batch().is_some() && !session.has_batch());
+    assert!(rt; hold(&mut session, &row, 8)? && take(&mut session, 9));
+    assert!(rt; session.has_batch() && session.lines_held() == 1);
+    let Some(held) = session.take_batch() else {
+        panic!(rt; "a batch is open");
+    };
+    assert!(rt; held.line(1) == Some(b"add c -2".as_slice()) && !session.has_batch());
+    Ok(())
+}
+
+/// Ends a session that goes on: it takes its leave, or its input ends.
+fn end(session: &mut Numbered, is_leave: bool) -> Result<bool, NoMem> {
+    if session.cause().is_some() {
+        return Ok(false);
+    }
+    if is_leave {
+        session.keep(REPLY_BYTES)?;
+        session.end_bye(EndCause::Quit);
+    } else {
+        session.end_input();
+    }
+    Ok(true)
+}
+
+/// Whether a session takes its leave that holds a line and bytes of one more, or its input ends; and its last lines.
+const ENDS_IN_A_BATCH: [(bool, &[u8]); 2] = [
+    (false, b"err 13 cut\nerr 18 batch\n"),
+    (true, b"err 18 batch\nbye\n"),
+];
+
+#[test]
+fn ends_report_lines_that_are_dropped(rt: HostRuntime) -> Result<(), Fail> {
+    let row = a_row(rt.alloc())?;
+    for (is_leave, last) in ENDS_IN_A_BATCH {
+        let mut session = Numbered::new(rt.alloc())?;
+        session.feed(b"add c -2\nad")?;
+        session.open_batch();
+        assert!(rt; hold(&mut session, &row, 8)? && take(&mut session, 9));
+        assert!(rt; end(&mut session, is_leave)? && session.pending() == last);
+    }
     Ok(())
 }

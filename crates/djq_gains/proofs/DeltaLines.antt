@@ -1,11 +1,12 @@
 -- The lines that are sent give the delta of the members' union.
 use Rattle.std.proofs.Common.{◌≡◌, ℕ, zero, suc, ◌+◌, ◌<◌, ◌≤◌, Bool, true, false, List, [], ◌∷◌, ◌++◌, length, map}
-use Rattle.std.proofs.Common.{filter, take, drop, refl, sym, ap, ◌∙◌, arith, add-one, ◌*◌, sum_by, subst, inl, inr}
+use Rattle.std.proofs.Common.{filter, take, drop, refl, sym, ap, ◌∙◌, arith, add-one, ◌*◌, sum_by, subst, inl, inr, ap₂}
 use Rattle.std.specs.Prelude.{Option, Some, ◌↔◌, ◌⊎◌, cond, None, IsSomeAnd, unwrap_or, AllPairs, Any, Contains}
-use Rattle.std.specs.Prelude.{slice_get, slice_index_or}
+use Rattle.std.specs.Prelude.{slice_get, slice_index_or, ◌&&◌, option_to_list, ⊤, All}
+use Rattle.std.specs.List.{AllByRecursion}
 use Rattle.std.proofs.lemmas.Bool.{false≢true}
 use Rattle.std.proofs.lemmas.List.{map-append, take_all, length-map, get_or-map}
-use Rattle.std.proofs.lemmas.List.Elements.{filter-append, All-contains, All-weaker, All-map, Contains-get_or}
+use Rattle.std.proofs.lemmas.List.Elements.{filter-append, All-contains, All-map, Contains-get_or}
 use Rattle.std.proofs.lemmas.Option.{slice_get_within, slice_get-get_or, same_Some}
 use Rattle.std.proofs.lemmas.List.Sums.{sum_by-cons}
 use Rattle.std.proofs.Math.Nat.{mul-le-mul_right}
@@ -22,33 +23,37 @@ use Rattle.djq_protocol.specs.declared.answer.Sign.TheVariants.{Came, Went}
 use Rattle.djq_database.specs.Cells.{cells_of, StandFor}
 use Rattle.djq_enumeration.specs.declared.log.Line.{Line}
 use Rattle.djq_store_spec.specs.Delta.{Change, HasChanged, IsDelta}
+use Rattle.djq_store_spec.specs.DeltaCost.{Part}
 use Rattle.djq_store_spec.specs.Registering.{atoms_of}
-use Rattle.djq_leaves.proofs.TreeAnswers.{in_image, image_of}
+use Rattle.djq_leaves.proofs.TreeAnswers.{IsImage, in_image, image_of}
 use Rattle.djq_live_query.specs.Live.{Live, IsShowable}
-use Rattle.djq_live_query.specs.Member.{has_cells, head_types, in_tree, query_at, queries_at}
+use Rattle.djq_live_query.specs.Member.{has_cells, head_types, in_tree, query_at, queries_at, HaveQueries}
 use Rattle.djq_live_query.specs.Updating.{change_of}
 use Rattle.djq_live_query.proofs.Catalogs.{as_many}
 use Rattle.djq_engine.specs.Lending.{sign_of}
 use Rattle.djq_engine.specs.Kept.{Kept}
-use Rattle.djq_gains.specs.Gathered.{Gain, IsIn, AtSlot, slots_in, Stand, GainsDiffer, is_by}
+use Rattle.djq_answer_laws.specs.Net.{opposite, opposite_sign, IsMemberDelta, MemberAgrees, IsReportedByMembers}
+use Rattle.djq_answer_laws.proofs.Net.{unions_report}
+use Rattle.djq_gains.specs.Gathered.{Gain, Mark, in_delta, with_sign, has_mark, IsMarkOf, IsIn, AtSlot, slots_in, Stand}
+use Rattle.djq_gains.specs.Gathered.{GainsDiffer, in_no_delta}
 use Rattle.djq_gains.specs.Gathering.{is_told, line_of, gain_lines, AtFirstQuery, is_among, asks_of}
-use Rattle.djq_gains.specs.Told.{GoOneWay, StandsIn, IsTold, AreTold}
-use Rattle.djq_gains.specs.Gains.{HaveChanged, TellUnion, members_at, told_of_member}
+use Rattle.djq_gains.specs.Gains.{HaveChanged, IsUnionDelta, TellUnion, members_at, told_of_member}
 use Rattle.djq_gains.proofs.DeltaTuples.{kept_from, among_there, there_among}
-use Rattle.djq_gains.proofs.MemberDeltas.{some_at, got, and_so}
-use Rattle.djq_gains.proofs.UnionDeltas.{alone_true, alone_back, Turns, some, union_delta, Setting, IsAt, IsKnown}
-use Rattle.djq_gains.proofs.UnionDeltas.{IsGathered, at_place, nth_of, has_is, one_value, is_for, is_gathered}
-use Rattle.djq_gains.proofs.UnionDeltas.{same_gain, known, first_kept, kept_at, delta_at, delta_yes, delta_no}
-use Rattle.djq_gains.proofs.UnionDeltas.{stands_for, value}
+use Rattle.djq_gains.proofs.MemberDeltas.{got}
+use Rattle.djq_gains.proofs.UnionDeltas.{alone_true, alone_back, some, Setting, IsAt, IsGathered, IsByMember}
+use Rattle.djq_gains.proofs.UnionDeltas.{at_place, nth_of, has_is, one_value, is_gathered, known, first_kept, kept_at}
+use Rattle.djq_gains.proofs.UnionDeltas.{delta_at, delta_yes, delta_no, value}
+use Rattle.djq_gains.proofs.UnionDeltas.{by_member, marked_by, only_sign, both_signs}
+use Rattle.djq_gains.proofs.UnionDeltas.{unlike_opposite, is_told_by, told_so}
 
 -- ---- Lines are told tuple by tuple.
 
 -- the first j tuples are told; the next lies in this slot
-pub record Telling (came : Bool) (ls : List Live) (gains : List Gain) (next : Option ℕ) (j : ℕ)
+pub record Telling (ls : List Live) (gains : List Gain) (next : Option ℕ) (j : ℕ)
     (lines : List Line) (lost : Bool) : Type 0 where
   pub at : next ≡ first_of (slots_in (drop j gains))
   pub room : j ≤ length gains
-  pub told : lost ≡ false → AtFirstQuery ls (λ l. lines ≡ gain_lines came ls l (take j gains))
+  pub told : lost ≡ false → AtFirstQuery ls (λ l. lines ≡ gain_lines ls l (take j gains))
 
 -- the tuples, cut at the next
 pub record Cut (gains : List Gain) (j slot : ℕ) : Type 0 where
@@ -82,50 +87,46 @@ pub lies_at : (gains : List Gain) (j slot : ℕ) → Cut gains j slot → IsIn g
 lies_at gains j slot c =
     record { front = take j gains; gain = c.gain; back = drop (j + 1) gains; is = c.is; at = c.slot_is }
 
-lines-append : (came : Bool) (ls : List Live) (l : Live) (xs ys : List Gain)
-    → gain_lines came ls l (xs ++ ys) ≡ gain_lines came ls l xs ++ gain_lines came ls l ys
-lines-append came ls l xs ys =
-    ap (map (line_of came l)) (filter-append (is_told ls) xs ys)
-    ∙ map-append (line_of came l) (filter (is_told ls) xs) (filter (is_told ls) ys)
+lines-append : (ls : List Live) (l : Live) (xs ys : List Gain)
+    → gain_lines ls l (xs ++ ys) ≡ gain_lines ls l xs ++ gain_lines ls l ys
+lines-append ls l xs ys =
+    ap (map (line_of l)) (filter-append (is_told ls) xs ys)
+    ∙ map-append (line_of l) (filter (is_told ls) xs) (filter (is_told ls) ys)
 
 stays_kept : (old new : Bool) → (old ≡ true → new ≡ true) → new ≡ false → old ≡ false
 stays_kept true new h kept = absurd (false≢true (sym kept ∙ h refl))
 stays_kept false new h kept = refl
 
-pub tells_more : (came : Bool) (ls : List Live) (gains : List Gain) (j slot : ℕ) (old new : List Line)
-    (was is : Bool) (next : Option ℕ) → Telling came ls gains (Some slot) j old was
+pub tells_more : (ls : List Live) (gains : List Gain) (j slot : ℕ) (old new : List Line)
+    (was is : Bool) (next : Option ℕ) → Telling ls gains (Some slot) j old was
     → (was ≡ true → is ≡ true)
-    → (is ≡ false → AtFirstQuery ls (λ l. AtSlot gains slot (λ g. new ≡ old ++ gain_lines came ls l (g ∷ []))))
+    → (is ≡ false → AtFirstQuery ls (λ l. AtSlot gains slot (λ g. new ≡ old ++ gain_lines ls l (g ∷ []))))
     → ((xs : List Gain) (g : Gain) (ys : List Gain) → gains ≡ xs ++ g ∷ ys → g.slot ≡ slot
-    → next ≡ first_of (slots_in ys)) → Telling came ls gains next (j + 1) new is
-tells_more came ls gains j slot old new was is next before lost one follows =
+    → next ≡ first_of (slots_in ys)) → Telling ls gains next (j + 1) new is
+tells_more ls gains j slot old new was is next before lost one follows =
     let c = cut_at gains j slot (sym before.at) in
     record {
       at = follows (take j gains) c.gain (drop (j + 1) gains) c.is c.slot_is;
       room = let low = c.within in omega arith;
       told = λ kept l first.
           one kept l first (take j gains) c.gain (drop (j + 1) gains) c.is c.slot_is
-          ∙ ap (λ (ks : List Line). ks ++ gain_lines came ls l (c.gain ∷ []))
+          ∙ ap (λ (ks : List Line). ks ++ gain_lines ls l (c.gain ∷ []))
           (before.told (stays_kept was is lost kept) l first)
-          ∙ sym (lines-append came ls l (take j gains) (c.gain ∷ []))
-          ∙ ap (gain_lines came ls l) (sym c.takes);
+          ∙ sym (lines-append ls l (take j gains) (c.gain ∷ []))
+          ∙ ap (gain_lines ls l) (sym c.takes);
     }
 
-pub tells_all : (came : Bool) (ls : List Live) (gains : List Gain) (at : Option ℕ) (j : ℕ)
-    (lines : List Line) (lost : Bool) → Telling came ls gains at j lines lost → length gains ≤ j
-    → lost ≡ false → AtFirstQuery ls (λ l. lines ≡ gain_lines came ls l gains)
-tells_all came ls gains at j lines lost all last kept l first =
-    all.told kept l first ∙ ap (gain_lines came ls l) (take_all j gains last)
+pub tells_all : (ls : List Live) (gains : List Gain) (at : Option ℕ) (j : ℕ)
+    (lines : List Line) (lost : Bool) → Telling ls gains at j lines lost → length gains ≤ j
+    → lost ≡ false → AtFirstQuery ls (λ l. lines ≡ gain_lines ls l gains)
+tells_all ls gains at j lines lost all last kept l first =
+    all.told kept l first ∙ ap (gain_lines ls l) (take_all j gains last)
 
 -- ---- The lines that are told tell what is to be told, and so the delta of the members' union.
 
--- a tuple is an answer of the query in a place
-abbrev AnswerAt : Kept → List Relation → ℕ → Tuple → Type 0
-AnswerAt k relations i t = IsSomeAnd (query_at k.places i) (λ l. IsAnswer relations l.query t)
-
--- what changes a tuple is told as
-abbrev change_for : Kept → Bool → Live → Gain → Change
-change_for k came first g = change_of (k.store).texts first (line_of came first g)
+-- the change that a tuple is told as
+abbrev change_for : Kept → Live → Gain → Change
+change_for k first g = change_of (k.store).texts first (line_of first g)
 
 abbrev told_of : Kept → List ℕ → List Gain → List Gain
 told_of k members gains = filter (is_told (queries_at k.places members)) gains
@@ -151,7 +152,7 @@ values_differ : (k : Kept) (members touched : List ℕ) (gains : List Gain) (fir
 values_differ k members touched gains first s i j d less low same =
     let test = is_told (queries_at k.places members) in
     let told = told_of k members gains in
-    let none : Gain = record { slot = 0; cells = []; by = [] } in
+    let none : Gain = record { slot = 0; cells = []; marks = in_no_delta } in
     let long = length-map told (value k first) in
     let under : i < length told = omega (arith, less, low, long) in
     let below : j < length told = omega (arith, low, long) in
@@ -168,198 +169,40 @@ values_differ k members touched gains first s i j d less low same =
     pairs i j none less below
     ((kg.cells).are ∙ ap (cells_of (k.store).texts) equal ∙ sym (kh.cells).are)
 
--- what a tuple that is told says of each member
-is_what_is_told : (k : Kept) (members touched : List ℕ) (gains : List Gain) (first : Live)
-    → Setting k members touched gains first → (g : Gain) → Contains gains g
-    → is_told (queries_at k.places members) g ≡ true
-    → IsTold (AnswerAt k (k.store).relations) (delta_at k touched) members (value k first g)
-is_what_is_told k members touched gains first s g there told = record {
-  gained =
-      let w = known k members touched gains first s g there in
-      let f = w.of_member in
-      some (λ i. StandsIn (delta_at k touched i) v) members f.place (got members w.m f.place f.member)
-      (subst (StandsIn (delta_at k touched f.place)) (sym w.is)
-      (stands_for k touched f.place f.change f.among f.there));
-  alone = all_of (λ i. (StandsIn (delta_at k touched i) v → ⊥) → AnswerAt k now i v → ⊥) members each;
-}
+-- ---- The members, as parts of the union's delta.
+
+-- the query of the member in a place
+abbrev query_of : Kept → Live → ℕ → Query
+query_of k first i = (unwrap_or (query_at k.places i) first).query
+
+abbrev part_at : Kept → List ℕ → Live → ℕ → Part
+part_at k touched first i = record { query = query_of k first i; changes = delta_at k touched i; listed = 0 }
+
+abbrev parts_of : Kept → List ℕ → Live → List ℕ → List Part
+parts_of k touched first members = map (part_at k touched first) members
+
+query_is : (k : Kept) (first : Live) (i : ℕ) (l : Live) → query_at k.places i ≡ Some l
+    → query_of k first i ≡ l.query
+query_is k first i l at = ap (λ (o : Option Live). (unwrap_or o first).query) at
+
+queries_are : (k : Kept) (first : Live) (members : List ℕ)
+    → AllByRecursion (λ i. IsSomeAnd (query_at k.places i) (λ l. ⊤)) members
+    → map (query_of k first) members ≡ members_at k members
+queries_are k first [] have = refl
+queries_are k first (i ∷ members) have =
+    by (query_at k.places i) have.0 (queries_are k first members have.1)
   where
-    ls : List Live
-    ls = queries_at k.places members
+    by : (o : Option Live) → IsSomeAnd o (λ l. ⊤) → map (query_of k first) members ≡ members_at k members
+        → (unwrap_or o first).query ∷ map (query_of k first) members
+        ≡ map (λ (l : Live). l.query) (option_to_list o ++ queries_at k.places members)
+    by None h rest = absurd h
+    by (Some l) h rest = ap (λ (qs : List Query). l.query ∷ qs) rest
 
-    now : List Relation
-    now = (k.store).relations
-
-    v : Tuple
-    v = value k first g
-
-    each : (i : ℕ) → Contains members i → (StandsIn (delta_at k touched i) v → ⊥) → AnswerAt k now i v → ⊥
-    each i at out has = by (is_by g at.0) refl
-      where
-        nth : slice_get members at.0 ≡ Some i
-        nth = nth_of members i at.0 at.1 at.2
-
-        w : IsKnown k members touched first g
-        w = known k members touched gains first s g there
-
-        a : IsAt k members at.0 i
-        a = at_place k members at.0 i s.have nth
-
-        stand : StandFor (k.store).texts (head_types a.live) g.cells v
-        stand = subst (λ ts. StandFor (k.store).texts ts g.cells v)
-            (s.alike.each first a.live (got ls 0 first s.is_first) (got ls at.0 a.live a.nth)) w.cells
-
-        by : (b : Bool) → is_by g at.0 ≡ b → ⊥
-        by true marked =
-            let f = is_for k members touched gains first s at.0 g.cells
-            (record { gain = g; there = there; is = refl; marked = marked }) in
-            let same = one_value k s.over first s.tell s.types (first_kept k members touched gains first s)
-            g.cells (f.change).answer v f.stand w.cells in
-            let place = same_Some f.place i (sym f.member ∙ nth) in
-            out (subst (λ (n : ℕ). StandsIn (delta_at k touched n) v) place
-            (subst (StandsIn (delta_at k touched f.place)) same
-            (stands_for k touched f.place f.change f.among f.there)))
-        by false unmarked =
-            let hasnt = alone_back ls g.by g.cells told at.0 a.live a.nth unmarked in
-            let answer = some_at (query_at k.places i) (λ l. IsAnswer now l.query v) a.live a.at has in
-            let had = (has_is k s.over a.live s.had s.types (kept_at k s.over i a.live a.at) g.cells v stand).1
-            answer in
-            false≢true (sym hasnt ∙ had)
-
--- what is to be told is gathered, and is told
-record IsListed (k : Kept) (members : List ℕ) (gains : List Gain) (first : Live) (t : Tuple) : Type 0
-  where
-    gain : Gain
-    there : Contains (told_of k members gains) gain
-    is : value k first gain ≡ t
-
-kept_there : {A : Type 0} (p : A → Bool) (xs : List A) (x : A) → p x ≡ true → Contains xs x
-    → Contains (filter p xs) x
-kept_there p [] x passes there = absurd (let low = there.1 in omega arith)
-kept_there {A = A} p (y ∷ xs) x passes there =
-    step (p y) refl (head_or_tail y xs x there) (λ later. kept_there p xs x passes later)
-  where
-    step : (b : Bool) → p y ≡ b → (y ≡ x) ⊎ Contains xs x
-        → (Contains xs x → Contains (filter p xs) x)
-        → Contains (cond b (y ∷ filter p xs) (filter p xs)) x
-    step true e (inl same) rest = (0, omega arith, same)
-    step true e (inr later) rest =
-        let h = rest later in
-        let low = h.1 in
-        (suc h.0, omega arith, h.2)
-    step false e (inl same) rest = absurd (false≢true (sym e ∙ ap p same ∙ passes))
-    step false e (inr later) rest = rest later
-
-is_listed : (k : Kept) (members touched : List ℕ) (gains : List Gain) (first : Live)
-    → Setting k members touched gains first → (t : Tuple)
-    → IsTold (AnswerAt k (k.store).relations) (delta_at k touched) members t
-    → IsListed k members gains first t
-is_listed k members touched gains first s t told = record {
-  gain = g;
-  there = kept_there (is_told ls) gains g (alone_true ls g.by g.cells pass) st.there;
-  is = one_value k s.over first s.tell s.types (first_kept k members touched gains first s) g.cells
-      (value k first g) t w.cells stand;
-}
-  where
-    ls : List Live
-    ls = queries_at k.places members
-
-    now : List Relation
-    now = (k.store).relations
-
-    texts : List Bytes
-    texts = (k.store).texts
-
-    m : ℕ
-    m = told.gained.0
-
-    i : ℕ
-    i = told.gained.1
-
-    nth : slice_get members m ≡ Some i
-    nth = nth_of members i m told.gained.2 told.gained.3
-
-    gathered : IsGathered k gains first m t
-    gathered = is_gathered k members touched gains first s m i t nth told.gained.4
-
-    st : Stand gains m (cells_of texts t)
-    st = gathered.stand
-
-    g : Gain
-    g = st.gain
-
-    w : IsKnown k members touched first g
-    w = known k members touched gains first s g st.there
-
-    stand : StandFor texts (head_types first) g.cells t
-    stand = subst (λ (u : List ℕ). StandFor texts (head_types first) u t) (sym st.is) gathered.cells
-
-    pass : (n : ℕ) (p : Live) → slice_get ls n ≡ Some p → slice_index_or g.by n false ≡ false
-        → has_cells p g.cells ≡ false
-    pass n p at out = by (has_cells p g.cells) refl
-      where
-        low : n < length members
-        low = let many = as_many k.places members s.have.each in
-            let under = slice_get_within ls n p at in omega arith
-
-        place : ℕ
-        place = slice_index_or members n 0
-
-        member : slice_get members n ≡ Some place
-        member = slice_get-get_or members n 0 low
-
-        a : IsAt k members n place
-        a = at_place k members n place s.have member
-
-        is_p : query_at k.places place ≡ Some p
-        is_p = a.at ∙ sym a.nth ∙ at
-
-        stands : StandFor texts (head_types p) g.cells t
-        stands = subst (λ ts. StandFor texts ts g.cells t)
-            (s.alike.each first p (got ls 0 first s.is_first) (got ls n p at)) stand
-
-        by : (b : Bool) → has_cells p g.cells ≡ b → has_cells p g.cells ≡ false
-        by false e = e
-        by true e =
-            let answer = (has_is k s.over p s.had s.types (kept_at k s.over place p is_p) g.cells t stands).0 e in
-            let has = and_so (query_at k.places place) (λ l. IsAnswer now l.query t) p is_p answer in
-            absurd (All-contains (λ j. (StandsIn (delta_at k touched j) t → ⊥) → AnswerAt k now j t → ⊥)
-            members place told.alone (got members n place member)
-            (λ h.
-            let other = is_gathered k members touched gains first s n place t member h in
-            let same = same_gain gains s.apart g (other.stand).gain st.there (other.stand).there
-            (st.is ∙ sym (other.stand).is) in
-            false≢true (sym out ∙ ap (λ (x : Gain). is_by x n) same ∙ (other.stand).marked)) has)
-
--- What the lines tell is what is to be told.
-pub are_told : (k : Kept) (members touched : List ℕ) (gains : List Gain) (first : Live) (came : Bool)
-    → Setting k members touched gains first
-    → AreTold (AnswerAt k (k.store).relations) (delta_at k touched) members came
-    (map (change_for k came first) (told_of k members gains))
-are_told k members touched gains first came s = record {
-  different = subst AreDifferent
-      (sym (twice_mapped (λ (c : Change). c.answer) (change_for k came first) told))
-      (values_differ k members touched gains first s);
-  signed = All-map (λ c. c.sign ≡ sign_of came) (change_for k came first) told (λ n d low. refl);
-  told = All-map (λ c. IsTold After (delta_at k touched) members c.answer) (change_for k came first) told
-      (all_of (λ g. IsTold After (delta_at k touched) members (value k first g)) told
-      (λ g there.
-      let h = kept_from (is_told ls) gains g there in
-      is_what_is_told k members touched gains first s g h.1 h.0));
-  complete = λ t is.
-      let l = is_listed k members touched gains first s t is in
-      subst (StandsIn (map (change_for k came first) told)) l.is
-      (in_image (λ (c : Change). c.answer) (map (change_for k came first) told)
-      (change_for k came first l.gain) (in_image (change_for k came first) told l.gain l.there));
-}
-  where
-    ls : List Live
-    ls = queries_at k.places members
-
-    told : List Gain
-    told = told_of k members gains
-
-    After : ℕ → Tuple → Type 0
-    After = AnswerAt k (k.store).relations
+of_parts : (k : Kept) (members touched : List ℕ) (first : Live) → HaveQueries k.places members
+    → map (λ (p : Part). p.query) (parts_of k touched first members) ≡ members_at k members
+of_parts k members touched first have =
+    twice_mapped (λ (p : Part). p.query) (part_at k touched first) members
+    ∙ queries_are k first members have.each
 
 -- where nothing came or went, there is no line
 none_changed : (Before After : Tuple → Type 0) → ((t : Tuple) → Before t ↔ After t)
@@ -375,18 +218,14 @@ none_changed Before After same = record {
     by Came t h = absurd (h.1 ((same t).1 h.0))
     by Went t h = absurd (h.1 ((same t).0 h.0))
 
--- a member changes one way, and what is told of it is its delta
-turns : (k : Kept) (members touched : List ℕ) (gains : List Gain) (first : Live) (came : Bool)
+-- the delta of a member is what is told of it
+member_delta : (k : Kept) (members touched : List ℕ) (gains : List Gain) (first : Live)
     (before : List Relation) → Setting k members touched gains first
-    → HaveChanged before k members touched came → (i : ℕ) → Contains members i
-    → Turns (AnswerAt k before) (AnswerAt k (k.store).relations) (delta_at k touched) came i
-turns k members touched gains first came before s changed i there =
-    subst (λ (o : Option Live).
-    GoOneWay came (λ t. IsSomeAnd o (λ l. IsAnswer before l.query t))
-    (λ t. IsSomeAnd o (λ l. IsAnswer now l.query t))
-    × IsDelta (λ t. IsSomeAnd o (λ l. IsAnswer before l.query t))
-    (λ t. IsSomeAnd o (λ l. IsAnswer now l.query t)) (delta_at k touched i)) (sym a.at)
-    (changed.one_way i a.live there a.at, delta (is_among touched i) refl)
+    → HaveChanged before k members touched → (i : ℕ) → Contains members i
+    → IsMemberDelta before (k.store).relations (part_at k touched first i)
+member_delta k members touched gains first before s changed i there =
+    subst (λ (q : Query). IsDelta (IsAnswer before q) (IsAnswer now q) (delta_at k touched i))
+    (sym (query_is k first i a.live a.at)) (delta (is_among touched i) refl)
   where
     now : List Relation
     now = (k.store).relations
@@ -409,86 +248,111 @@ turns k members touched gains first came before s changed i there =
         (changed.others i a.live there
         (λ h. false≢true (sym out ∙ there_among touched i h)) a.at))
 
--- the answers of some member are those of the union
-of_some : (k : Kept) (members touched : List ℕ) (gains : List Gain) (first : Live)
-    → Setting k members touched gains first → (relations : List Relation) (t : Tuple)
-    → Any (λ i. AnswerAt k relations i t) members
-    ↔ Any (λ q. IsAnswer relations q t) (members_at k members)
-of_some k members touched gains first s relations t = (to, from)
+-- ---- What is told is what the members report.
+
+-- the members report a tuple that is told
+reports : (k : Kept) (members touched : List ℕ) (gains : List Gain) (first : Live)
+    → Setting k members touched gains first → (g : Gain) → Contains gains g
+    → is_told (queries_at k.places members) g ≡ true
+    → IsReportedByMembers (k.store).relations (parts_of k touched first members) (change_for k first g)
+reports k members touched gains first s g there told = (gained, agree)
   where
     ls : List Live
     ls = queries_at k.places members
 
-    to : Any (λ i. AnswerAt k relations i t) members → Any (λ q. IsAnswer relations q t) (members_at k members)
-    to h =
-        let a = at_place k members h.0 h.1 s.have (nth_of members h.1 h.0 h.2 h.3) in
-        let is = some_at (query_at k.places h.1) (λ l. IsAnswer relations l.query t) a.live a.at h.4 in
-        some (λ q. IsAnswer relations q t) (members_at k members) (a.live).query
-        (in_image (λ (l : Live). l.query) ls a.live (got ls h.0 a.live a.nth)) is
+    now : List Relation
+    now = (k.store).relations
 
-    from : Any (λ q. IsAnswer relations q t) (members_at k members) → Any (λ i. AnswerAt k relations i t) members
-    from h =
-        let image = image_of (λ (l : Live). l.query) ls h.1 (h.0, h.2, h.3) in
-        let n = image.there.0 in
-        let l = image.of in
-        let many = as_many k.places members s.have.each in
-        let under = image.there.1 in
-        let low : n < length members = omega arith in
-        let place = slice_index_or members n 0 in
-        let member = slice_get-get_or members n 0 low in
-        let a = at_place k members n place s.have member in
-        let at = a.at ∙ sym a.nth ∙ nth_live ls n l under image.there.2 in
-        some (λ i. AnswerAt k relations i t) members place (got members n place member)
-        (and_so (query_at k.places place) (λ (m : Live). IsAnswer relations m.query t) l at
-        (subst (λ (q : Query). IsAnswer relations q t) image.is h.4))
+    v : Tuple
+    v = value k first g
+
+    c : Change
+    c = change_for k first g
+
+    one : (g.marks.came && g.marks.went) ≡ false
+    one = (is_told_by ls g told).0
+
+    -- each delta that has the tuple has it with this sign
+    has_it : (mark : Mark) → (b : IsByMember k members touched first g mark)
+        → Contains (delta_at k touched b.place) c
+    has_it mark b = subst (λ (sign : Sign). Contains (delta_at k touched b.place) (record { sign = sign; answer = v }))
+        (sym (only_sign g.marks b.sign one (marked_by k members touched gains first s g there b.m b.place b.member
+        b.sign b.there (with_sign b.sign) refl))) b.there
+
+    gained : Any (λ (p : Part). Contains p.changes c) (parts_of k touched first members)
+    gained =
+        let n = s.somewhere g there in
+        let b = by_member k members touched gains first s g there (in_delta n.0) n.1 in
+        some (λ (p : Part). Contains p.changes c) (parts_of k touched first members) (part_at k touched first b.place)
+        (in_image (part_at k touched first) members b.place (got members b.m b.place b.member))
+        (has_it (in_delta n.0) b)
+
+    each : (i : ℕ) → Contains members i → MemberAgrees now c (part_at k touched first i)
+    each i at = (free, by (has_mark g.marks (in_delta at.0)) refl)
       where
-        nth_live : (xs : List Live) (n : ℕ) (x : Live) → n < length xs → slice_index_or xs n x ≡ x
-            → slice_get xs n ≡ Some x
-        nth_live xs n x low is = slice_get-get_or xs n x low ∙ ap Some is
+        member : slice_get members at.0 ≡ Some i
+        member = nth_of members i at.0 at.1 at.2
 
--- a delta between the same answers
-same_delta : (Before After Old New : Tuple → Type 0) (cs : List Change)
-    → ((t : Tuple) → Before t ↔ Old t) → ((t : Tuple) → After t ↔ New t)
-    → IsDelta Before After cs → IsDelta Old New cs
-same_delta Before After Old New cs old new delta = record {
-  different = delta.different;
-  changed = All-weaker (λ c. HasChanged Before After c.sign c.answer)
-      (λ c. HasChanged Old New c.sign c.answer) (λ c h. to c.sign c.answer h) cs delta.changed;
-  complete = λ sign t h. delta.complete sign t (from sign t h);
-}
+        free : Contains (delta_at k touched i) (opposite c) → ⊥
+        free o =
+            let other = opposite_sign (sign_of g.marks.came) in
+            unlike_opposite (sign_of g.marks.came) (only_sign g.marks other one
+            (marked_by k members touched gains first s g there at.0 i member other o (with_sign other) refl))
+
+        by : (b : Bool) → has_mark g.marks (in_delta at.0) ≡ b
+            → Contains (delta_at k touched i) c ⊎ (IsAnswer now (query_of k first i) v → ⊥)
+        by true marked =
+            let b = by_member k members touched gains first s g there (in_delta at.0) marked in
+            let place = same_Some b.place i (sym b.member ∙ ap (slice_get members) (sym b.marks) ∙ member) in
+            inl (subst (λ (n : ℕ). Contains (delta_at k touched n) c) place (has_it (in_delta at.0) b))
+        by false unmarked = inr (λ answer.
+            let w = known k members touched gains first s g there in
+            let a = at_place k members at.0 i s.have member in
+            let l = a.live in
+            let stand = subst (λ ts. StandFor (k.store).texts ts g.cells v)
+            (s.alike.each first l (got ls 0 first s.is_first) (got ls at.0 l a.nth)) w.cells in
+            let hasnt = alone_back ls g.marks.stands g.cells (is_told_by ls g told).1 at.0 l a.nth unmarked in
+            let had = (has_is k s.over l s.had s.types (kept_at k s.over i l a.at) g.cells v stand).1
+            (subst (λ (q : Query). IsAnswer now q v) (query_is k first i l a.at) answer) in
+            false≢true (sym hasnt ∙ had))
+
+    agree : All (MemberAgrees now c) (parts_of k touched first members)
+    agree = all_of (MemberAgrees now c) (parts_of k touched first members) (λ p h.
+        let i = image_of (part_at k touched first) members p h in
+        subst (MemberAgrees now c) (sym i.is) (each i.of i.there))
+
+-- what is to be told is gathered, and is told
+record IsListed (k : Kept) (members : List ℕ) (gains : List Gain) (first : Live) (c : Change) : Type 0
   where
-    to : (sign : Sign) (t : Tuple) → HasChanged Before After sign t → HasChanged Old New sign t
-    to Came t h = ((new t).0 h.0, λ o. h.1 ((old t).1 o))
-    to Went t h = ((old t).0 h.0, λ n. h.1 ((new t).1 n))
+    gain : Gain
+    there : Contains (told_of k members gains) gain
+    is : change_for k first gain ≡ c
 
-    from : (sign : Sign) (t : Tuple) → HasChanged Old New sign t → HasChanged Before After sign t
-    from Came t h = ((new t).1 h.0, λ o. h.1 ((old t).0 o))
-    from Went t h = ((old t).1 h.0, λ n. h.1 ((new t).0 n))
+kept_there : {A : Type 0} (p : A → Bool) (xs : List A) (x : A) → p x ≡ true → Contains xs x
+    → Contains (filter p xs) x
+kept_there p [] x passes there = absurd (let low = there.1 in omega arith)
+kept_there {A = A} p (y ∷ xs) x passes there =
+    step (p y) refl (head_or_tail y xs x there) (λ later. kept_there p xs x passes later)
+  where
+    step : (b : Bool) → p y ≡ b → (y ≡ x) ⊎ Contains xs x
+        → (Contains xs x → Contains (filter p xs) x)
+        → Contains (cond b (y ∷ filter p xs) (filter p xs)) x
+    step true e (inl same) rest = (0, omega arith, same)
+    step true e (inr later) rest =
+        let h = rest later in
+        let low = h.1 in
+        (suc h.0, omega arith, h.2)
+    step false e (inl same) rest = absurd (false≢true (sym e ∙ ap p same ∙ passes))
+    step false e (inr later) rest = rest later
 
--- The lines of what is told tell the delta of the members' union.
-pub tells_union : (k : Kept) (members touched : List ℕ) (gains : List Gain) (first : Live)
-    (came : Bool) → Setting k members touched gains first
-    → TellUnion k members touched came (gain_lines came (queries_at k.places members) first gains) first
-tells_union k members touched gains first came s = record {
-  delta = λ before changed name.
-      same_delta (λ t. Any (λ i. AnswerAt k before i t) members)
-      (λ t. Any (λ i. AnswerAt k now i t) members)
-      (AnswersOf before (a_union name (members_at k members)))
-      (AnswersOf now (a_union name (members_at k members)))
-      (map (change_of (k.store).texts first) (gain_lines came ls first gains))
-      (of_some k members touched gains first s before) (of_some k members touched gains first s now)
-      (subst (λ (cs : List Change). IsDelta (λ t. Any (λ i. AnswerAt k before i t) members)
-      (λ t. Any (λ i. AnswerAt k now i t) members) cs)
-      (sym (twice_mapped (change_of (k.store).texts first) (line_of came first) (told_of k members gains)))
-      (union_delta (AnswerAt k before) (AnswerAt k now) (delta_at k touched) members came
-      (map (change_for k came first) (told_of k members gains))
-      (turns k members touched gains first came before s changed)
-      (are_told k members touched gains first came s)));
-  shown = All-map (λ line. IsShowable (k.store).texts first line.answer) (line_of came first)
-      (told_of k members gains)
-      (all_of (λ g. IsShowable (k.store).texts first (in_tree first g.cells)) (told_of k members gains)
-      (λ g there.
-      ((known k members touched gains first s g (kept_from (is_told ls) gains g there).1).shows).showable));
+is_listed : (k : Kept) (members touched : List ℕ) (gains : List Gain) (first : Live)
+    → Setting k members touched gains first → (c : Change)
+    → IsReportedByMembers (k.store).relations (parts_of k touched first members) c
+    → IsListed k members gains first c
+is_listed k members touched gains first s c (gained, all) = record {
+  gain = g;
+  there = kept_there (is_told ls) gains g (told_so ls g one (alone_true ls g.marks.stands g.cells pass)) st.there;
+  is = ap₂ (λ (sign : Sign) (t : Tuple). let d : Change = record { sign = sign; answer = t } in d) sign shows;
 }
   where
     ls : List Live
@@ -496,6 +360,167 @@ tells_union k members touched gains first came s = record {
 
     now : List Relation
     now = (k.store).relations
+
+    texts : List Bytes
+    texts = (k.store).texts
+
+    part : IsImage (part_at k touched first) members gained.1
+    part = image_of (part_at k touched first) members gained.1 (gained.0, gained.2, gained.3)
+
+    i : ℕ
+    i = part.of
+
+    m : ℕ
+    m = part.there.0
+
+    member : slice_get members m ≡ Some i
+    member = nth_of members i m part.there.1 part.there.2
+
+    has : Contains (delta_at k touched i) c
+    has = subst (λ (p : Part). Contains p.changes c) part.is gained.4
+
+    gathered : IsGathered k gains first (in_delta m) c.answer
+    gathered = is_gathered k members touched gains first s m i c (in_delta m) member has refl
+
+    st : Stand gains (in_delta m) (cells_of texts c.answer)
+    st = gathered.stand
+
+    g : Gain
+    g = st.gain
+
+    stand : StandFor texts (head_types first) g.cells c.answer
+    stand = subst (λ (u : List ℕ). StandFor texts (head_types first) u c.answer) (sym st.is) gathered.cells
+
+    shows : value k first g ≡ c.answer
+    shows = one_value k s.over first s.tell s.types (first_kept k members touched gains first s) g.cells
+        (value k first g) c.answer (known k members touched gains first s g st.there).cells stand
+
+    -- a delta with the change marks the tuple
+    marks : (n j : ℕ) → slice_get members n ≡ Some j → Contains (delta_at k touched j) c → (mark : Mark)
+        → IsMarkOf mark n c.sign → has_mark g.marks mark ≡ true
+    marks n j is there mark so =
+        marked_by k members touched gains first s g st.there n j is c.sign
+        (subst (λ (t : Tuple). Contains (delta_at k touched j) (record { sign = c.sign; answer = t }))
+        (sym shows) there) mark so
+
+    agrees : (n j : ℕ) → slice_get members n ≡ Some j → MemberAgrees now c (part_at k touched first j)
+    agrees n j is = All-contains (MemberAgrees now c) (parts_of k touched first members)
+        (part_at k touched first j) all (in_image (part_at k touched first) members j (got members n j is))
+
+    one : (g.marks.came && g.marks.went) ≡ false
+    one = by (g.marks.came && g.marks.went) refl
+      where
+        by : (b : Bool) → (g.marks.came && g.marks.went) ≡ b → (g.marks.came && g.marks.went) ≡ false
+        by false e = e
+        by true e =
+            let other = opposite_sign c.sign in
+            let b = by_member k members touched gains first s g st.there (with_sign other)
+            (both_signs g.marks other e) in
+            absurd ((agrees b.m b.place b.member).0
+            (subst (λ (sign : Sign). Contains (delta_at k touched b.place) (record { sign = sign; answer = c.answer }))
+            (sym b.marks)
+            (subst (λ (t : Tuple). Contains (delta_at k touched b.place) (record { sign = b.sign; answer = t }))
+            shows b.there)))
+
+    sign : sign_of g.marks.came ≡ c.sign
+    sign = only_sign g.marks c.sign one (marks m i member has (with_sign c.sign) refl)
+
+    pass : (n : ℕ) (p : Live) → slice_get ls n ≡ Some p → slice_index_or g.marks.stands n false ≡ false
+        → has_cells p g.cells ≡ false
+    pass n p at out = by (agrees n place is_member).1
+      where
+        low : n < length members
+        low = let many = as_many k.places members s.have.each in
+            let under = slice_get_within ls n p at in omega arith
+
+        place : ℕ
+        place = slice_index_or members n 0
+
+        is_member : slice_get members n ≡ Some place
+        is_member = slice_get-get_or members n 0 low
+
+        a : IsAt k members n place
+        a = at_place k members n place s.have is_member
+
+        is_p : query_at k.places place ≡ Some p
+        is_p = a.at ∙ sym a.nth ∙ at
+
+        stands : StandFor texts (head_types p) g.cells c.answer
+        stands = subst (λ ts. StandFor texts ts g.cells c.answer)
+            (s.alike.each first p (got ls 0 first s.is_first) (got ls n p at)) stand
+
+        by_cells : (IsAnswer now (query_of k first place) c.answer → ⊥) → (b : Bool) → has_cells p g.cells ≡ b
+            → has_cells p g.cells ≡ false
+        by_cells lacks false e = e
+        by_cells lacks true e =
+            let answer = (has_is k s.over p s.had s.types (kept_at k s.over place p is_p) g.cells c.answer
+            stands).0 e in
+            absurd (lacks (subst (λ (q : Query). IsAnswer now q c.answer) (sym (query_is k first place p is_p)) answer))
+
+        by : Contains (delta_at k touched place) c ⊎ (IsAnswer now (query_of k first place) c.answer → ⊥)
+            → has_cells p g.cells ≡ false
+        by (inl there) = absurd (false≢true (sym out ∙ marks n place is_member there (in_delta n) refl))
+        by (inr lacks) = by_cells lacks (has_cells p g.cells) refl
+
+-- The lines of what is told tell the delta of the members' union.
+pub tells_union : (k : Kept) (members touched : List ℕ) (gains : List Gain) (first : Live)
+    → Setting k members touched gains first
+    → TellUnion k members touched (gain_lines (queries_at k.places members) first gains) first
+tells_union k members touched gains first s = record {
+  delta = is_delta;
+  shown = All-map (λ line. IsShowable (k.store).texts first line.answer) (line_of first)
+      (told_of k members gains)
+      (all_of (λ g. IsShowable (k.store).texts first (in_tree first g.cells)) (told_of k members gains)
+      (λ g there. (known k members touched gains first s g (kept_from (is_told ls) gains g there).1).showable));
+}
+  where
+    ls : List Live
+    ls = queries_at k.places members
+
+    now : List Relation
+    now = (k.store).relations
+
+    told : List Gain
+    told = told_of k members gains
+
+    parts : List Part
+    parts = parts_of k touched first members
+
+    is_delta : IsUnionDelta k members touched (map (change_of (k.store).texts first) (gain_lines ls first gains))
+    is_delta before changed name =
+        subst (IsDelta Before After) (sym (twice_mapped (change_of (k.store).texts first) (line_of first) told))
+        (record {
+          different = subst AreDifferent
+              (sym (twice_mapped (λ (c : Change). c.answer) (change_for k first) told))
+              (values_differ k members touched gains first s);
+          changed = All-map (λ (c : Change). HasChanged Before After c.sign c.answer) (change_for k first) told
+              (all_of (λ g. HasChanged Before After (change_for k first g).sign (change_for k first g).answer) told
+              (λ g there.
+              let h = kept_from (is_told ls) gains g there in
+              (law (change_for k first g)).0 (reports k members touched gains first s g h.1 h.0)));
+          complete = λ sign t h.
+              let c : Change = record { sign = sign; answer = t } in
+              let l = is_listed k members touched gains first s c ((law c).1 h) in
+              subst (Contains (map (change_for k first) told)) l.is
+              (in_image (change_for k first) told l.gain l.there);
+        })
+      where
+        Before : Tuple → Type 0
+        Before = AnswersOf before (a_union name (members_at k members))
+
+        After : Tuple → Type 0
+        After = AnswersOf now (a_union name (members_at k members))
+
+        law : (c : Change) → IsReportedByMembers now parts c ↔ HasChanged Before After c.sign c.answer
+        law c =
+            subst (λ (qs : List Query). IsReportedByMembers now parts c
+            ↔ HasChanged (AnswersOf before (a_union name qs)) (AnswersOf now (a_union name qs)) c.sign c.answer)
+            (of_parts k members touched first s.have)
+            (unions_report before now name parts c
+            (all_of (IsMemberDelta before now) parts (λ p h.
+            let i = image_of (part_at k touched first) members p h in
+            subst (IsMemberDelta before now) (sym i.is)
+            (member_delta k members touched gains first before s changed i.of i.there))))
 
 -- what tests count, as atoms
 pub atoms_are : (ls : List Live) → sum_by asks_of ls ≡ atoms_of (map (λ l. l.query) ls)

@@ -2,7 +2,7 @@
 use Rattle.std.proofs.Common.{◌≡◌, Bool, true, List, ◌∷◌, ◌++◌, filter, refl, arith, ℕ, suc, ◌≤◌, ◌==◌, false, []}
 use Rattle.std.proofs.Common.{sum_by, sym, ap, ◌∙◌, subst, inl, inr, eq-eqb, zero, ◌<◌, cond, length, slice_set}
 use Rattle.std.proofs.Common.{slice_index_or, ap₂, get_or-set_same, get_or-set_other}
-use Rattle.std.specs.Prelude.{Contains, ◌⊎◌, ◌||◌, AllPairs, ◌↔◌}
+use Rattle.std.specs.Prelude.{Contains, ◌⊎◌, ◌||◌, AllPairs, ◌↔◌, not}
 use Rattle.std.proofs.lemmas.List.Elements.{All-contains, All-contains_itself, All-filter, filter_passes}
 use Rattle.std.proofs.lemmas.List.Elements.{Contains-append_right, Contains-append_left, Contains-append_cases}
 use Rattle.std.proofs.lemmas.List.Elements.{Contains-push_cases}
@@ -21,8 +21,13 @@ use Rattle.djq_leaves.proofs.TreeAnswers.{in_image, image_of}
 use Rattle.djq_engine.specs.Kept.{Kept}
 use Rattle.djq_gains.specs.Gains.{count_in}
 use Rattle.djq_gains.specs.Gathering.{is_among, gain_count}
-use Rattle.djq_gains.specs.Gathered.{Gain, Stand, GainsDiffer, StandSomewhere, IsIn, marks_at, in_no_member, gain_of}
-use Rattle.djq_gains.specs.Gathered.{gains_in, slots_in, cells_in, is_by, with_mark, marked_in, Seats}
+use Rattle.djq_protocol.specs.declared.answer.Sign.{Sign}
+use Rattle.djq_protocol.specs.declared.answer.Sign.TheVariants.{Came, Went}
+use Rattle.djq_engine.specs.Lending.{sign_of}
+use Rattle.djq_gains.specs.declared.marks.Marks.{Marks}
+use Rattle.djq_gains.specs.Gathered.{Gain, Mark, in_delta, with_sign, has_mark, IsMarkOf, also_in, Stand, GainsDiffer}
+use Rattle.djq_gains.specs.Gathered.{StandSomewhere, IsIn, marks_at, in_no_delta, gain_of, gains_in, slots_in, cells_in}
+use Rattle.djq_gains.specs.Gathered.{with_mark, marked_in, Seats}
 
 -- ---- Lists, and what is in them.
 
@@ -124,28 +129,28 @@ count_within k members touched different =
 -- ---- A tuple of a delta is taken in.
 
 -- a mark more
-marked_row : (marks : List (List Bool)) (slot nth : ℕ) (r : Row) → slot < length marks
-    → gain_of (slice_set marks slot (slice_set (marks_at marks slot) nth true)) r
-    ≡ with_mark slot nth (gain_of marks r)
-marked_row marks slot nth r low =
-    let more = slice_set (marks_at marks slot) nth true in
-    let gain : List Bool → Gain = λ by. record { slot = r.slot; cells = r.cells; by = by } in
+marked_row : (marks : List Marks) (slot nth : ℕ) (came : Bool) (r : Row) → slot < length marks
+    → gain_of (slice_set marks slot (also_in nth came (marks_at marks slot))) r
+    ≡ with_mark slot nth came (gain_of marks r)
+marked_row marks slot nth came r low =
+    let more = also_in nth came (marks_at marks slot) in
+    let gain : Marks → Gain = λ m. record { slot = r.slot; cells = r.cells; marks = m } in
     elim (cases_eq r.slot slot) [
       | inl here ↦ rw (eq-eqb r.slot slot here) (ap gain
-          (ap (λ (k : ℕ). slice_index_or (slice_set marks slot more) k []) here
-          ∙ get_or-set_same marks slot more [] low
-          ∙ ap (λ (k : ℕ). slice_set (marks_at marks k) nth true) (sym here)))
+          (ap (λ (k : ℕ). slice_index_or (slice_set marks slot more) k in_no_delta) here
+          ∙ get_or-set_same marks slot more in_no_delta low
+          ∙ ap (λ (k : ℕ). also_in nth came (marks_at marks k)) (sym here)))
       | inr other ↦ rw (ne_eqb r.slot slot other)
-          (ap gain (get_or-set_other marks slot r.slot more [] other))
+          (ap gain (get_or-set_other marks slot r.slot more in_no_delta other))
     ]
 
-pub marked_rows : (marks : List (List Bool)) (slot nth : ℕ) (rows : List Row) → slot < length marks
-    → gains_in (slice_set marks slot (slice_set (marks_at marks slot) nth true)) rows
-    ≡ marked_in slot nth (gains_in marks rows)
-marked_rows marks slot nth [] low = refl
-marked_rows marks slot nth (r ∷ rows) low =
-    ap₂ (λ (g : Gain) (gs : List Gain). g ∷ gs) (marked_row marks slot nth r low)
-    (marked_rows marks slot nth rows low)
+pub marked_rows : (marks : List Marks) (slot nth : ℕ) (came : Bool) (rows : List Row) → slot < length marks
+    → gains_in (slice_set marks slot (also_in nth came (marks_at marks slot))) rows
+    ≡ marked_in slot nth came (gains_in marks rows)
+marked_rows marks slot nth came [] low = refl
+marked_rows marks slot nth came (r ∷ rows) low =
+    ap₂ (λ (g : Gain) (gs : List Gain). g ∷ gs) (marked_row marks slot nth came r low)
+    (marked_rows marks slot nth came rows low)
 
 -- a row more, in a slot that has no mark
 out_cons : (i x : ℕ) (xs : List ℕ) → IsOut i (x ∷ xs) → (x ≡ i → ⊥) × IsOut i xs
@@ -156,27 +161,27 @@ slots_cons : (r : Row) (rs : List Row) → slots (r ∷ rs) ≡ r.slot ∷ slots
 unfolding slots
 slots_cons r rs = refl
 
-others_same : (marks more : List (List Bool)) (slot : ℕ) (rows : List Row)
+others_same : (marks more : List Marks) (slot : ℕ) (rows : List Row)
     → ((k : ℕ) → (k ≡ slot → ⊥) → marks_at more k ≡ marks_at marks k) → IsOut slot (slots rows)
     → gains_in more rows ≡ gains_in marks rows
 others_same marks more slot [] same out = refl
 others_same marks more slot (r ∷ rows) same out =
     let o = out_cons slot r.slot (slots rows) (subst (IsOut slot) (slots_cons r rows) out) in
-    ap₂ (λ (by : List Bool) (gs : List Gain).
-    let g : Gain = record { slot = r.slot; cells = r.cells; by = by } in g ∷ gs)
+    ap₂ (λ (m : Marks) (gs : List Gain).
+    let g : Gain = record { slot = r.slot; cells = r.cells; marks = m } in g ∷ gs)
     (same r.slot o.0) (others_same marks more slot rows same o.1)
 
 slots_push : (rows : List Row) (r : Row) → slots (rows ++ r ∷ []) ≡ slots rows ++ r.slot ∷ []
 unfolding slots
 slots_push rows r = map-append (λ (q : Row). q.slot) rows (r ∷ [])
 
-pub laid_rows : (marks more : List (List Bool)) (a : SlotRows) (rows : List Row) (slot : ℕ)
+pub laid_rows : (marks more : List Marks) (a : SlotRows) (rows : List Row) (slot : ℕ)
     (cells : List ℕ) → AreRows a
     → a.rows ≡ rows ++ record { slot = slot; cells = cells } ∷ []
-    → marks_at more slot ≡ in_no_member
+    → marks_at more slot ≡ in_no_delta
     → ((k : ℕ) → (k ≡ slot → ⊥) → marks_at more k ≡ marks_at marks k)
     → gains_in more a.rows
-    ≡ gains_in marks rows ++ record { slot = slot; cells = cells; by = in_no_member } ∷ []
+    ≡ gains_in marks rows ++ record { slot = slot; cells = cells; marks = in_no_delta } ∷ []
 laid_rows marks more a rows slot cells are is none same =
     let row : Row = record { slot = slot; cells = cells } in
     let slots_are = ap slots is ∙ slots_push rows row in
@@ -184,8 +189,8 @@ laid_rows marks more a rows slot cells are is none same =
     (different_here (slots rows) slot [] (subst AreDistinctSlots slots_are are.different)) in
     ap (gains_in more) is
     ∙ map-append (gain_of more) rows (row ∷ [])
-    ∙ ap₂ (λ (gs : List Gain) (by : List Bool).
-    gs ++ record { slot = slot; cells = cells; by = by } ∷ [])
+    ∙ ap₂ (λ (gs : List Gain) (m : Marks).
+    gs ++ record { slot = slot; cells = cells; marks = m } ∷ [])
     (others_same marks more slot rows same out) none
 
 -- a row is the only one in its slot
@@ -226,7 +231,7 @@ only_row front r back different q there at =
 abbrev pub OnlyHas : List Gain → ℕ → List ℕ → Type 0
 OnlyHas gains slot cells = (g : Gain) → Contains gains g → g.slot ≡ slot → g.cells ≡ cells
 
-pub only_gain : (marks : List (List Bool)) (rows : List Row) (slot : ℕ) (cells : List ℕ)
+pub only_gain : (marks : List Marks) (rows : List Row) (slot : ℕ) (cells : List ℕ)
     → AreDistinctSlots (slots rows) → IsRow rows slot cells → OnlyHas (gains_in marks rows) slot cells
 only_gain marks rows slot cells different row g there at =
     let from = image_of (gain_of marks) rows g there in
@@ -237,10 +242,10 @@ only_gain marks rows slot cells different row g there at =
     (ap (λ (x : Gain). x.slot) (sym from.is) ∙ at)
 
 -- this tuple lies in a slot, with these marks
-abbrev pub Lies : List Gain → ℕ → List ℕ → List Bool → Type 0
-Lies gains slot cells by = Contains gains (record { slot = slot; cells = cells; by = by })
+abbrev pub Lies : List Gain → ℕ → List ℕ → Marks → Type 0
+Lies gains slot cells m = Contains gains (record { slot = slot; cells = cells; marks = m })
 
-pub lies_there : (marks : List (List Bool)) (rows : List Row) (slot : ℕ) (cells : List ℕ)
+pub lies_there : (marks : List Marks) (rows : List Row) (slot : ℕ) (cells : List ℕ)
     → IsRow rows slot cells → Lies (gains_in marks rows) slot cells (marks_at marks slot)
 lies_there marks rows slot cells row =
     let r : Row = record { slot = slot; cells = cells } in
@@ -255,10 +260,10 @@ row_below rows slot cells room below row =
     (subst (AreBelow room) (ap slots row.is ∙ slots_middle row.front r row.back) below)
 
 -- what a further mark changes of a tuple
-mark_keeps_cells : (slot nth : ℕ) (g : Gain) → (with_mark slot nth g).cells ≡ g.cells
-mark_keeps_cells slot nth g = step (g.slot == slot)
+mark_keeps_cells : (slot nth : ℕ) (came : Bool) (g : Gain) → (with_mark slot nth came g).cells ≡ g.cells
+mark_keeps_cells slot nth came g = step (g.slot == slot)
   where
-    step : (b : Bool) → (cond b (record g { by = slice_set g.by nth true }) g).cells ≡ g.cells
+    step : (b : Bool) → (cond b (record g { marks = also_in nth came g.marks }) g).cells ≡ g.cells
     step true = refl
     step false = refl
 
@@ -280,111 +285,164 @@ by_back by nth k h = elim (cases_eq k nth) [
   | inr other ↦ inl (sym (get_or-set_other by nth k true false other) ∙ h)
 ]
 
-mark_keeps : (slot nth : ℕ) (g : Gain) (k : ℕ) → is_by g k ≡ true
-    → is_by (with_mark slot nth g) k ≡ true
-mark_keeps slot nth g k h = step (g.slot == slot)
+or_more : (a b : Bool) → a ≡ true → (a || b) ≡ true
+or_more true b h = refl
+or_more false b h = absurd (false≢true h)
+
+or_new : (a b : Bool) → b ≡ true → (a || b) ≡ true
+or_new true b h = refl
+or_new false b h = h
+
+or_old : (a b : Bool) → (a || b) ≡ true → b ≡ false → a ≡ true
+or_old true b h none = refl
+or_old false b h none = absurd (false≢true (sym none ∙ h))
+
+-- which marks there are behind a further one
+set_keeps : (m : Marks) (nth : ℕ) (came : Bool) (mark : Mark) → has_mark m mark ≡ true
+    → has_mark (also_in nth came m) mark ≡ true
+set_keeps m nth came (in_delta k) h = by_more m.stands nth k h
+set_keeps m nth came (with_sign Came) h = or_more m.came came h
+set_keeps m nth came (with_sign Went) h = or_more m.went (not came) h
+
+set_gives : (m : Marks) (nth : ℕ) (came : Bool) (mark : Mark) → nth < length m.stands
+    → IsMarkOf mark nth (sign_of came) → has_mark (also_in nth came m) mark ≡ true
+set_gives m nth came (in_delta k) low is =
+    ap (λ (j : ℕ). slice_index_or (slice_set m.stands nth true) j false) is
+    ∙ get_or-set_same m.stands nth true false low
+set_gives m nth came (with_sign s) low is =
+    ap (λ (r : Sign). has_mark (also_in nth came m) (with_sign r)) is ∙ given came
   where
-    step : (b : Bool) → is_by (cond b (record g { by = slice_set g.by nth true }) g) k ≡ true
-    step true = by_more g.by nth k h
+    given : (b : Bool) → has_mark (also_in nth b m) (with_sign (sign_of b)) ≡ true
+    given true = or_new m.came true refl
+    given false = or_new m.went true refl
+
+set_back : (m : Marks) (nth : ℕ) (came : Bool) (mark : Mark) → has_mark (also_in nth came m) mark ≡ true
+    → (has_mark m mark ≡ true) ⊎ IsMarkOf mark nth (sign_of came)
+set_back m nth came (in_delta k) h = by_back m.stands nth k h
+set_back m nth true (with_sign Came) h = inr refl
+set_back m nth false (with_sign Came) h = inl (or_old m.came false h refl)
+set_back m nth true (with_sign Went) h = inl (or_old m.went false h refl)
+set_back m nth false (with_sign Went) h = inr refl
+
+-- which marks a tuple has behind a further one
+mark_keeps : (slot nth : ℕ) (came : Bool) (g : Gain) (mark : Mark) → has_mark g.marks mark ≡ true
+    → has_mark (with_mark slot nth came g).marks mark ≡ true
+mark_keeps slot nth came g mark h = step (g.slot == slot)
+  where
+    step : (b : Bool) → has_mark (cond b (record g { marks = also_in nth came g.marks }) g).marks mark ≡ true
+    step true = set_keeps g.marks nth came mark h
     step false = h
 
-mark_gives : (slot nth : ℕ) (g : Gain) → g.slot ≡ slot → nth < length g.by
-    → is_by (with_mark slot nth g) nth ≡ true
-mark_gives slot nth g at low =
-    rw (eq-eqb g.slot slot at) (get_or-set_same g.by nth true false low)
+mark_gives : (slot nth : ℕ) (came : Bool) (g : Gain) (mark : Mark) → g.slot ≡ slot → nth < length g.marks.stands
+    → IsMarkOf mark nth (sign_of came) → has_mark (with_mark slot nth came g).marks mark ≡ true
+mark_gives slot nth came g mark at low is =
+    rw (eq-eqb g.slot slot at) (set_gives g.marks nth came mark low is)
 
-mark_back : (slot nth : ℕ) (g : Gain) (k : ℕ) → is_by (with_mark slot nth g) k ≡ true
-    → (is_by g k ≡ true) ⊎ ((k ≡ nth) × (g.slot ≡ slot))
-mark_back slot nth g k h = elim (cases_eq g.slot slot) [
-  | inl at ↦ or_so (by_back g.by nth k (sym (ap (λ (b : Bool).
-      is_by (cond b (record g { by = slice_set g.by nth true }) g) k) (eq-eqb g.slot slot at)) ∙ h)) at
+mark_back : (slot nth : ℕ) (came : Bool) (g : Gain) (mark : Mark)
+    → has_mark (with_mark slot nth came g).marks mark ≡ true
+    → (has_mark g.marks mark ≡ true) ⊎ (IsMarkOf mark nth (sign_of came) × (g.slot ≡ slot))
+mark_back slot nth came g mark h = elim (cases_eq g.slot slot) [
+  | inl at ↦ or_so (set_back g.marks nth came mark (sym (ap (λ (b : Bool).
+      has_mark (cond b (record g { marks = also_in nth came g.marks }) g).marks mark) (eq-eqb g.slot slot at)) ∙ h)) at
   | inr off ↦ inl (sym (ap (λ (b : Bool).
-      is_by (cond b (record g { by = slice_set g.by nth true }) g) k) (ne_eqb g.slot slot off)) ∙ h)
+      has_mark (cond b (record g { marks = also_in nth came g.marks }) g).marks mark) (ne_eqb g.slot slot off)) ∙ h)
 ]
   where
-    or_so : (slice_index_or g.by k false ≡ true) ⊎ (k ≡ nth) → g.slot ≡ slot
-        → (is_by g k ≡ true) ⊎ ((k ≡ nth) × (g.slot ≡ slot))
+    or_so : (has_mark g.marks mark ≡ true) ⊎ IsMarkOf mark nth (sign_of came) → g.slot ≡ slot
+        → (has_mark g.marks mark ≡ true) ⊎ (IsMarkOf mark nth (sign_of came) × (g.slot ≡ slot))
     or_so (inl had) at = inl had
-    or_so (inr same) at = inr (same, at)
+    or_so (inr is) at = inr (is, at)
 
--- which tuples stand where, behind a further mark
-pub marked_stand : (gains : List Gain) (slot nth : ℕ) (cells : List ℕ) (by : List Bool)
-    → OnlyHas gains slot cells → Lies gains slot cells by → nth < length by
-    → (k : ℕ) (t : List ℕ) → Stand (marked_in slot nth gains) k t
-    ↔ (Stand gains k t ⊎ ((k ≡ nth) × (t ≡ cells)))
-marked_stand gains slot nth cells by only lies low k t = (to, from)
+-- A further mark for a tuple is one of these cells.
+abbrev pub TakesMark : List Gain → List Gain → ℕ → Bool → List ℕ → Type 0
+TakesMark old new nth came cells = (mark : Mark) (t : List ℕ)
+    → Stand new mark t ↔ (Stand old mark t ⊎ (IsMarkOf mark nth (sign_of came) × (t ≡ cells)))
+
+pub marked_stand : (gains : List Gain) (slot nth : ℕ) (came : Bool) (cells : List ℕ) (m : Marks)
+    → OnlyHas gains slot cells → Lies gains slot cells m → nth < length m.stands
+    → TakesMark gains (marked_in slot nth came gains) nth came cells
+marked_stand gains slot nth came cells m only lies low mark t = (to, from)
   where
-    to : Stand (marked_in slot nth gains) k t → Stand gains k t ⊎ ((k ≡ nth) × (t ≡ cells))
+    to : Stand (marked_in slot nth came gains) mark t
+        → Stand gains mark t ⊎ (IsMarkOf mark nth (sign_of came) × (t ≡ cells))
     to s =
-        let i = image_of (with_mark slot nth) gains s.gain s.there in
-        let cells_are = sym (mark_keeps_cells slot nth i.of)
+        let i = image_of (with_mark slot nth came) gains s.gain s.there in
+        let cells_are = sym (mark_keeps_cells slot nth came i.of)
         ∙ ap (λ (g : Gain). g.cells) (sym i.is) ∙ s.is in
-        elim (mark_back slot nth i.of k (ap (λ (g : Gain). is_by g k) (sym i.is) ∙ s.marked)) [
+        elim (mark_back slot nth came i.of mark (ap (λ (g : Gain). has_mark g.marks mark) (sym i.is) ∙ s.marked)) [
           | inl had ↦ inl (record { gain = i.of; there = i.there; is = cells_are; marked = had })
           | inr new ↦ inr (new.0, sym cells_are ∙ only i.of i.there new.1)
         ]
 
-    at : Stand gains k t → Stand (marked_in slot nth gains) k t
+    at : Stand gains mark t → Stand (marked_in slot nth came gains) mark t
     at s = record {
-      gain = with_mark slot nth s.gain;
-      there = in_image (with_mark slot nth) gains s.gain s.there;
-      is = mark_keeps_cells slot nth s.gain ∙ s.is;
-      marked = mark_keeps slot nth s.gain k s.marked;
+      gain = with_mark slot nth came s.gain;
+      there = in_image (with_mark slot nth came) gains s.gain s.there;
+      is = mark_keeps_cells slot nth came s.gain ∙ s.is;
+      marked = mark_keeps slot nth came s.gain mark s.marked;
     }
 
-    new : k ≡ nth → t ≡ cells → Stand (marked_in slot nth gains) k t
-    new same is =
-        let g : Gain = record { slot = slot; cells = cells; by = by } in
+    new : IsMarkOf mark nth (sign_of came) → t ≡ cells → Stand (marked_in slot nth came gains) mark t
+    new so is =
+        let g : Gain = record { slot = slot; cells = cells; marks = m } in
         record {
-          gain = with_mark slot nth g;
-          there = in_image (with_mark slot nth) gains g lies;
-          is = mark_keeps_cells slot nth g ∙ sym is;
-          marked = ap (λ (j : ℕ). is_by (with_mark slot nth g) j) same ∙ mark_gives slot nth g refl low;
+          gain = with_mark slot nth came g;
+          there = in_image (with_mark slot nth came) gains g lies;
+          is = mark_keeps_cells slot nth came g ∙ sym is;
+          marked = mark_gives slot nth came g mark refl low so;
         }
 
-    from : Stand gains k t ⊎ ((k ≡ nth) × (t ≡ cells)) → Stand (marked_in slot nth gains) k t
+    from : Stand gains mark t ⊎ (IsMarkOf mark nth (sign_of came) × (t ≡ cells))
+        → Stand (marked_in slot nth came gains) mark t
     from (inl s) = at s
     from (inr both) = new both.0 both.1
 
-pub marked_cells : (slot nth : ℕ) (gains : List Gain) → cells_in (marked_in slot nth gains) ≡ cells_in gains
-marked_cells slot nth [] = refl
-marked_cells slot nth (g ∷ gains) = ap₂ (λ (t : List ℕ) (ts : List (List ℕ)). t ∷ ts)
-    (mark_keeps_cells slot nth g) (marked_cells slot nth gains)
+pub marked_cells : (slot nth : ℕ) (came : Bool) (gains : List Gain)
+    → cells_in (marked_in slot nth came gains) ≡ cells_in gains
+marked_cells slot nth came [] = refl
+marked_cells slot nth came (g ∷ gains) = ap₂ (λ (t : List ℕ) (ts : List (List ℕ)). t ∷ ts)
+    (mark_keeps_cells slot nth came g) (marked_cells slot nth came gains)
 
-pub marked_apart : (slot nth : ℕ) (gains : List Gain) → GainsDiffer gains → GainsDiffer (marked_in slot nth gains)
-marked_apart slot nth gains apart =
-    subst (λ (ts : List (List ℕ)). AllPairs (λ t u. t ≡ u → ⊥) ts) (sym (marked_cells slot nth gains)) apart
+pub marked_apart : (slot nth : ℕ) (came : Bool) (gains : List Gain) → GainsDiffer gains
+    → GainsDiffer (marked_in slot nth came gains)
+marked_apart slot nth came gains apart =
+    subst (λ (ts : List (List ℕ)). AllPairs (λ t u. t ≡ u → ⊥) ts) (sym (marked_cells slot nth came gains)) apart
 
-pub marked_some : (slot nth : ℕ) (gains : List Gain)
-    → ((g : Gain) → Contains gains g → ((k : ℕ) × (is_by g k ≡ true))
-    ⊎ ((g.slot ≡ slot) × (nth < length g.by)))
-    → StandSomewhere (marked_in slot nth gains)
-marked_some slot nth gains each g there =
-    let i = image_of (with_mark slot nth) gains g there in
+-- a tuple has a place in some delta, or is given one
+abbrev IsPlaced : ℕ → ℕ → Gain → Type 0
+IsPlaced slot nth g = ((k : ℕ) × (has_mark g.marks (in_delta k) ≡ true))
+    ⊎ ((g.slot ≡ slot) × (nth < length g.marks.stands))
+
+pub marked_some : (slot nth : ℕ) (came : Bool) (gains : List Gain)
+    → ((g : Gain) → Contains gains g → IsPlaced slot nth g) → StandSomewhere (marked_in slot nth came gains)
+marked_some slot nth came gains each g there =
+    let i = image_of (with_mark slot nth came) gains g there in
     let place = by_or i.of (each i.of i.there) in
-    (place.0, ap (λ (x : Gain). is_by x place.0) i.is ∙ place.1)
+    (place.0, ap (λ (x : Gain). has_mark x.marks (in_delta place.0)) i.is ∙ place.1)
   where
-    by_or : (h : Gain) → ((k : ℕ) × (is_by h k ≡ true)) ⊎ ((h.slot ≡ slot) × (nth < length h.by))
-        → (k : ℕ) × (is_by (with_mark slot nth h) k ≡ true)
-    by_or h (inl had) = (had.0, mark_keeps slot nth h had.0 had.1)
-    by_or h (inr new) = (nth, mark_gives slot nth h new.0 new.1)
+    by_or : (h : Gain) → IsPlaced slot nth h
+        → (k : ℕ) × (has_mark (with_mark slot nth came h).marks (in_delta k) ≡ true)
+    by_or h (inl had) = (had.0, mark_keeps slot nth came h (in_delta had.0) had.1)
+    by_or h (inr new) = (nth, mark_gives slot nth came h (in_delta nth) new.0 new.1 refl)
 
 -- a tuple that lies in a new slot stands nowhere yet
 abbrev pub fresh : ℕ → List ℕ → Gain
-fresh slot cells = record { slot = slot; cells = cells; by = in_no_member }
+fresh slot cells = record { slot = slot; cells = cells; marks = in_no_delta }
 
-nowhere : (k : ℕ) → slice_index_or in_no_member k false ≡ true → ⊥
-nowhere k h = elim (cases_lt k 8) [
+nowhere : (mark : Mark) → has_mark in_no_delta mark ≡ true → ⊥
+nowhere (in_delta k) h = elim (cases_lt k 8) [
   | inl low ↦ false≢true (sym (get_or-replicate 8 k false false low) ∙ h)
-  | inr high ↦ false≢true (sym (get_or_past in_no_member k false high) ∙ h)
+  | inr high ↦ false≢true (sym (get_or_past in_no_delta.stands k false high) ∙ h)
 ]
+nowhere (with_sign Came) h = false≢true h
+nowhere (with_sign Went) h = false≢true h
 
-pub fresh_stand : (gains : List Gain) (slot : ℕ) (cells : List ℕ) (k : ℕ) (t : List ℕ)
-    → Stand (gains ++ fresh slot cells ∷ []) k t ↔ Stand gains k t
-fresh_stand gains slot cells k t = (
+pub fresh_stand : (gains : List Gain) (slot : ℕ) (cells : List ℕ) (mark : Mark) (t : List ℕ)
+    → Stand (gains ++ fresh slot cells ∷ []) mark t ↔ Stand gains mark t
+fresh_stand gains slot cells mark t = (
   λ s. elim (Contains-push_cases gains (fresh slot cells) s.gain s.there) [
     | inl there ↦ record { gain = s.gain; there = there; is = s.is; marked = s.marked }
-    | inr new ↦ absurd (nowhere k (ap (λ (g : Gain). is_by g k) new ∙ s.marked))
+    | inr new ↦ absurd (nowhere mark (ap (λ (g : Gain). has_mark g.marks mark) new ∙ s.marked))
   ],
   λ s. record {
     gain = s.gain;
@@ -394,7 +452,7 @@ fresh_stand gains slot cells k t = (
   },
 )
 
-absent_at : (marks : List (List Bool)) (rows : List Row) (u : List ℕ) → IsAbsent rows u → (k : ℕ)
+absent_at : (marks : List Marks) (rows : List Row) (u : List ℕ) → IsAbsent rows u → (k : ℕ)
     (d : List ℕ) → k < length (cells_in (gains_in marks rows))
     → slice_index_or (cells_in (gains_in marks rows)) k d ≡ u → ⊥
 unfolding IsAbsent
@@ -403,7 +461,7 @@ absent_at marks (r ∷ rows) u absent zero d low is = absent.0 is
 absent_at marks (r ∷ rows) u absent (suc k) d low is =
     absent_at marks rows u absent.1 k d (omega arith) is
 
-pub fresh_apart : (marks : List (List Bool)) (rows : List Row) (slot : ℕ) (cells : List ℕ)
+pub fresh_apart : (marks : List Marks) (rows : List Row) (slot : ℕ) (cells : List ℕ)
     → IsAbsent rows cells → GainsDiffer (gains_in marks rows)
     → GainsDiffer (gains_in marks rows ++ fresh slot cells ∷ [])
 fresh_apart marks rows slot cells absent apart =
@@ -413,61 +471,61 @@ fresh_apart marks rows slot cells absent apart =
     (λ k d low. absent_at marks rows cells absent k d low))
 
 -- A tuple that has a slot, behind a mark for it.
-pub record IsNoted (old : List Gain) (nth : ℕ) (cells : List ℕ) (new : List Gain) : Type 0 where
-  pub apart : GainsDiffer new
-  pub some : StandSomewhere new
-  pub stand : (k : ℕ) (t : List ℕ) → Stand new k t ↔ (Stand old k t ⊎ ((k ≡ nth) × (t ≡ cells)))
+pub record IsNoted (old : List Gain) (nth : ℕ) (came : Bool) (cells : List ℕ) (new : List Gain) : Type 0
+  where
+    pub apart : GainsDiffer new
+    pub some : StandSomewhere new
+    pub stand : TakesMark old new nth came cells
 
-pub noted : (before now : List (List Bool)) (old rows : List Row) (slot nth : ℕ) (cells : List ℕ)
-    → AreDistinctSlots (slots rows) → IsRow rows slot cells → nth < length (marks_at now slot)
+pub noted : (before now : List Marks) (old rows : List Row) (slot nth : ℕ) (came : Bool) (cells : List ℕ)
+    → AreDistinctSlots (slots rows) → IsRow rows slot cells → nth < length (marks_at now slot).stands
     → GainsDiffer (gains_in before old) → StandSomewhere (gains_in before old)
     → Seats old (gains_in before old) slot cells (gains_in now rows)
-    → IsNoted (gains_in before old) nth cells (marked_in slot nth (gains_in now rows))
-noted before now old rows slot nth cells different row low apart some (inl same) = record {
-  apart = marked_apart slot nth (gains_in now rows)
-      (subst GainsDiffer (sym same) apart);
-  some = marked_some slot nth (gains_in now rows)
+    → IsNoted (gains_in before old) nth came cells (marked_in slot nth came (gains_in now rows))
+noted before now old rows slot nth came cells different row low apart some (inl same) = record {
+  apart = marked_apart slot nth came (gains_in now rows) (subst GainsDiffer (sym same) apart);
+  some = marked_some slot nth came (gains_in now rows)
       (λ g there. inl (some g (subst (λ (gs : List Gain). Contains gs g) same there)));
-  stand = λ k t. subst (λ (gs : List Gain). Stand (marked_in slot nth (gains_in now rows)) k t
-      ↔ (Stand gs k t ⊎ ((k ≡ nth) × (t ≡ cells)))) same
-      (marked_stand (gains_in now rows) slot nth cells (marks_at now slot)
-      (only_gain now rows slot cells different row) (lies_there now rows slot cells row) low k t);
+  stand = subst (λ (gs : List Gain). TakesMark gs (marked_in slot nth came (gains_in now rows)) nth came cells) same
+      (marked_stand (gains_in now rows) slot nth came cells (marks_at now slot)
+      (only_gain now rows slot cells different row) (lies_there now rows slot cells row) low);
 }
-noted before now old rows slot nth cells different row low apart some (inr laid) = record {
-  apart = marked_apart slot nth (gains_in now rows)
+noted before now old rows slot nth came cells different row low apart some (inr laid) = record {
+  apart = marked_apart slot nth came (gains_in now rows)
       (subst GainsDiffer (sym laid.1) (fresh_apart before old slot cells laid.0 apart));
-  some = marked_some slot nth (gains_in now rows) each;
-  stand = λ k t.
-      let marks = marked_stand (gains_in now rows) slot nth cells (marks_at now slot)
-      (only_gain now rows slot cells different row) (lies_there now rows slot cells row) low k t in
-      let stays = fresh_stand (gains_in before old) slot cells k t in
-      let here = λ (s : Stand (gains_in now rows) k t). stays.0
-      (subst (λ (gs : List Gain). Stand gs k t) laid.1 s) in
-      let back = λ (s : Stand (gains_in before old) k t).
-      subst (λ (gs : List Gain). Stand gs k t) (sym laid.1) (stays.1 s) in (
+  some = marked_some slot nth came (gains_in now rows) each;
+  stand = λ mark t.
+      let marks = marked_stand (gains_in now rows) slot nth came cells (marks_at now slot)
+      (only_gain now rows slot cells different row) (lies_there now rows slot cells row) low mark t in
+      let stays = fresh_stand (gains_in before old) slot cells mark t in
+      let here = λ (s : Stand (gains_in now rows) mark t). stays.0
+      (subst (λ (gs : List Gain). Stand gs mark t) laid.1 s) in
+      let back = λ (s : Stand (gains_in before old) mark t).
+      subst (λ (gs : List Gain). Stand gs mark t) (sym laid.1) (stays.1 s) in (
         λ s. elim (marks.0 s) [ inl had ↦ inl (here had) | inr new ↦ inr new ],
         λ o. elim o [ inl had ↦ marks.1 (inl (back had)) | inr new ↦ marks.1 (inr new) ],
       );
 }
   where
-    each : (g : Gain) → Contains (gains_in now rows) g → ((k : ℕ) × (is_by g k ≡ true))
-        ⊎ ((g.slot ≡ slot) × (nth < length g.by))
+    each : (g : Gain) → Contains (gains_in now rows) g → IsPlaced slot nth g
     each g there = elim (Contains-push_cases (gains_in before old) (fresh slot cells) g
         (subst (λ (gs : List Gain). Contains gs g) laid.1 there)) [
           | inl had ↦ inl (some g had)
           | inr new ↦ inr (
             sym (ap (λ (x : Gain). x.slot) new),
-            subst (λ (by : List Bool). nth < length by) (marks_are g there (sym (ap (λ (x : Gain). x.slot) new))) low,
+            subst (λ (m : Marks). nth < length m.stands)
+                (marks_are g there (sym (ap (λ (x : Gain). x.slot) new))) low,
           )
         ]
       where
-        marks_are : (h : Gain) → Contains (gains_in now rows) h → h.slot ≡ slot → marks_at now slot ≡ h.by
+        marks_are : (h : Gain) → Contains (gains_in now rows) h → h.slot ≡ slot → marks_at now slot ≡ h.marks
         marks_are h at is =
             let i = image_of (gain_of now) rows h at in
-            ap (marks_at now) (sym (ap (λ (x : Gain). x.slot) (sym i.is) ∙ is)) ∙ ap (λ (x : Gain). x.by) (sym i.is)
+            ap (marks_at now) (sym (ap (λ (x : Gain). x.slot) (sym i.is) ∙ is))
+            ∙ ap (λ (x : Gain). x.marks) (sym i.is)
 
 -- where the tuples are cut, the rows are
-pub record RowCut (marks : List (List Bool)) (rows : List Row) (g : Gain) (back : List Gain) : Type 0
+pub record RowCut (marks : List Marks) (rows : List Row) (g : Gain) (back : List Gain) : Type 0
   where
     pub before : List Row
     pub row : Row
@@ -476,7 +534,7 @@ pub record RowCut (marks : List (List Bool)) (rows : List Row) (g : Gain) (back 
     pub gain : gain_of marks row ≡ g
     pub rest : gains_in marks behind ≡ back
 
-pub cut_rows : (marks : List (List Bool)) (rows : List Row) (front : List Gain) (g : Gain)
+pub cut_rows : (marks : List Marks) (rows : List Row) (front : List Gain) (g : Gain)
     (back : List Gain) → gains_in marks rows ≡ front ++ g ∷ back → RowCut marks rows g back
 cut_rows marks [] [] g back is = absurd (cc)
 cut_rows marks [] (f ∷ front) g back is = absurd (cc)
@@ -494,7 +552,7 @@ cut_rows marks (r ∷ rows) (f ∷ front) g back is =
       rest = c.rest;
     }
 
-pub held_by : (marks : List (List Bool)) (rows : List Row) (slot : ℕ) → IsIn (gains_in marks rows) slot
+pub held_by : (marks : List Marks) (rows : List Row) (slot : ℕ) → IsIn (gains_in marks rows) slot
     → IsRowHeld rows slot
 held_by marks rows slot lies =
     let c = cut_rows marks rows lies.front lies.gain lies.back lies.is in
@@ -508,7 +566,7 @@ held_by marks rows slot lies =
       };
     }
 
-pub slots_are : (marks : List (List Bool)) (rows : List Row) → slots_in (gains_in marks rows) ≡ slots rows
+pub slots_are : (marks : List Marks) (rows : List Row) → slots_in (gains_in marks rows) ≡ slots rows
 unfolding slots
 slots_are marks [] = refl
 slots_are marks (r ∷ rows) = ap (λ (ns : List ℕ). r.slot ∷ ns) (slots_are marks rows)
@@ -521,7 +579,7 @@ wide_at width [] r k wide low is = absurd (omega arith)
 wide_at width (q ∷ rows) r zero wide low is = ap (λ (x : Row). length x.cells) (sym is) ∙ wide.0
 wide_at width (q ∷ rows) r (suc k) wide low is = wide_at width rows r k wide.1 (omega arith) is
 
-pub wide_gain : (width : ℕ) (marks : List (List Bool)) (rows : List Row) → AreWideRows width rows
+pub wide_gain : (width : ℕ) (marks : List Marks) (rows : List Row) → AreWideRows width rows
     → (g : Gain) → Contains (gains_in marks rows) g → length g.cells ≡ width
 wide_gain width marks rows wide g there =
     let i = image_of (gain_of marks) rows g there in

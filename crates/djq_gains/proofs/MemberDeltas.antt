@@ -1,17 +1,15 @@
 -- What the members' deltas say is gathered, member by member.
-use Rattle.std.proofs.Common.{◌≡◌, ℕ, ◌+◌, ◌<◌, List, [], ◌∷◌, ◌++◌, length, map, take, refl, sym, ap, ◌∙◌, subst, inl}
+use Rattle.std.proofs.Common.{◌≡◌, ℕ, ◌+◌, ◌<◌, List, [], ◌∷◌, ◌++◌, length, take, refl, sym, ap, ◌∙◌, subst, inl}
 use Rattle.std.proofs.Common.{inr, arith, ◌≤◌, Bool, true, false, cond, filter, sum_by}
 use Rattle.std.specs.Prelude.{◌↔◌, ◌⊎◌, Option, None, Some, IsSome, IsSomeAnd, option_map, unwrap_or, Contains}
 use Rattle.std.specs.Prelude.{slice_index_or, slice_get, All}
 use Rattle.std.proofs.lemmas.Option.{slice_get-get_or, same_Some, none-some, slice_get_within, get_or_from_slice_get}
-use Rattle.std.proofs.lemmas.List.{length-map, get_or-map, take_more, append-nil, take_all}
+use Rattle.std.proofs.lemmas.List.{length-map, take_more, append-nil, take_all}
 use Rattle.std.proofs.lemmas.List.Elements.{Contains-append_left, Contains-push, Contains-push_cases, filter_more}
 use Rattle.std.proofs.lemmas.Bool.{cases_lt, false≢true}
 use Rattle.std.proofs.lemmas.List.Sums.{sum_by_push}
 use Rattle.djq_model.specs.declared.relation.ColumnType.{ColumnType}
 use Rattle.djq_model.specs.Data.{Bytes, Tuple}
-use Rattle.djq_protocol.specs.declared.answer.Sign.{Sign}
-use Rattle.djq_protocol.specs.declared.answer.Sign.TheVariants.{Came}
 use Rattle.djq_database.specs.Cells.{cell_for, cells_of, StandFor}
 use Rattle.djq_database.specs.Catalog.{Catalog}
 use Rattle.djq_store_spec.specs.Delta.{Change}
@@ -22,8 +20,10 @@ use Rattle.djq_live_query.specs.Live.{Live, IsKept, IsKeptSomewhere}
 use Rattle.djq_live_query.proofs.Catalogs.{nth_is, nth_has, are_kept}
 use Rattle.djq_engine.specs.Kept.{Kept, TellsChangeCells, CellsAre, PlacesAreKept}
 use Rattle.djq_gains.specs.Gains.{told_of_member, changes_in, count_in, AtFirstMember}
-use Rattle.djq_gains.specs.Gathered.{Gain, Stand}
-use Rattle.djq_gains.specs.Gathering.{cells_told, is_among, IsOfMember, GathersGains}
+use Rattle.djq_engine.specs.Lending.{sign_of}
+use Rattle.djq_gains.specs.Gathered.{Gain, Mark, IsMarkOf, Stand}
+use Rattle.djq_gains.specs.Gathering.{is_among, HasMarkBy, HasMarkOfMember, GathersGains}
+use Rattle.djq_gains.proofs.DeltaTuples.{TakesMark}
 
 -- ---- What is told of a query is taken in, line by line.
 
@@ -61,126 +61,129 @@ stand_long texts types cells t stand =
     ap (λ (u : List ℕ). length u) stand.are ∙ length-map t (cell_for texts) ∙ fits_long types t stand.of
 
 -- the line at a number
-pub record IsLine (k : Kept) (place n width : ℕ) (cells : List ℕ) : Type 0 where
-  pub is : slice_index_or (cells_told k place) n [] ≡ cells
+pub record IsLine (k : Kept) (place n width : ℕ) (came : Bool) (cells : List ℕ) : Type 0 where
+  pub change : Change
+  pub at : slice_get (changes_in k place) n ≡ Some change
+  pub sign : sign_of came ≡ change.sign
+  pub is : cells_of (k.store).texts change.answer ≡ cells
   pub wide : length cells ≡ width
 
-pub told_line : (k : Kept) (place n width : ℕ) (sign : Sign) (cells : List ℕ) (changes : List Change)
+told_line : (k : Kept) (place n width : ℕ) (came : Bool) (cells : List ℕ) (changes : List Change)
     → IsSomeAnd (query_at k.places place) (λ l. length (head_types l) ≡ width)
-    → told_of_member k place ≡ Some changes → n < length changes
-    → TellsChangeCells k (record { at = place }) n sign cells → IsLine k place n width cells
-told_line k place n width sign cells changes query told low tells =
-    let none : Change = record { sign = Came; answer = [] } in
+    → told_of_member k place ≡ Some changes
+    → TellsChangeCells k (record { at = place }) n (sign_of came) cells → IsLine k place n width came cells
+told_line k place n width came cells changes query told tells =
     let q = some_with (query_at k.places place) (λ l. length (head_types l) ≡ width) query in
     let l = q.value in
-    let line = slice_index_or changes n none in
     let of_changes = λ (cs : List Change). IsSomeAnd (slice_get cs n)
-    (λ c. (sign ≡ c.sign) × CellsAre k l cells c) in
+    (λ c. (sign_of came ≡ c.sign) × CellsAre k l cells c) in
     let at_place = some_at (query_at k.places place) (λ m. IsSomeAnd (told_of_member k place)
-    (λ cs. IsSomeAnd (slice_get cs n) (λ c. (sign ≡ c.sign) × CellsAre k m cells c))) l q.is tells in
+    (λ cs. IsSomeAnd (slice_get cs n) (λ c. (sign_of came ≡ c.sign) × CellsAre k m cells c))) l q.is tells in
     let here = some_at (told_of_member k place) of_changes changes told at_place in
-    let stand = some_at (slice_get changes n) (λ c. (sign ≡ c.sign) × CellsAre k l cells c) line
-    (slice_get-get_or changes n none low) here in
-    let texts = (k.store).texts in
+    let line = some_with (slice_get changes n) (λ c. (sign_of came ≡ c.sign) × CellsAre k l cells c) here in
     record {
-      is = ap (λ (o : Option (List Change)).
-          slice_index_or (map (λ (c : Change). cells_of texts c.answer) (unwrap_or o [])) n []) told
-          ∙ get_or-map (λ (c : Change). cells_of texts c.answer) changes n none [] low
-          ∙ sym (stand.1).are;
-      wide = stand_long texts (head_types l) cells line.answer stand.1 ∙ q.holds;
+      change = line.value;
+      at = ap (λ (o : Option (List Change)). slice_get (unwrap_or o []) n) told ∙ line.is;
+      sign = line.holds.0;
+      is = sym (line.holds.1).are;
+      wide = stand_long (k.store).texts (head_types l) cells (line.value).answer line.holds.1 ∙ q.holds;
     }
 
 -- Tuples of the nth delta are taken in.
-abbrev pub TakesIn : List Gain → List Gain → ℕ → List (List ℕ) → Type 0
-TakesIn old new nth tuples = (k : ℕ) (t : List ℕ)
-    → Stand new k t ↔ (Stand old k t ⊎ ((k ≡ nth) × Contains tuples t))
+abbrev pub TakesIn : List Bytes → List Gain → List Gain → ℕ → List Change → Type 0
+TakesIn texts old new nth changes = (mark : Mark) (t : List ℕ)
+    → Stand new mark t ↔ (Stand old mark t ⊎ HasMarkBy texts changes nth mark t)
 
-nothing_there : (t : List ℕ) → Contains [] t → ⊥
-nothing_there t h = let low = h.1 in omega arith
+pub nothing_there : (c : Change) → Contains [] c → ⊥
+nothing_there c h = let low = h.1 in omega arith
 
-pub takes_none : (old : List Gain) (nth : ℕ) → TakesIn old old nth []
-takes_none old nth k t = (λ s. inl s, from)
+pub takes_none : (texts : List Bytes) (old : List Gain) (nth : ℕ) → TakesIn texts old old nth []
+takes_none texts old nth mark t = (λ s. inl s, from)
   where
-    from : Stand old k t ⊎ ((k ≡ nth) × Contains [] t) → Stand old k t
+    from : Stand old mark t ⊎ HasMarkBy texts [] nth mark t → Stand old mark t
     from (inl s) = s
-    from (inr both) = absurd (nothing_there t both.1)
+    from (inr by) = absurd (nothing_there by.change by.there)
 
-pub takes_more : (old mid new : List Gain) (nth : ℕ) (tuples : List (List ℕ)) (n : ℕ) (cells : List ℕ)
-    → TakesIn old mid nth (take n tuples)
-    → ((k : ℕ) (t : List ℕ) → Stand new k t ↔ (Stand mid k t ⊎ ((k ≡ nth) × (t ≡ cells))))
-    → n < length tuples → slice_index_or tuples n [] ≡ cells → TakesIn old new nth (take (n + 1) tuples)
-takes_more old mid new nth tuples n cells before one low is k t = (to, from)
+pub takes_more : (texts : List Bytes) (old mid new : List Gain) (nth : ℕ) (changes : List Change) (n : ℕ)
+    (came : Bool) (cells : List ℕ) (c : Change) → TakesIn texts old mid nth (take n changes)
+    → TakesMark mid new nth came cells → slice_get changes n ≡ Some c → sign_of came ≡ c.sign
+    → cells_of texts c.answer ≡ cells → TakesIn texts old new nth (take (n + 1) changes)
+takes_more texts old mid new nth changes n came cells c before one at sign is mark t = (to, from)
   where
-    more : take (n + 1) tuples ≡ take n tuples ++ cells ∷ []
-    more = take_more tuples n [] low ∙ ap (λ (c : List ℕ). take n tuples ++ c ∷ []) is
+    more : take (n + 1) changes ≡ take n changes ++ c ∷ []
+    more = take_more changes n c (slice_get_within changes n c at)
+        ∙ ap (λ (d : Change). take n changes ++ d ∷ []) (get_or_from_slice_get changes n c c at)
 
-    earlier : Contains (take n tuples) t → Contains (take (n + 1) tuples) t
-    earlier h = subst (λ (ts : List (List ℕ)). Contains ts t) (sym more)
-        (Contains-append_left (take n tuples) (cells ∷ []) t h)
+    earlier : HasMarkBy texts (take n changes) nth mark t → HasMarkBy texts (take (n + 1) changes) nth mark t
+    earlier by = record {
+      change = by.change;
+      there = subst (λ (cs : List Change). Contains cs by.change) (sym more)
+          (Contains-append_left (take n changes) (c ∷ []) by.change by.there);
+      is = by.is;
+      marks = by.marks;
+    }
 
-    last : t ≡ cells → Contains (take (n + 1) tuples) t
-    last e = subst (λ (ts : List (List ℕ)). Contains ts t) (sym more)
-        (subst (λ (c : List ℕ). Contains (take n tuples ++ c ∷ []) t) e (Contains-push (take n tuples) t))
+    last : IsMarkOf mark nth (sign_of came) → t ≡ cells → HasMarkBy texts (take (n + 1) changes) nth mark t
+    last so e = record {
+      change = c;
+      there = subst (λ (cs : List Change). Contains cs c) (sym more) (Contains-push (take n changes) c);
+      is = is ∙ sym e;
+      marks = subst (IsMarkOf mark nth) sign so;
+    }
 
-    to_mid : Stand mid k t → Stand old k t ⊎ ((k ≡ nth) × Contains (take (n + 1) tuples) t)
-    to_mid s = by ((before k t).0 s)
-      where
-        by : Stand old k t ⊎ ((k ≡ nth) × Contains (take n tuples) t)
-            → Stand old k t ⊎ ((k ≡ nth) × Contains (take (n + 1) tuples) t)
-        by (inl o) = inl o
-        by (inr both) = inr (both.0, earlier both.1)
+    to_mid : Stand mid mark t → Stand old mark t ⊎ HasMarkBy texts (take (n + 1) changes) nth mark t
+    to_mid s = elim ((before mark t).0 s) [ inl o ↦ inl o | inr by ↦ inr (earlier by) ]
 
-    to : Stand new k t → Stand old k t ⊎ ((k ≡ nth) × Contains (take (n + 1) tuples) t)
-    to s = by ((one k t).0 s)
-      where
-        by : Stand mid k t ⊎ ((k ≡ nth) × (t ≡ cells))
-            → Stand old k t ⊎ ((k ≡ nth) × Contains (take (n + 1) tuples) t)
-        by (inl m) = to_mid m
-        by (inr both) = inr (both.0, last both.1)
+    to : Stand new mark t → Stand old mark t ⊎ HasMarkBy texts (take (n + 1) changes) nth mark t
+    to s = elim ((one mark t).0 s) [ inl m ↦ to_mid m | inr both ↦ inr (last both.0 both.1) ]
 
-    there : (k ≡ nth) → Contains (take n tuples) t ⊎ (cells ≡ t) → Stand new k t
-    there same (inl h) = (one k t).1 (inl ((before k t).1 (inr (same, h))))
-    there same (inr e) = (one k t).1 (inr (same, sym e))
+    there : (by : HasMarkBy texts (take (n + 1) changes) nth mark t)
+        → Contains (take n changes) by.change ⊎ (c ≡ by.change) → Stand new mark t
+    there by (inl h) = (one mark t).1 (inl ((before mark t).1 (inr (record {
+      change = by.change;
+      there = h;
+      is = by.is;
+      marks = by.marks;
+    }))))
+    there by (inr e) = (one mark t).1 (inr (
+      subst (IsMarkOf mark nth) (sym (sign ∙ ap (λ (d : Change). d.sign) e)) by.marks,
+      sym by.is ∙ ap (λ (d : Change). cells_of texts d.answer) (sym e) ∙ is,
+    ))
 
-    from : Stand old k t ⊎ ((k ≡ nth) × Contains (take (n + 1) tuples) t) → Stand new k t
-    from (inl o) = (one k t).1 (inl ((before k t).1 (inl o)))
-    from (inr both) = there both.0 (Contains-push_cases (take n tuples) cells t
-        (subst (λ (ts : List (List ℕ)). Contains ts t) more both.1))
-
--- the cells that are told, one for each change
-pub told_long : (k : Kept) (place : ℕ) (changes : List Change) → told_of_member k place ≡ Some changes
-    → length (cells_told k place) ≡ length changes
-told_long k place changes told =
-    length-map (changes_in k place) (λ (c : Change). cells_of (k.store).texts c.answer)
-    ∙ ap (λ (o : Option (List Change)). length (unwrap_or o [])) told
+    from : Stand old mark t ⊎ HasMarkBy texts (take (n + 1) changes) nth mark t → Stand new mark t
+    from (inl o) = (one mark t).1 (inl ((before mark t).1 (inl o)))
+    from (inr by) = there by (Contains-push_cases (take n changes) c by.change
+        (subst (λ (cs : List Change). Contains cs by.change) more by.there))
 
 pub all_counted : (k : Kept) (place : ℕ) (changes : List Change) → told_of_member k place ≡ Some changes
     → count_in k place ≡ length changes
 all_counted k place changes told = ap (λ (o : Option (List Change)). length (unwrap_or o [])) told
 
--- the line at a number that is below what is told
-pub line_below : (k : Kept) (place n width len : ℕ) (sign : Sign) (cells : List ℕ)
+-- the line at a number of a delta that is there
+pub line_below : (k : Kept) (place n width len : ℕ) (came : Bool) (cells : List ℕ)
     → IsSomeAnd (query_at k.places place) (λ l. length (head_types l) ≡ width)
-    → Some len ≡ option_map (λ cs. length cs) (told_of_member k place) → n < len
-    → TellsChangeCells k (record { at = place }) n sign cells → IsLine k place n width cells
-line_below k place n width len sign cells query are low tells =
+    → Some len ≡ option_map (λ cs. length cs) (told_of_member k place)
+    → TellsChangeCells k (record { at = place }) n (sign_of came) cells → IsLine k place n width came cells
+line_below k place n width len came cells query are tells =
     let told = counted (told_of_member k place) len are in
-    let long = told.long in
-    told_line k place n width sign cells told.changes query told.is (omega arith) tells
+    told_line k place n width came cells told.changes query told.is tells
 
 -- ---- What is told of the members is gathered, member by member.
 
 -- what is told of the first n members is gathered
 pub record Collects (k : Kept) (members touched : List ℕ) (n : ℕ) (gains : List Gain) : Type 0 where
-  pub stand : (m : ℕ) (t : List ℕ) → Stand gains m t
-      ↔ ((m < n) × IsOfMember k members touched m t)
+  pub stand : (mark : Mark) (t : List ℕ) → Stand gains mark t
+      ↔ ((by : HasMarkOfMember k members touched mark t) × (by.m < n))
   pub told : (i : ℕ) → Contains (take n members) i → is_among touched i ≡ true
       → told_of_member k i ≡ None → ⊥
   pub few : length gains ≤ sum_by (count_in k) (filter (is_among touched) (take n members))
 
 pub collects_none : (k : Kept) (members touched : List ℕ) → Collects k members touched 0 []
 collects_none k members touched = record {
-  stand = λ m t. (λ s. absurd (let low = s.there.1 in omega arith), λ h. absurd (let low = h.0 in omega arith));
+  stand = λ mark t. (
+    λ s. absurd (let low = s.there.1 in omega arith),
+    λ h. absurd (let low = h.1 in omega arith),
+  );
   told = λ i there. absurd (let low = there.1 in omega arith);
   few = omega arith;
 }
@@ -229,12 +232,12 @@ last_or_less m n low = elim (cases_lt m n) [
 pub collects_touched : (k : Kept) (members touched : List ℕ) (n : ℕ) (old new : List Gain)
     → Collects k members touched n old → n < length members
     → is_among touched (slice_index_or members n 0) ≡ true
-    → TakesIn old new n (cells_told k (slice_index_or members n 0))
+    → TakesIn (k.store).texts old new n (changes_in k (slice_index_or members n 0))
     → (told_of_member k (slice_index_or members n 0) ≡ None → ⊥)
     → length new ≤ length old + count_in k (slice_index_or members n 0)
     → Collects k members touched (n + 1) new
 collects_touched k members touched n old new before low among takes told few = record {
-  stand = λ m t. (to m t, from m t);
+  stand = λ mark t. (to mark t, from mark t);
   told = told_more k members touched n low before.told (λ h. told);
   few =
       let had = before.few in
@@ -242,41 +245,46 @@ collects_touched k members touched n old new before low among takes told few = r
       omega arith;
 }
   where
+    texts : List Bytes
+    texts = (k.store).texts
+
     place : ℕ
     place = slice_index_or members n 0
 
-    to : (m : ℕ) (t : List ℕ) → Stand new m t → (m < n + 1) × IsOfMember k members touched m t
-    to m t s = by ((takes m t).0 s)
+    to : (mark : Mark) (t : List ℕ) → Stand new mark t
+        → (by : HasMarkOfMember k members touched mark t) × (by.m < n + 1)
+    to mark t s = by ((takes mark t).0 s)
       where
-        by : Stand old m t ⊎ ((m ≡ n) × Contains (cells_told k place) t)
-            → (m < n + 1) × IsOfMember k members touched m t
-        by (inl o) = let h = (before.stand m t).0 o in (let less = h.0 in omega arith, h.1)
-        by (inr both) = (
-          let same = both.0 in omega arith,
+        by : Stand old mark t ⊎ HasMarkBy texts (changes_in k place) n mark t
+            → (by : HasMarkOfMember k members touched mark t) × (by.m < n + 1)
+        by (inl o) = let h = (before.stand mark t).0 o in (h.0, let less = h.1 in omega arith)
+        by (inr it) = (
           record {
+            m = n;
             place = place;
-            member = ap (slice_get members) both.0 ∙ slice_get-get_or members n 0 low;
+            member = slice_get-get_or members n 0 low;
             touched_it = among;
-            told = both.1;
+            by = it;
           },
+          omega arith,
         )
 
-    from : (m : ℕ) (t : List ℕ) → (m < n + 1) × IsOfMember k members touched m t → Stand new m t
-    from m t h = by (last_or_less m n h.0)
+    from : (mark : Mark) (t : List ℕ) → ((by : HasMarkOfMember k members touched mark t) × (by.m < n + 1))
+        → Stand new mark t
+    from mark t h = by (last_or_less h.0.m n h.1)
       where
-        by : (m < n) ⊎ (m ≡ n) → Stand new m t
-        by (inl less) = (takes m t).1 (inl ((before.stand m t).1 (less, h.1)))
-        by (inr same) = (takes m t).1 (inr (
-          same,
-          subst (λ (i : ℕ). Contains (cells_told k i) t)
-              (sym (place_is members n m h.1.place low same h.1.member)) h.1.told,
-        ))
+        by : (h.0.m < n) ⊎ (h.0.m ≡ n) → Stand new mark t
+        by (inl less) = (takes mark t).1 (inl ((before.stand mark t).1 (h.0, less)))
+        by (inr same) = (takes mark t).1 (inr
+            (subst (λ (i : ℕ). HasMarkBy texts (changes_in k i) n mark t)
+            (sym (place_is members n h.0.m h.0.place low same h.0.member))
+            (subst (λ (m : ℕ). HasMarkBy texts (changes_in k h.0.place) m mark t) same h.0.by)))
 
 pub collects_other : (k : Kept) (members touched : List ℕ) (n : ℕ) (gains : List Gain)
     → Collects k members touched n gains → n < length members
     → is_among touched (slice_index_or members n 0) ≡ false → Collects k members touched (n + 1) gains
 collects_other k members touched n gains before low other = record {
-  stand = λ m t. (to m t, from m t);
+  stand = λ mark t. (to mark t, from mark t);
   told = told_more k members touched n low before.told
       (λ among none. false≢true (sym other ∙ among));
   few =
@@ -285,26 +293,28 @@ collects_other k members touched n gains before low other = record {
       omega arith;
 }
   where
-    to : (m : ℕ) (t : List ℕ) → Stand gains m t → (m < n + 1) × IsOfMember k members touched m t
-    to m t s = let h = (before.stand m t).0 s in (let less = h.0 in omega arith, h.1)
+    to : (mark : Mark) (t : List ℕ) → Stand gains mark t
+        → (by : HasMarkOfMember k members touched mark t) × (by.m < n + 1)
+    to mark t s = let h = (before.stand mark t).0 s in (h.0, let less = h.1 in omega arith)
 
-    from : (m : ℕ) (t : List ℕ) → (m < n + 1) × IsOfMember k members touched m t → Stand gains m t
-    from m t h = by (last_or_less m n h.0)
+    from : (mark : Mark) (t : List ℕ) → ((by : HasMarkOfMember k members touched mark t) × (by.m < n + 1))
+        → Stand gains mark t
+    from mark t h = by (last_or_less h.0.m n h.1)
       where
-        by : (m < n) ⊎ (m ≡ n) → Stand gains m t
-        by (inl less) = (before.stand m t).1 (less, h.1)
+        by : (h.0.m < n) ⊎ (h.0.m ≡ n) → Stand gains mark t
+        by (inl less) = (before.stand mark t).1 (h.0, less)
         by (inr same) = absurd (false≢true (sym other
-            ∙ ap (is_among touched) (place_is members n m h.1.place low same h.1.member) ∙ h.1.touched_it))
+            ∙ ap (is_among touched) (place_is members n h.0.m h.0.place low same h.0.member) ∙ h.0.touched_it))
 
 pub collects_all : (k : Kept) (members touched : List ℕ) (n : ℕ) (gains : List Gain)
     → Collects k members touched n gains → length members ≤ n → GathersGains k members touched gains
 collects_all k members touched n gains all last =
     let whole = take_all n members last in
     record {
-      stand = λ m t. (
-        λ s. ((all.stand m t).0 s).1,
-        λ h. let low = slice_get_within members m h.place h.member in
-            (all.stand m t).1 (omega arith, h),
+      stand = λ mark t. (
+        λ s. ((all.stand mark t).0 s).0,
+        λ h. let low = slice_get_within members h.m h.place h.member in
+            (all.stand mark t).1 (h, omega arith),
       );
       told = λ i there. all.told i (subst (λ (xs : List ℕ). Contains xs i) (sym whole) there);
       few = subst (λ (xs : List ℕ). length gains ≤ sum_by (count_in k) (filter (is_among touched) xs))

@@ -1,13 +1,13 @@
--- The delta of a union, by those of its members.
+-- What is gathered of the members, and how it tells of their deltas.
 use Rattle.std.proofs.Common.{◌≡◌, ℕ, zero, suc, ◌+◌, ◌≤◌, Bool, true, false, List, [], ◌∷◌, take, sum_by, refl, sym}
-use Rattle.std.proofs.Common.{ap, ◌∙◌, subst, inl, inr, arith, ◌<◌, length, map, ap₂}
+use Rattle.std.proofs.Common.{ap, ◌∙◌, subst, inl, inr, arith, ◌<◌, length}
 use Rattle.std.specs.Prelude.{◌&&◌, ◌||◌, not, Some, slice_get, slice_index_or, Any, All, Contains, ◌↔◌, cond, Option}
 use Rattle.std.specs.Prelude.{None, unwrap_or}
 use Rattle.std.proofs.lemmas.Bool.{cases_Bool, false≢true, and_right, and_from, not_from_false, cases_order}
 use Rattle.std.proofs.lemmas.Option.{same_Some, none-some, slice_get-get_or, slice_get_within}
 use Rattle.std.proofs.lemmas.List.{take-take, length-map, get_or-map}
 use Rattle.std.proofs.lemmas.List.Sums.{sum_by-take-le}
-use Rattle.std.proofs.lemmas.List.Elements.{All-contains, All-weaker, All-map, Contains-get_or}
+use Rattle.std.proofs.lemmas.List.Elements.{All-contains}
 use Rattle.djq_model.specs.declared.relation.Relation.{Relation}
 use Rattle.djq_model.specs.declared.relation.ColumnType.{ColumnType}
 use Rattle.djq_model.specs.Data.{Tuple, Bytes}
@@ -15,18 +15,20 @@ use Rattle.djq_model.specs.Answer.{IsAnswer}
 use Rattle.djq_protocol.specs.declared.answer.Sign.{Sign}
 use Rattle.djq_protocol.specs.declared.answer.Sign.TheVariants.{Came, Went}
 use Rattle.djq_database.specs.Cells.{cells_of, StandFor}
-use Rattle.djq_store_spec.specs.Delta.{Change, HasChanged, IsDelta}
-use Rattle.djq_leaves.proofs.TreeAnswers.{in_image, image_of}
-use Rattle.djq_live_query.specs.Live.{Live, IsKept, values_of}
+use Rattle.djq_store_spec.specs.Delta.{Change}
+use Rattle.djq_live_query.specs.Live.{Live, IsKept, IsShowable, values_of}
 use Rattle.djq_live_query.specs.Member.{has_cells, head_types, in_tree, query_at, queries_at, HaveQueries, HeadTypesAre}
 use Rattle.djq_live_query.specs.Member.{CellsInTreeStand, AnswersAreHad, CellsTellValues, IsShownInTree, AreAlike}
 use Rattle.djq_live_query.proofs.Catalogs.{as_many}
 use Rattle.djq_engine.specs.Kept.{Kept, PlacesAreKept, CellsAre, ToldCellsFit as AreShown}
-use Rattle.djq_gains.specs.Gathering.{is_alone, is_among, cells_told, GathersGains}
-use Rattle.djq_gains.specs.Told.{GoOneWay, StandsIn, IsTold, AreTold}
+use Rattle.djq_engine.specs.Lending.{sign_of}
+use Rattle.djq_answer_laws.specs.Net.{opposite_sign}
+use Rattle.djq_gains.specs.declared.marks.Marks.{Marks}
+use Rattle.djq_gains.specs.Gathering.{is_alone, is_told, is_among, GathersGains}
 use Rattle.djq_gains.specs.Gains.{told_of_member, changes_in}
-use Rattle.djq_gains.specs.Gathered.{Gain, Stand, GainsDiffer, StandSomewhere, cells_in}
-use Rattle.djq_gains.proofs.MemberDeltas.{some_at, member_at, got}
+use Rattle.djq_gains.specs.Gathered.{Gain, Mark, in_delta, with_sign, has_mark, IsMarkOf, Stand, GainsDiffer}
+use Rattle.djq_gains.specs.Gathered.{StandSomewhere, cells_in}
+use Rattle.djq_gains.proofs.MemberDeltas.{some_at, member_at, got, nothing_there}
 
 -- ---- Whether a tuple is told: each member has it in its delta, or doesn't have it now.
 
@@ -83,201 +85,11 @@ take_more_le {A = A} f xs n =
     subst (λ (ys : List A). sum_by f ys ≤ sum_by f (take (n + 1) xs))
     (take-take n (n + 1) xs (omega arith)) (sum_by-take-le f (take (n + 1) xs) n)
 
--- ---- What is told of a union is its delta.
+-- ---- The members, and what is gathered of them.
 
 -- what holds of one that is there holds of some
 pub some : {M : Type 0} (P : M → Type 0) (ms : List M) (m : M) → Contains ms m → P m → Any P ms
 some P ms m there p = (there.0, m, there.1, there.2, p)
-
--- where something of some is absurd, it is of each that is there
-none : {M : Type 0} (P : M → Type 0) (ms : List M) (m : M) → (Any P ms → ⊥) → Contains ms m → P m → ⊥
-none P ms m not there p = not (some P ms m there p)
-
--- a tuple of a delta has changed
-record HasMoved (Before After : Tuple → Type 0) (t : Tuple) : Type 0 where
-  pub sign : Sign
-  pub changed : HasChanged Before After sign t
-
-moved : (Before After : Tuple → Type 0) (cs : List Change) (t : Tuple) → IsDelta Before After cs
-    → StandsIn cs t → HasMoved Before After t
-moved Before After cs t delta stands =
-    let each : All (λ c. HasMoved Before After c.answer) cs = All-weaker
-    (λ (c : Change). HasChanged Before After c.sign c.answer)
-    (λ (c : Change). HasMoved Before After c.answer)
-    (λ c h. record { sign = c.sign; changed = h }) cs delta.changed in
-    All-contains (HasMoved Before After) (map (λ (c : Change). c.answer) cs) t
-    (All-map (HasMoved Before After) (λ (c : Change). c.answer) cs each) stands
-
--- it came, where answers only come; and went, where they only go
-came_by : (Before After : Tuple → Type 0) (t : Tuple) (sign : Sign) → GoOneWay true Before After
-    → HasChanged Before After sign t → HasChanged Before After Came t
-came_by Before After t Came way h = h
-came_by Before After t Went way h = absurd (h.1 (way t h.0))
-
-went_by : (Before After : Tuple → Type 0) (t : Tuple) (sign : Sign) → GoOneWay false Before After
-    → HasChanged Before After sign t → HasChanged Before After Went t
-went_by Before After t Went way h = h
-went_by Before After t Came way h = absurd (h.1 (way t h.0))
-
--- a change that is there stands there
-stands_by : (cs : List Change) (sign : Sign) (t : Tuple)
-    → Contains cs (record { sign = sign; answer = t }) → StandsIn cs t
-stands_by cs sign t there =
-    let low = there.1 in
-    let long = length-map cs (λ (c : Change). c.answer) in (
-      there.0,
-      omega arith,
-      get_or-map (λ (c : Change). c.answer) cs there.0 (record { sign = sign; answer = t }) t low
-          ∙ ap (λ (c : Change). c.answer) there.2,
-    )
-
--- where all have a sign, what stands there is there with it
-signed_by : (cs : List Change) (sign : Sign) (t : Tuple) → All (λ c. c.sign ≡ sign) cs
-    → StandsIn cs t → Contains cs (record { sign = sign; answer = t })
-signed_by cs sign t signed stands =
-    let low = stands.1 in
-    let long = length-map cs (λ (c : Change). c.answer) in
-    let below : stands.0 < length cs = omega arith in
-    let d : Change = record { sign = sign; answer = t } in
-    let answer = sym (get_or-map (λ (c : Change). c.answer) cs stands.0 d t below) ∙ stands.2 in (
-      stands.0,
-      below,
-      ap₂ (λ (s : Sign) (a : Tuple). let c : Change = record { sign = s; answer = a } in c)
-          (signed stands.0 d below) answer,
-    )
-
--- a member changes one way, and this is its delta
-abbrev pub Turns : {M : Type 0} → (M → Tuple → Type 0) → (M → Tuple → Type 0) → (M → List Change)
-    → Bool → M → Type 0
-Turns Before After delta came m =
-    GoOneWay came (Before m) (After m) × IsDelta (Before m) (After m) (delta m)
-
--- of answers that came
-of_came : {M : Type 0} (Before After : M → Tuple → Type 0) (delta : M → List Change)
-    (ms : List M) (changes : List Change)
-    → ((m : M) → Contains ms m → Turns Before After delta true m)
-    → AreTold After delta ms true changes
-    → IsDelta (λ t. Any (λ m. Before m t) ms) (λ t. Any (λ m. After m t) ms) changes
-of_came {M} Before After delta ms changes turns told = record {
-  different = told.different;
-  changed = λ k d low. subst
-      (λ (s : Sign). HasChanged (λ t. Any (λ m. Before m t) ms) (λ t. Any (λ m. After m t) ms) s
-      (slice_index_or changes k d).answer)
-      (sym (told.signed k d low)) (has_come (slice_index_or changes k d).answer (told.told k d low));
-  complete = by_sign;
-}
-  where
-    gained : (t : Tuple) (m : M) → Contains ms m → StandsIn (delta m) t
-        → HasChanged (Before m) (After m) Came t
-    gained t m there stands =
-        let turn = turns m there in
-        let h = moved (Before m) (After m) (delta m) t turn.1 stands in
-        came_by (Before m) (After m) t h.sign turn.0 h.changed
-
-    has_come : (t : Tuple) → IsTold After delta ms t
-        → Any (λ m. After m t) ms × (Any (λ m. Before m t) ms → ⊥)
-    has_come t is =
-        let g = is.gained in
-        let there : Contains ms g.1 = (g.0, g.2, g.3) in (
-          some (λ m. After m t) ms g.1 there (gained t g.1 there g.4).0,
-          λ had.
-              let at : Contains ms had.1 = (had.0, had.2, had.3) in
-              All-contains (λ m. (StandsIn (delta m) t → ⊥) → After m t → ⊥) ms had.1 is.alone at
-              (λ stands. (gained t had.1 at stands).1 had.4) ((turns had.1 at).0 t had.4),
-        )
-
-    is_told : (t : Tuple) → Any (λ m. After m t) ms → (Any (λ m. Before m t) ms → ⊥)
-        → IsTold After delta ms t
-    is_told t has new =
-        let there : Contains ms has.1 = (has.0, has.2, has.3) in
-        record {
-          gained = some (λ m. StandsIn (delta m) t) ms has.1 there (stands has.1 there has.4);
-          alone = λ k d low not after.
-              let at = Contains-get_or ms k d low in
-              not (stands (slice_index_or ms k d) at after);
-        }
-      where
-        stands : (m : M) → Contains ms m → After m t → StandsIn (delta m) t
-        stands m there after = stands_by (delta m) Came t
-            ((turns m there).1.complete Came t
-            (after, none (λ n. Before n t) ms m new there))
-
-    by_sign : (sign : Sign) (t : Tuple)
-        → HasChanged (λ t. Any (λ m. Before m t) ms) (λ t. Any (λ m. After m t) ms) sign t
-        → Contains changes (record { sign = sign; answer = t })
-    by_sign Came t h = signed_by changes Came t told.signed (told.complete t (is_told t h.0 h.1))
-    by_sign Went t h =
-        let had = h.0 in
-        let at : Contains ms had.1 = (had.0, had.2, had.3) in
-        absurd (h.1 (some (λ m. After m t) ms had.1 at ((turns had.1 at).0 t had.4)))
-
--- of answers that went
-of_went : {M : Type 0} (Before After : M → Tuple → Type 0) (delta : M → List Change)
-    (ms : List M) (changes : List Change)
-    → ((m : M) → Contains ms m → Turns Before After delta false m)
-    → AreTold After delta ms false changes
-    → IsDelta (λ t. Any (λ m. Before m t) ms) (λ t. Any (λ m. After m t) ms) changes
-of_went {M} Before After delta ms changes turns told = record {
-  different = told.different;
-  changed = λ k d low. subst
-      (λ (s : Sign). HasChanged (λ t. Any (λ m. Before m t) ms) (λ t. Any (λ m. After m t) ms) s
-      (slice_index_or changes k d).answer)
-      (sym (told.signed k d low)) (has_gone (slice_index_or changes k d).answer (told.told k d low));
-  complete = by_sign;
-}
-  where
-    lost : (t : Tuple) (m : M) → Contains ms m → StandsIn (delta m) t
-        → HasChanged (Before m) (After m) Went t
-    lost t m there stands =
-        let turn = turns m there in
-        let h = moved (Before m) (After m) (delta m) t turn.1 stands in
-        went_by (Before m) (After m) t h.sign turn.0 h.changed
-
-    has_gone : (t : Tuple) → IsTold After delta ms t
-        → Any (λ m. Before m t) ms × (Any (λ m. After m t) ms → ⊥)
-    has_gone t is =
-        let g = is.gained in
-        let there : Contains ms g.1 = (g.0, g.2, g.3) in (
-          some (λ m. Before m t) ms g.1 there (lost t g.1 there g.4).0,
-          λ has.
-              let at : Contains ms has.1 = (has.0, has.2, has.3) in
-              All-contains (λ m. (StandsIn (delta m) t → ⊥) → After m t → ⊥) ms has.1 is.alone at
-              (λ stands. (lost t has.1 at stands).1 has.4) has.4,
-        )
-
-    is_told : (t : Tuple) → Any (λ m. Before m t) ms → (Any (λ m. After m t) ms → ⊥)
-        → IsTold After delta ms t
-    is_told t had gone =
-        let there : Contains ms had.1 = (had.0, had.2, had.3) in
-        record {
-          gained = some (λ m. StandsIn (delta m) t) ms had.1 there
-              (stands_by (delta had.1) Went t ((turns had.1 there).1.complete Went t
-              (had.4, none (λ n. After n t) ms had.1 gone there)));
-          alone = λ k d low not after.
-              none (λ n. After n t) ms (slice_index_or ms k d) gone (Contains-get_or ms k d low) after;
-        }
-
-    by_sign : (sign : Sign) (t : Tuple)
-        → HasChanged (λ t. Any (λ m. Before m t) ms) (λ t. Any (λ m. After m t) ms) sign t
-        → Contains changes (record { sign = sign; answer = t })
-    by_sign Went t h = signed_by changes Went t told.signed (told.complete t (is_told t h.0 h.1))
-    by_sign Came t h =
-        let has = h.0 in
-        let at : Contains ms has.1 = (has.0, has.2, has.3) in
-        absurd (h.1 (some (λ m. Before m t) ms has.1 at ((turns has.1 at).0 t has.4)))
-
--- What is told of a union is its delta, where all its members change one way.
-pub union_delta : {M : Type 0} (Before After : M → Tuple → Type 0) (delta : M → List Change)
-    (ms : List M) (came : Bool) (changes : List Change)
-    → ((m : M) → Contains ms m → Turns Before After delta came m)
-    → AreTold After delta ms came changes
-    → IsDelta (λ t. Any (λ m. Before m t) ms) (λ t. Any (λ m. After m t) ms) changes
-union_delta Before After delta ms true changes turns told =
-    of_came Before After delta ms changes turns told
-union_delta Before After delta ms false changes turns told =
-    of_went Before After delta ms changes turns told
-
--- ---- What the lines that are told mean: the delta of the members' union.
 
 -- What is gathered of the members, and the laws of those that keep them.
 pub record Setting (k : Kept) (members touched : List ℕ) (gains : List Gain) (first : Live) : Type 0
@@ -367,14 +179,16 @@ one_value k over l tell types kept u v w a b =
     (subst (λ (ts : List Bytes). StandFor ts (head_types l) u t) (sym over.texts) s) in
     (tell c l l refl u u v w (moved v a) (moved w b)).0 refl
 
--- a tuple that is gathered, as one of a member's delta
-pub record IsFor (k : Kept) (members touched : List ℕ) (first : Live) (m : ℕ) (u : List ℕ) : Type 0
+-- a tuple that has a mark, by a change that a member's delta has
+pub record IsFor (k : Kept) (members touched : List ℕ) (first : Live) (mark : Mark) (u : List ℕ) : Type 0
   where
+    pub m : ℕ
     pub place : ℕ
     pub member : slice_get members m ≡ Some place
     pub among : is_among touched place ≡ true
     pub change : Change
     pub there : Contains (changes_in k place) change
+    pub marks : IsMarkOf mark m change.sign
     pub stand : StandFor (k.store).texts (head_types first) u change.answer
 
 alike_stand : (k : Kept) (members touched : List ℕ) (gains : List Gain) (first : Live)
@@ -389,20 +203,22 @@ alike_stand k members touched gains first s m place is c there =
     (told_stands k place a.live c s.shown a.at there)
 
 pub is_for : (k : Kept) (members touched : List ℕ) (gains : List Gain) (first : Live)
-    → Setting k members touched gains first → (m : ℕ) (u : List ℕ) → Stand gains m u
-    → IsFor k members touched first m u
-is_for k members touched gains first s m u stand =
+    → Setting k members touched gains first → (mark : Mark) (u : List ℕ) → Stand gains mark u
+    → IsFor k members touched first mark u
+is_for k members touched gains first s mark u stand =
     let texts = (k.store).texts in
-    let o = (s.gathers.stand m u).0 stand in
-    let i = image_of (λ (c : Change). cells_of texts c.answer) (changes_in k o.place) u o.told in
+    let o = (s.gathers.stand mark u).0 stand in
+    let b = o.by in
     record {
+      m = o.m;
       place = o.place;
       member = o.member;
       among = o.touched_it;
-      change = i.of;
-      there = i.there;
-      stand = subst (λ (cells : List ℕ). StandFor texts (head_types first) cells (i.of).answer) (sym i.is)
-          (alike_stand k members touched gains first s m o.place o.member i.of i.there);
+      change = b.change;
+      there = b.there;
+      marks = b.marks;
+      stand = subst (λ (cells : List ℕ). StandFor texts (head_types first) cells (b.change).answer) b.is
+          (alike_stand k members touched gains first s o.m o.place o.member b.change b.there);
     }
 
 -- what a member's delta is
@@ -417,44 +233,30 @@ pub delta_no : (k : Kept) (touched : List ℕ) (i : ℕ) → is_among touched i 
     → delta_at k touched i ≡ []
 delta_no k touched i among = ap (λ (b : Bool). cond b (changes_in k i) []) among
 
-pub stands_for : (k : Kept) (touched : List ℕ) (i : ℕ) (c : Change) → is_among touched i ≡ true
-    → Contains (changes_in k i) c → StandsIn (delta_at k touched i) c.answer
-stands_for k touched i c among there =
-    subst (λ (cs : List Change). StandsIn cs c.answer) (sym (delta_yes k touched i among))
-    (in_image (λ (d : Change). d.answer) (changes_in k i) c there)
-
--- what stands in a member's delta is gathered
-pub record IsGathered (k : Kept) (gains : List Gain) (first : Live) (m : ℕ) (t : Tuple) : Type 0 where
-  pub stand : Stand gains m (cells_of (k.store).texts t)
+-- a change that a member's delta has is gathered
+pub record IsGathered (k : Kept) (gains : List Gain) (first : Live) (mark : Mark) (t : Tuple) : Type 0 where
+  pub stand : Stand gains mark (cells_of (k.store).texts t)
   pub cells : StandFor (k.store).texts (head_types first) (cells_of (k.store).texts t) t
 
-nothing_in : (t : Tuple) → StandsIn [] t → ⊥
-nothing_in t h = let low = h.1 in omega arith
-
 pub is_gathered : (k : Kept) (members touched : List ℕ) (gains : List Gain) (first : Live)
-    → Setting k members touched gains first → (m i : ℕ) (t : Tuple) → slice_get members m ≡ Some i
-    → StandsIn (delta_at k touched i) t → IsGathered k gains first m t
-is_gathered k members touched gains first s m i t is stands = by (is_among touched i) refl
+    → Setting k members touched gains first → (m i : ℕ) (c : Change) (mark : Mark) → slice_get members m ≡ Some i
+    → Contains (delta_at k touched i) c → IsMarkOf mark m c.sign → IsGathered k gains first mark c.answer
+is_gathered k members touched gains first s m i c mark is there marks = by (is_among touched i) refl
   where
-    texts : List Bytes
-    texts = (k.store).texts
-
-    by : (b : Bool) → is_among touched i ≡ b → IsGathered k gains first m t
-    by false out = absurd (nothing_in t
-        (subst (λ (cs : List Change). StandsIn cs t) (delta_no k touched i out) stands))
+    by : (b : Bool) → is_among touched i ≡ b → IsGathered k gains first mark c.answer
+    by false out = absurd (nothing_there c
+        (subst (λ (cs : List Change). Contains cs c) (delta_no k touched i out) there))
     by true among =
-        let image = image_of (λ (d : Change). d.answer) (changes_in k i) t
-        (subst (λ (cs : List Change). StandsIn cs t) (delta_yes k touched i among) stands) in
+        let here = subst (λ (cs : List Change). Contains cs c) (delta_yes k touched i among) there in
         record {
-          stand = (s.gathers.stand m (cells_of texts t)).1 (record {
+          stand = (s.gathers.stand mark (cells_of (k.store).texts c.answer)).1 (record {
+            m = m;
             place = i;
             member = is;
             touched_it = among;
-            told = subst (λ (v : Tuple). Contains (cells_told k i) (cells_of texts v)) (sym image.is)
-                (in_image (λ (d : Change). cells_of texts d.answer) (changes_in k i) image.of image.there);
+            by = record { change = c; there = here; is = refl; marks = marks };
           });
-          cells = subst (λ (v : Tuple). StandFor texts (head_types first) (cells_of texts v) v) (sym image.is)
-              (alike_stand k members touched gains first s m i is image.of image.there);
+          cells = alike_stand k members touched gains first s m i is c here;
         }
 
 -- equal cells are of one tuple
@@ -492,11 +294,8 @@ abbrev pub value : Kept → Live → Gain → Tuple
 value k first g = values_of (k.store).texts first (in_tree first g.cells)
 
 -- what is known of a tuple that is gathered
-pub record IsKnown (k : Kept) (members touched : List ℕ) (first : Live) (g : Gain) : Type 0 where
-  pub m : ℕ
-  pub of_member : IsFor k members touched first m g.cells
-  pub shows : IsShownInTree (k.store).texts first g.cells (of_member.change).answer
-  pub is : value k first g ≡ (of_member.change).answer
+pub record IsKnown (k : Kept) (first : Live) (g : Gain) : Type 0 where
+  pub showable : IsShowable (k.store).texts first (in_tree first g.cells)
   pub cells : StandFor (k.store).texts (head_types first) g.cells (value k first g)
 
 pub first_kept : (k : Kept) (members touched : List ℕ) (gains : List Gain) (first : Live)
@@ -510,19 +309,108 @@ first_kept k members touched gains first s =
     (m.at ∙ ap Some (same_Some m.live first (sym m.nth ∙ s.is_first)))
 
 pub known : (k : Kept) (members touched : List ℕ) (gains : List Gain) (first : Live)
-    → Setting k members touched gains first → (g : Gain) → Contains gains g
-    → IsKnown k members touched first g
+    → Setting k members touched gains first → (g : Gain) → Contains gains g → IsKnown k first g
 known k members touched gains first s g there =
     let by = s.somewhere g there in
-    let f = is_for k members touched gains first s by.0 g.cells
+    let f = is_for k members touched gains first s (in_delta by.0) g.cells
     (record { gain = g; there = there; is = refl; marked = by.1 }) in
     let shows = shows_it k s.over first s.shows (first_kept k members touched gains first s) g.cells
     (f.change).answer f.stand in
     record {
-      m = by.0;
-      of_member = f;
-      shows = shows;
-      is = shows.shows;
+      showable = shows.showable;
       cells = subst (λ (v : Tuple). StandFor (k.store).texts (head_types first) g.cells v)
           (sym shows.shows) f.stand;
     }
+
+-- ---- The marks of a tuple, and the members' deltas that have its value.
+
+-- a tuple has a mark by this change of a member's delta
+pub record IsByMember (k : Kept) (members touched : List ℕ) (first : Live) (g : Gain) (mark : Mark) : Type 0
+  where
+    pub m : ℕ
+    pub place : ℕ
+    pub member : slice_get members m ≡ Some place
+    pub sign : Sign
+    pub there : Contains (delta_at k touched place) (record { sign = sign; answer = value k first g })
+    pub marks : IsMarkOf mark m sign
+
+pub by_member : (k : Kept) (members touched : List ℕ) (gains : List Gain) (first : Live)
+    → Setting k members touched gains first → (g : Gain) → Contains gains g → (mark : Mark)
+    → has_mark g.marks mark ≡ true → IsByMember k members touched first g mark
+by_member k members touched gains first s g there mark marked =
+    let f = is_for k members touched gains first s mark g.cells
+    (record { gain = g; there = there; is = refl; marked = marked }) in
+    let w = known k members touched gains first s g there in
+    let sign = (f.change).sign in
+    let same = one_value k s.over first s.tell s.types (first_kept k members touched gains first s)
+    g.cells (f.change).answer (value k first g) f.stand w.cells in
+    record {
+      m = f.m;
+      place = f.place;
+      member = f.member;
+      sign = sign;
+      there = subst (λ (cs : List Change). Contains cs (record { sign = sign; answer = value k first g }))
+          (sym (delta_yes k touched f.place f.among))
+          (subst (λ (t : Tuple). Contains (changes_in k f.place) (record { sign = sign; answer = t })) same f.there);
+      marks = f.marks;
+    }
+
+pub marked_by : (k : Kept) (members touched : List ℕ) (gains : List Gain) (first : Live)
+    → Setting k members touched gains first → (g : Gain) → Contains gains g → (m place : ℕ)
+    → slice_get members m ≡ Some place → (sign : Sign)
+    → Contains (delta_at k touched place) (record { sign = sign; answer = value k first g }) → (mark : Mark)
+    → IsMarkOf mark m sign → has_mark g.marks mark ≡ true
+marked_by k members touched gains first s g there m place member sign has mark marks =
+    let is = is_gathered k members touched gains first s m place
+    (record { sign = sign; answer = value k first g }) mark member has marks in
+    let w = known k members touched gains first s g there in
+    let same = same_gain gains s.apart (is.stand).gain g (is.stand).there there
+    ((is.stand).is ∙ sym (w.cells).are) in
+    ap (λ (x : Gain). has_mark x.marks mark) (sym same) ∙ (is.stand).marked
+
+-- ---- The sign of a tuple whose marks agree.
+
+not_both : (a b : Bool) → (a && b) ≡ false → b ≡ true → a ≡ false
+not_both true b e h = absurd (false≢true (sym e ∙ h))
+not_both false b e h = refl
+
+pub only_sign : (m : Marks) (s : Sign) → (m.came && m.went) ≡ false → has_mark m (with_sign s) ≡ true
+    → sign_of m.came ≡ s
+only_sign m Came agree has = ap sign_of has
+only_sign m Went agree has = ap sign_of (not_both m.came m.went agree has)
+
+both_true : (a b : Bool) → (a && b) ≡ true → (a ≡ true) × (b ≡ true)
+both_true true b h = (refl, h)
+both_true false b h = absurd (false≢true h)
+
+pub both_signs : (m : Marks) (s : Sign) → (m.came && m.went) ≡ true → has_mark m (with_sign s) ≡ true
+both_signs m Came h = (both_true m.came m.went h).0
+both_signs m Went h = (both_true m.came m.went h).1
+
+pub unlike_opposite : (s : Sign) → s ≡ opposite_sign s → ⊥
+unlike_opposite s e = by s e
+  where
+    is_came : Sign → Bool
+    is_came Came = true
+    is_came Went = false
+
+    by : (s : Sign) → s ≡ opposite_sign s → ⊥
+    by Came e = false≢true (sym (ap is_came e))
+    by Went e = false≢true (ap is_came e)
+
+-- what is told: its marks agree, and no other member has it
+not_true : (b : Bool) → not b ≡ true → b ≡ false
+not_true true h = absurd (false≢true h)
+not_true false h = refl
+
+pub is_told_by : (ls : List Live) (g : Gain) → is_told ls g ≡ true
+    → ((g.marks.came && g.marks.went) ≡ false) × (is_alone ls g.marks.stands g.cells ≡ true)
+is_told_by ls g told =
+    let both = both_true (not (g.marks.came && g.marks.went)) (is_alone ls g.marks.stands g.cells) told in
+    (not_true (g.marks.came && g.marks.went) both.0, both.1)
+
+pub told_so : (ls : List Live) (g : Gain) → (g.marks.came && g.marks.went) ≡ false
+    → is_alone ls g.marks.stands g.cells ≡ true → is_told ls g ≡ true
+told_so ls g agree alone =
+    and_from (not (g.marks.came && g.marks.went)) (is_alone ls g.marks.stands g.cells)
+    (not_from_false (g.marks.came && g.marks.went) agree) alone

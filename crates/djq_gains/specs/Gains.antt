@@ -3,7 +3,6 @@ use Rattle.std.specs.Prelude.{
   ◌≡◌,
   ◌↔◌,
   ℕ,
-  Bool,
   List,
   [],
   Option,
@@ -27,7 +26,6 @@ use Rattle.djq_live_query.specs.Live.{Live, IsShowable}
 use Rattle.djq_live_query.specs.Updating.{change_of}
 use Rattle.djq_live_query.specs.Member.{query_at, queries_at}
 use Rattle.djq_engine.specs.Kept.{Kept, told_at}
-use Rattle.djq_gains.specs.Told.{GoOneWay}
 
 -- the queries of the members in these places, in this order
 abbrev pub members_at : Kept → List ℕ → List Query
@@ -49,12 +47,9 @@ changes_in k i = unwrap_or (told_of_member k i) []
 abbrev pub count_in : Kept → ℕ → ℕ
 count_in k i = length (changes_in k i)
 
--- Members changed one way, from these relations to those of the engine. What is told of one that was
--- touched is its delta; the answers of the others are the same.
-pub record HaveChanged (before : List Relation) (k : Kept) (members touched : List ℕ)
-    (came : Bool) : Type 0 where
-  pub one_way : (i : ℕ) (l : Live) → Contains members i → query_at k.places i ≡ Some l
-      → GoOneWay came (IsAnswer before l.query) (IsAnswer (k.store).relations l.query)
+-- Members changed, from these relations to those of the engine. What is told of one that was touched is
+-- its delta, each answer once, of those that came and those that went; the answers of the others are the same.
+pub record HaveChanged (before : List Relation) (k : Kept) (members touched : List ℕ) : Type 0 where
   pub told : (i : ℕ) (l : Live) (changes : List Change) → Contains touched i
       → query_at k.places i ≡ Some l → told_of_member k i ≡ Some changes
       → IsDelta (IsAnswer before l.query) (IsAnswer (k.store).relations l.query) changes
@@ -63,14 +58,14 @@ pub record HaveChanged (before : List Relation) (k : Kept) (members touched : Li
       → (t : Tuple) → IsAnswer before l.query t ↔ IsAnswer (k.store).relations l.query t
 
 -- These changes are the delta of the members' union, whatever relations the members changed from.
-abbrev pub IsUnionDelta : Kept → List ℕ → List ℕ → Bool → List Change → Type 0
-IsUnionDelta k members touched came changes = (before : List Relation)
-    → HaveChanged before k members touched came → (name : Bytes)
+abbrev pub IsUnionDelta : Kept → List ℕ → List ℕ → List Change → Type 0
+IsUnionDelta k members touched changes = (before : List Relation)
+    → HaveChanged before k members touched → (name : Bytes)
     → IsDelta (AnswersOf before (a_union name (members_at k members)))
     (AnswersOf (k.store).relations (a_union name (members_at k members))) changes
 
 -- Lines tell the delta of a union by its first member, which can show each of them.
-pub record TellUnion (k : Kept) (members touched : List ℕ) (came : Bool) (lines : List Line)
-    (first : Live) : Type 0 where
-  pub delta : IsUnionDelta k members touched came (map (change_of (k.store).texts first) lines)
-  pub shown : All (λ line. IsShowable (k.store).texts first line.answer) lines
+pub record TellUnion (k : Kept) (members touched : List ℕ) (lines : List Line) (first : Live) : Type 0
+  where
+    pub delta : IsUnionDelta k members touched (map (change_of (k.store).texts first) lines)
+    pub shown : All (λ line. IsShowable (k.store).texts first line.answer) lines

@@ -23,13 +23,15 @@ use Rattle.std.specs.Prelude.{
   slice_get,
 }
 use Rattle.std.specs.List.{list_any}
+use Rattle.djq_model.specs.Data.{Bytes}
+use Rattle.djq_store_spec.specs.Delta.{Change}
 use Rattle.djq_enumeration.specs.declared.log.Line.{Line}
 use Rattle.djq_database.specs.Cells.{cells_of}
 use Rattle.djq_live_query.specs.Live.{Live}
 use Rattle.djq_live_query.specs.Member.{has_cells, in_tree}
 use Rattle.djq_engine.specs.Kept.{Kept}
 use Rattle.djq_gains.specs.Gains.{told_of_member, changes_in, count_in}
-use Rattle.djq_gains.specs.Gathered.{Gain, Stand}
+use Rattle.djq_gains.specs.Gathered.{Gain, Mark, IsMarkOf, Stand}
 
 -- whether a place is among these
 abbrev pub is_among : List ℕ → ℕ → Bool
@@ -39,20 +41,27 @@ is_among places i = list_any (λ j. j == i) places
 abbrev pub gain_count : Kept → List ℕ → List ℕ → ℕ
 gain_count k members touched = sum_by (count_in k) (filter (is_among touched) members)
 
--- the cells of the answers that are told of the query in a place
-abbrev pub cells_told : Kept → ℕ → List (List ℕ)
-cells_told k i = map (λ c. cells_of (k.store).texts c.answer) (changes_in k i)
+-- A change of the nth delta gives a mark to the tuple with these cells.
+pub record HasMarkBy (texts : List Bytes) (changes : List Change) (nth : ℕ) (mark : Mark) (cells : List ℕ)
+    : Type 0 where
+  pub change : Change
+  pub there : Contains changes change
+  pub is : cells_of texts change.answer ≡ cells
+  pub marks : IsMarkOf mark nth change.sign
 
--- The mth member was touched, and these are the cells of an answer that is told of it.
-pub record IsOfMember (k : Kept) (members touched : List ℕ) (m : ℕ) (cells : List ℕ) : Type 0 where
-  pub place : ℕ
-  pub member : slice_get members m ≡ Some place
-  pub touched_it : is_among touched place ≡ true
-  pub told : Contains (cells_told k place) cells
+-- A change of the mth member's delta does, and this member was touched.
+pub record HasMarkOfMember (k : Kept) (members touched : List ℕ) (mark : Mark) (cells : List ℕ) : Type 0
+  where
+    pub m : ℕ
+    pub place : ℕ
+    pub member : slice_get members m ≡ Some place
+    pub touched_it : is_among touched place ≡ true
+    pub by : HasMarkBy (k.store).texts (changes_in k place) m mark cells
 
 -- All answers that are told of the members that were touched are gathered; none of these is lost.
 pub record GathersGains (k : Kept) (members touched : List ℕ) (gains : List Gain) : Type 0 where
-  pub stand : (m : ℕ) (cells : List ℕ) → Stand gains m cells ↔ IsOfMember k members touched m cells
+  pub stand : (mark : Mark) (cells : List ℕ) → Stand gains mark cells
+      ↔ HasMarkOfMember k members touched mark cells
   pub told : (i : ℕ) → Contains members i → is_among touched i ≡ true → told_of_member k i ≡ None → ⊥
   pub few : length gains ≤ gain_count k members touched
 
@@ -62,17 +71,18 @@ is_alone [] by cells = true
 is_alone (l ∷ ls) [] cells = not (has_cells l cells) && is_alone ls [] cells
 is_alone (l ∷ ls) (b ∷ by) cells = (b || not (has_cells l cells)) && is_alone ls by cells
 
--- whether a tuple that was gathered is told of the union
+-- whether a tuple that was gathered is told of the union: all deltas in which it stands agree, and no other
+-- member has it
 abbrev pub is_told : List Live → Gain → Bool
-is_told ls g = is_alone ls g.by g.cells
+is_told ls g = not (g.marks.came && g.marks.went) && is_alone ls g.marks.stands g.cells
 
 -- the line that tells of a tuple, by the first member
-abbrev pub line_of : Bool → Live → Gain → Line
-line_of came first g = record { came = came; answer = in_tree first g.cells }
+abbrev pub line_of : Live → Gain → Line
+line_of first g = record { came = g.marks.came; answer = in_tree first g.cells }
 
 -- the lines that tell of all that is to be told
-abbrev pub gain_lines : Bool → List Live → Live → List Gain → List Line
-gain_lines came ls first gains = map (line_of came first) (filter (is_told ls) gains)
+abbrev pub gain_lines : List Live → Live → List Gain → List Line
+gain_lines ls first gains = map (line_of first) (filter (is_told ls) gains)
 
 -- what holds of the first of some queries
 abbrev pub AtFirstQuery : List Live → (Live → Type 0) → Type 0

@@ -1,4 +1,3 @@
-pub mod Told
 pub mod Gains
 pub mod Gathered
 pub mod Gathering

@@ -21,33 +21,36 @@ ghost use Rattle.std.specs.Prelude.{
 };
 ghost use Rattle.djq_arena.specs.Chains.{first_of};
 ghost use Rattle.djq_arena.specs.Rows.{Row, AreRows, IsAbsent, IsRow, slots};
+ghost use Rattle.djq_engine.specs.Lending.{sign_of};
 ghost use Rattle.djq_gains.specs.Gathered.{
   Gain,
+  Mark,
+  IsMarkOf,
   Stand,
   GainsDiffer,
   StandSomewhere,
   marks_at,
-  in_no_member,
+  in_no_delta,
   gains_in,
   slots_in,
-  is_by,
   marked_in,
   IsIn,
   AtSlot,
   Seats,
 };
 
+use crate::marks::Marks;
 use djq_arena::{Arena, SLOTS};
 use djq_reduct::Cells;
 use std::alloc::{AllocError, Global};
 use std::marker::Model;
 
-/// The different tuples of up to eight deltas, each with the deltas in which it stands.
+/// The different tuples of up to eight deltas, each with the deltas in which it stands, and its signs.
 #[derive(Drop)]
 pub struct Gains {
     tuples: Arena,
     // by slot
-    marks: Vec<[bool; 8]>,
+    marks: Vec<Marks>,
 }
 
 impl Model for Gains {
@@ -66,23 +69,23 @@ impl Model for Gains {
 }
 
 /// Makes sure that a slot has marks, and takes them away.
-fn unmark(marks: &mut Vec<[bool; 8]>, slot: u32)
+fn unmark(marks: &mut Vec<Marks>, slot: u32)
     requires slot { slot ≤ length marks.old.items }
     requires room { slot < length marks.old.items ⊎ vec_len marks.old < vec_capacity marks.old }
-    ensures none { marks_at marks.new.items slot ≡ in_no_member }
+    ensures none { marks_at marks.new.items slot ≡ in_no_delta }
     ensures covered { slot < length marks.new.items }
     ensures longer { length marks.old.items ≤ length marks.new.items }
     ensures others { (k : ℕ) → (k ≡ slot → ⊥) → marks_at marks.new.items k ≡ marks_at marks.old.items k }
 {
     if slot as usize == marks.len() {
-        marks.push_reserved([false; 8]);
+        marks.push_reserved(Marks::none());
     } else {
-        marks[slot as usize] = [false; 8];
+        marks[slot as usize] = Marks::none();
     }
 }
 
 /// Lays a tuple into a slot, which has no mark. Where there is no memory, all stays as it was.
-fn lay(tuples: &mut Arena, marks: &mut Vec<[bool; 8]>, cells: &[u64]) -> Result<u32, AllocError>
+fn lay(tuples: &mut Arena, marks: &mut Vec<Marks>, cells: &[u64]) -> Result<u32, AllocError>
     requires wide { length cells.now ≡ tuples.old.width }
     requires room { tuples.old.room ≤ length marks.old.items }
     ensures width { tuples.new.width ≡ tuples.old.width }
@@ -91,7 +94,7 @@ fn lay(tuples: &mut Arena, marks: &mut Vec<[bool; 8]>, cells: &[u64]) -> Result<
         ≡ tuples.old.rows ++ record { slot = slot; cells = cells.now } ∷ []) }
     ensures gained { IfOk result (λ slot. gains_in marks.new.items tuples.new.rows
         ≡ gains_in marks.old.items tuples.old.rows
-        ++ record { slot = slot; cells = cells.now; by = in_no_member } ∷ []) }
+        ++ record { slot = slot; cells = cells.now; marks = in_no_delta } ∷ []) }
     ensures refused { OnErr result (gains_in marks.new.items tuples.new.rows
         ≡ gains_in marks.old.items tuples.old.rows) }
 {
@@ -106,7 +109,7 @@ fn lay(tuples: &mut Arena, marks: &mut Vec<[bool; 8]>, cells: &[u64]) -> Result<
 }
 
 /// The slot where a tuple lies; it is laid where there is none.
-fn seat(tuples: &mut Arena, marks: &mut Vec<[bool; 8]>, cells: &[u64]) -> Result<u32, AllocError>
+fn seat(tuples: &mut Arena, marks: &mut Vec<Marks>, cells: &[u64]) -> Result<u32, AllocError>
     requires wide { length cells.now ≡ tuples.old.width }
     requires room { tuples.old.room ≤ length marks.old.items }
     ensures width { tuples.new.width ≡ tuples.old.width }
@@ -124,16 +127,16 @@ fn seat(tuples: &mut Arena, marks: &mut Vec<[bool; 8]>, cells: &[u64]) -> Result
     }
 }
 
-/// Marks a slot's tuple as one of the nth delta.
-fn mark(marks: &mut Vec<[bool; 8]>, slot: u32, nth: usize)
+/// Marks a slot's tuple as one of the nth delta, that came there or went.
+fn mark(marks: &mut Vec<Marks>, slot: u32, nth: usize, came: bool)
     requires slot { slot < length marks.old.items }
     requires nth { nth < 8 }
     ensures marked { (rows : List Row) → gains_in marks.new.items rows
-        ≡ marked_in slot nth (gains_in marks.old.items rows) }
-    ensures eight { length (marks_at marks.old.items slot) ≡ 8 }
+        ≡ marked_in slot nth came (gains_in marks.old.items rows) }
+    ensures eight { length (marks_at marks.old.items slot).stands ≡ 8 }
     ensures long { length marks.new.items ≡ length marks.old.items }
 {
-    marks[slot as usize][nth] = true;
+    marks[slot as usize].set(nth, came);
 }
 
 impl Gains {
@@ -164,18 +167,18 @@ impl Gains {
         self.tuples.len()
     }
 
-    /// Takes in a tuple of the nth delta. It fails only out of memory.
-    pub fn note(&mut self, nth: usize, cells: &Cells) -> Result<(), AllocError>
+    /// Takes in a tuple of the nth delta, that came there or went. It fails only out of memory.
+    pub fn note(&mut self, nth: usize, came: bool, cells: &Cells) -> Result<(), AllocError>
         requires nth { nth < 8 }
         requires wide { length cells.now ≡ self.old.width }
         ensures width { self.new.width ≡ self.old.width }
-        ensures stand { IfOk result (λ _. (k : ℕ) (t : List ℕ) → Stand self.new.gains k t
-            ↔ (Stand self.old.gains k t ⊎ ((k ≡ nth) × (t ≡ cells.now)))) }
+        ensures stand { IfOk result (λ _. (m : Mark) (t : List ℕ) → Stand self.new.gains m t
+            ↔ (Stand self.old.gains m t ⊎ (IsMarkOf m nth (sign_of came) × (t ≡ cells.now)))) }
         ensures few { IfOk result (λ _. length self.new.gains ≤ length self.old.gains + 1) }
     {
         let slot = seat(&mut self.tuples, &mut self.marks, cells.as_slice())?;
         self.tuples.laws();
-        mark(&mut self.marks, slot, nth);
+        mark(&mut self.marks, slot, nth, came);
         Ok(())
     }
 
@@ -203,13 +206,12 @@ impl Gains {
         self.tuples.cells(slot)
     }
 
-    /// Whether the tuple in a slot stands in the nth delta.
-    pub fn stands_in(&self, slot: u32, nth: usize) -> bool
-        requires slot { IsIn self.now.gains slot }
-        requires nth { nth < 8 }
-        ensures { AtSlot self.now.gains slot (λ g. result ≡ is_by g nth) }
+    /// The marks of the tuple in a slot.
+    pub fn marks(&self, slot: u32) -> &Marks
+        requires { IsIn self.now.gains slot }
+        ensures { AtSlot self.now.gains slot (λ g. result.now ≡ g.marks) }
     {
         self.tuples.laws();
-        self.marks[slot as usize][nth]
+        &self.marks[slot as usize]
     }
 }

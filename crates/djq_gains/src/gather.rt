@@ -15,9 +15,9 @@ ghost use Rattle.std.specs.Prelude.{
   slice_get,
 };
 ghost use Rattle.djq_live_query.specs.Member.{head_types, query_at, queries_at, HaveQueries, AreAlike};
-ghost use Rattle.djq_gains.specs.Gains.{AtFirstMember, told_of_member, count_in};
-ghost use Rattle.djq_gains.specs.Gathered.{Stand};
-ghost use Rattle.djq_gains.specs.Gathering.{cells_told, is_among, GathersGains};
+ghost use Rattle.djq_gains.specs.Gains.{AtFirstMember, told_of_member, changes_in, count_in};
+ghost use Rattle.djq_gains.specs.Gathered.{Mark, Stand};
+ghost use Rattle.djq_gains.specs.Gathering.{is_among, HasMarkBy, GathersGains};
 ghost use Rattle.djq_index.specs.declared.cells.TheConstants.{CELLS};
 
 use crate::gains::Gains;
@@ -46,9 +46,9 @@ fn gather_from(
         (λ l. length (head_types l) ≡ gains.old.width) }
     ensures width { gains.new.width ≡ gains.old.width }
     ensures told { IfOk result (λ _. told_of_member engine.now place ≡ None → ⊥) }
-    ensures gathered { IfOk result (λ _. (k : ℕ) (t : List ℕ) → Stand gains.new.gains k t
-        ↔ (Stand gains.old.gains k t
-        ⊎ ((k ≡ nth) × Contains (cells_told engine.now place) t))) }
+    ensures gathered { IfOk result (λ _. (m : Mark) (t : List ℕ) → Stand gains.new.gains m t
+        ↔ (Stand gains.old.gains m t
+        ⊎ HasMarkBy (engine.now.store).texts (changes_in engine.now place) nth m t)) }
     ensures few { IfOk result
         (λ _. length gains.new.gains ≤ length gains.old.gains + count_in engine.now place) }
 {
@@ -59,8 +59,8 @@ fn gather_from(
     };
     let mut cells = Cells::new(0);
     for line in 0..len {
-        engine.delta_cells(id, line, &mut cells);
-        gains.note(nth, &cells)?;
+        let came = engine.delta_cells(id, line, &mut cells);
+        gains.note(nth, came, &cells)?;
     }
     Ok(())
 }

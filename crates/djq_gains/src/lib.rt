@@ -1,36 +1,41 @@
 //! How the answers of a union changed, told from how its members' did.
 //!
-//! Behind a change the engine tells of each query which answers came or went. [`tell_gains`] makes of
-//! what it tells of a union's members what is to be told of the union, and lists it into a log: an
-//! answer is told where it stands in some member's delta, and no member in whose delta it doesn't stand
-//! has it now. Of answers that came, such a member had it before; and what a member still has didn't go.
+//! After a change, which may insert rows and delete others at once, the engine tells of each query which
+//! answers came and which went. [`tell_gains`] makes of what it tells of a union's members the delta of
+//! the union, and lists it into a log: an answer is reported as one that came if it stands so in some
+//! member's delta, in none as one that went, and no member in whose delta it doesn't stand has it now; as
+//! one that went if it is the other way round in the deltas.
 //!
 //! It keeps nothing between two calls, and knows no session and no name. It promises no order of the
 //! lines.
 //!
 //! What surprises: nothing is asked of the members as they were before the change. A member that has an
 //! answer which isn't in its delta had it before, too, so the tables as they are suffice; and the rule
-//! doesn't depend on the order of the members. It holds only where all members change one way: they all
-//! gain answers, or all lose some.
+//! doesn't depend on the order of the members.
 //!
 //! ```text
-//! member a            member b              member c            the union
-//! + 1  + 2  + 3       + 2  + 4              (not touched)
-//! has 1 2 3           has 2 3 4             has 4               + 1  + 2
+//! member a                  member b              member c          the union
+//! + 1  + 2  - 3  - 5        + 2  + 3  + 4         (not touched)
+//! has 1 2                   has 2 3 4             has 4             + 1  + 2  - 5
 //!
-//! 3 isn't in b's delta, and b has it: so it was there before. So was 4, which c has.
+//! 3 went from a and came to b: the union had it, and has it. 4 isn't in c's delta, and c has it: so it
+//! was there before. 5 went from a, and no member has it.
 //! ```
 //!
-//! To read first: `specs/Told.antt`, what is told, and `HaveChanged` of `specs/Gains.antt`, of which
-//! changes it is the delta.
+//! If rows only come, or only go, all signs are the same.
 //!
-//! Inside, the different answers of the members' deltas are gathered in an arena, each with the members
-//! in whose deltas it stands (`gains`): one insertion a line. Then each is tested with the other members,
-//! as far as one that has it.
+//! To read first: `HaveChanged` and `IsUnionDelta` of `specs/Gains.antt`, of which changes what is listed
+//! is the delta; and `is_told` of `specs/Gathering.antt`, what is listed. That this is the delta is the law
+//! `union_deltas` of djq_answer_laws.
+//!
+//! Inside, the different answers of the members' deltas are gathered in an arena, each with its marks: the
+//! members in whose deltas it stands, and its signs there (`gains`, `marks`): one insertion a line. Then
+//! each whose signs agree is tested with the other members, as far as one that has it.
 #![tactic(auto)]
 
 mod gains;
 mod gather;
+mod marks;
 mod telling;
 
 pub use telling::tell_gains;

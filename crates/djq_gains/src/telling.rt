@@ -22,11 +22,12 @@ ghost use Rattle.djq_live_query.specs.Live.{IsKeptSomewhere};
 ghost use Rattle.djq_live_query.specs.Member.{queries_at, HaveQueries, AreAlike};
 ghost use Rattle.djq_gains.specs.Gains.{AtFirstMember, TellUnion, members_at, told_of_member, count_in};
 ghost use Rattle.djq_gains.specs.Gathered.{IsIn, AtSlot};
-ghost use Rattle.djq_gains.specs.Gathering.{is_told, gain_lines, asks_of, AtFirstQuery};
+ghost use Rattle.djq_gains.specs.Gathering.{is_alone, gain_lines, asks_of, AtFirstQuery};
 ghost use Rattle.djq_index.specs.declared.cells.TheConstants.{CELLS};
 
 use crate::gains::Gains;
 use crate::gather::gather;
+use crate::marks::Marks;
 use djq_counters::Tally;
 use djq_engine::{Answer, Cells, Engine};
 use djq_enumeration::DeltaLog;
@@ -39,34 +40,31 @@ use std::sync::ledger::Ledger;
 /// it.
 fn is_alone<L: Ledger>(
     group: &QueriesAt,
-    gains: &Gains,
-    slot: u32,
+    marks: &Marks,
     cells: &Cells,
     listing: &mut Tally<L>,
 ) -> bool
     requires queries { HaveQueries group.now.queries.now group.now.places.now }
     requires ready { All IsKeptSomewhere (queries_at group.now.queries.now group.now.places.now) }
-    requires lies { IsIn gains.now.gains slot }
-    requires cells { AtSlot gains.now.gains slot (λ g. cells.now ≡ g.cells) }
-    ensures told { AtSlot gains.now.gains slot (λ g. result
-        ≡ is_told (queries_at group.now.queries.now group.now.places.now) g) }
+    ensures alone { result
+        ≡ is_alone (queries_at group.now.queries.now group.now.places.now) marks.now.stands cells.now }
     ensures counted { listing.new ≤ listing.old
         + sum_by asks_of (queries_at group.now.queries.now group.now.places.now) }
 {
     for nth in 0..group.count() {
-        if !gains.stands_in(slot, nth) && Listing::has(group.member(nth), cells, listing) {
+        if !marks.stands[nth] && Listing::has(group.member(nth), cells, listing) {
             return false;
         }
     }
     true
 }
 
-/// Lists the tuple in a slot into the log, where it is to be told.
+/// Lists the tuple in a slot into the log, unless it came to one member and went from another, or a member
+/// in whose delta it doesn't stand has it.
 fn tell_one<L: Ledger>(
     group: &QueriesAt,
     gains: &Gains,
     slot: u32,
-    came: bool,
     log: &mut DeltaLog,
     listing: &mut Tally<L>,
 )
@@ -80,28 +78,26 @@ fn tell_one<L: Ledger>(
     ensures told { log.new.lost ≡ false
         → AtFirstQuery (queries_at group.now.queries.now group.now.places.now) (λ l.
         AtSlot gains.now.gains slot (λ g. log.new.lines ≡ log.old.lines
-        ++ gain_lines came (queries_at group.now.queries.now group.now.places.now) l (g ∷ []))) }
+        ++ gain_lines (queries_at group.now.queries.now group.now.places.now) l (g ∷ []))) }
     ensures lost { log.old.lost ≡ true → log.new.lost ≡ true }
     ensures counted { listing.new ≤ listing.old
         + sum_by asks_of (queries_at group.now.queries.now group.now.places.now) }
 {
     gains.laws();
+    let marks = gains.marks(slot);
+    if marks.came && marks.went {
+        return;
+    }
     let cells = Cells::from_slice(gains.cells(slot));
-    if is_alone(group, gains, slot, &cells, listing) {
+    if is_alone(group, marks, &cells, listing) {
         let mut answer = Answer::new(0);
         group.member(0).put_in_tree(&cells, &mut answer);
-        log.push(came, &answer);
+        log.push(marks.came, &answer);
     }
 }
 
 /// Lists into the log what is to be told of all that is gathered.
-fn tell<L: Ledger>(
-    group: &QueriesAt,
-    gains: &Gains,
-    came: bool,
-    log: &mut DeltaLog,
-    listing: &mut Tally<L>,
-)
+fn tell<L: Ledger>(group: &QueriesAt, gains: &Gains, log: &mut DeltaLog, listing: &mut Tally<L>)
     requires queries { HaveQueries group.now.queries.now group.now.places.now }
     requires some { 0 < length group.now.places.now }
     requires ready { All IsKeptSomewhere (queries_at group.now.queries.now group.now.places.now) }
@@ -111,7 +107,7 @@ fn tell<L: Ledger>(
     requires clear { log.old.lines ≡ [] }
     ensures told { log.new.lost ≡ false
         → AtFirstQuery (queries_at group.now.queries.now group.now.places.now) (λ l. log.new.lines
-        ≡ gain_lines came (queries_at group.now.queries.now group.now.places.now) l gains.now.gains) }
+        ≡ gain_lines (queries_at group.now.queries.now group.now.places.now) l gains.now.gains) }
     ensures counted { listing.new ≤ listing.old + length gains.now.gains
         * sum_by asks_of (queries_at group.now.queries.now group.now.places.now) }
 {
@@ -120,7 +116,7 @@ fn tell<L: Ledger>(
         match at {
             None => return,
             Some(slot) => {
-                tell_one(group, gains, slot, came, log, listing);
+                tell_one(group, gains, slot, log, listing);
                 at = gains.next(slot);
             }
         }
@@ -128,17 +124,16 @@ fn tell<L: Ledger>(
 }
 
 /// Tells how a union's answers changed, from how its members' did: lists into the log, which is cleared
-/// first, the answers of the union that came, or those that went. The members are named by their
+/// first, the answers of the union that came and those that went. The members are named by their
 /// places, and so are those of them that were touched, as they read a relation that changed.
 ///
-/// Where the log of one of these is lost, or memory is refused, the union's log is lost. It counts at
+/// If the log of one of these is lost, or memory is refused, the union's log is lost. It counts at
 /// most one test with all members for each answer that came to one of them, or went.
 pub fn tell_gains<L: Ledger>(
     alloc: Global,
     engine: &Engine,
     members: &[usize],
     touched: &[usize],
-    came: bool,
     log: &mut DeltaLog,
     listing: &mut Tally<L>,
 )
@@ -148,7 +143,7 @@ pub fn tell_gains<L: Ledger>(
     requires alike { AreAlike (queries_at engine.now.places members.now) }
     requires among { All (Contains members.now) touched.now }
     ensures tells { log.new.lost ≡ false → AtFirstMember engine.now members.now
-        (TellUnion engine.now members.now touched.now came log.new.lines) }
+        (TellUnion engine.now members.now touched.now log.new.lines) }
     ensures lost { (i : ℕ) → Contains touched.now i → told_of_member engine.now i ≡ None
         → log.new.lost ≡ true }
     ensures counted { listing.new ≤ listing.old + sum_by (count_in engine.now) touched.now
@@ -163,7 +158,7 @@ pub fn tell_gains<L: Ledger>(
     match gather(alloc, engine, members, touched) {
         Ok(gains) => {
             gains.laws();
-            tell(&group, &gains, came, log, listing);
+            tell(&group, &gains, log, listing);
         }
         Err(_) => log.lose(),
     }

@@ -15,7 +15,8 @@ use Rattle.djq_protocol.specs.declared.answer.Refusal.{Refusal}
 use Rattle.djq_protocol.specs.declared.answer.Refusal.TheVariants.{Syntax, Taken, NoRelation, NoQuery, NoCursor, Arity}
 use Rattle.djq_protocol.specs.declared.answer.Refusal.TheVariants.{WrongType, HeadUnbound, HeadRepeated, VariableType}
 use Rattle.djq_protocol.specs.declared.answer.Refusal.TheVariants.{Unbound, Limit, NoMemory, InUse, Member, Misplaced}
-use Rattle.djq_protocol.specs.declared.held.HeldRow.{HeldRow}
+use Rattle.djq_protocol.specs.declared.answer.Refusal.TheVariants.{NoCopy, OtherCount}
+use Rattle.djq_store_spec.specs.Held.{HeldTransaction}
 use Rattle.djq_protocol.specs.declared.command.Command.{Command}
 use Rattle.djq_protocol.specs.declared.command.Command.TheVariants.{Open, Next}
 use Rattle.djq_protocol.specs.Line.{a_line, front_of, is_blank}
@@ -75,7 +76,7 @@ some_told Answer given (u ∷ told) left all = omega arith
 
 -- What a session has: its cursors, and its batch.
 abbrev Has : Type 0
-Has = List Cursor × Option (List HeldRow)
+Has = List Cursor × Option HeldTransaction
 
 abbrev has_in : Option Session → Has
 has_in o = (session_cursors o, batch_in o)
@@ -322,7 +323,7 @@ next_at given ended st y e m found stands none running h =
     let next = Next (codes "c") 1000 in
     let done : CommandStep st 1 y (codes "next c 1000") next e m =
     carried_out st y (codes "next c 1000") next e m (is_misplaced y.batch next)
-    (ap (λ (batch : Option (List HeldRow)). is_misplaced batch next) none) refl h in
+    (ap (λ (batch : Option HeldTransaction). is_misplaced batch next) none) refl h in
     let at : IsSomeAnd (listed_of st.store.queries (codes "q"))
     (λ q. NextStepAt st 1 (codes "c") q 1000 (open_at given ended) e m) =
     subst (λ (o : Option Cursor). MatchOption o (RefusedStep st 1 NoCursor e m)
@@ -424,6 +425,8 @@ first_letter NoMemory = refl
 first_letter InUse = refl
 first_letter Member = refl
 first_letter Misplaced = refl
+first_letter NoCopy = refl
+first_letter OtherCount = refl
 
 not_refused : (r : Refusal) → refusal_line r ≡ codes "ok open\n" → ⊥
 not_refused r e = let k = sym (first_letter r) ∙ ap (λ (bs : Bytes). slice_index bs 0) e in absurd (omega (arith, k))
@@ -473,7 +476,7 @@ opened_by L st y e m (Ok u) found none told answer effect after =
 opened_by L st y e m (Err r) found none told answer effect after = absurd (told_refused r e effect told)
 
 -- a cursor is opened where no batch is open
-open_placed : (batch : Option (List HeldRow)) → is_misplaced batch (Open (codes "c") (codes "q")) ≡ false
+open_placed : (batch : Option HeldTransaction) → is_misplaced batch (Open (codes "c") (codes "q")) ≡ false
     → batch ≡ None
 open_placed None e = refl
 open_placed (Some held) e = absurd cc

@@ -26,7 +26,8 @@ use Rattle.djq_protocol.specs.declared.rest.QueryOutcome.{QueryOutcome}
 use Rattle.djq_protocol.specs.declared.rest.QueryOutcome.TheVariants.{Registered, Cyclic, NotConnex}
 use Rattle.djq_protocol.specs.declared.limits.TheConstants.{ROWS, COPIES, LAST_SEQ}
 use Rattle.djq_protocol.specs.declared.command.Command.{Command}
-use Rattle.djq_protocol.specs.declared.held.HeldRow.{HeldRow}
+use Rattle.djq_protocol.specs.declared.held.Verb.{Verb}
+use Rattle.djq_protocol.specs.declared.held.Verb.TheVariants.{Add as Adds, Delete as Deletes}
 use Rattle.djq_protocol.specs.declared.command.Command.TheVariants.{Rel, Add, Del, Query as Register, Union, Drop, Open}
 use Rattle.djq_protocol.specs.declared.command.Command.TheVariants.{Next, Close, Has, Watch, Unwatch, Explain, Shape}
 use Rattle.djq_protocol.specs.declared.command.Command.TheVariants.{Batch, Done, Abandon, Quit, Stop}
@@ -43,7 +44,9 @@ use Rattle.djq_store_spec.specs.Registering.{drop_refusal}
 use Rattle.djq_answer_laws.proofs.Lists.{some_there}
 use Rattle.djq_machine.specs.State.{State, Session, session_of, with_session}
 use Rattle.djq_machine.specs.Effect.{Effect}
-use Rattle.djq_machine.specs.Command.{AddStep, BecomesWhere, CommandStep, HoldStep, QueryStep, QueryCutStep, with_batch}
+use Rattle.djq_store_spec.specs.Held.{HeldTransaction, holding}
+use Rattle.djq_machine.specs.Command.{AddStep, DeleteStep, BecomesWhere, CommandStep, HoldStep, QueryStep}
+use Rattle.djq_machine.specs.Command.{QueryCutStep, with_batch}
 use Rattle.djq_machine.specs.LineStep.{LineOutcome, long, blank, slow, no_room, run, FrontStep, behind_line}
 use Rattle.djq_machine.specs.Step.{Event, opened, fed, stepped, took, ended, closed, FedStep, TookStep, EndedStep, Acts}
 use Rattle.djq_machine.specs.Step.{SameRelations, with_relations, Step}
@@ -229,7 +232,7 @@ form_same ending old s x e new apart h = ap (λ (st : State). st.store) h.1.stat
 abbrev pub IsHarmless : Command → Type 0
 IsHarmless (Register q) = q ≡ join
 IsHarmless (Union name members) = ⊥
-IsHarmless Done = ⊥
+IsHarmless (Done given) = ⊥
 IsHarmless c = Unit {0}
 
 store_joins : (old new : State) (store : Store) → new ≡ record old { store = store } → Joins store → Joins new.store
@@ -242,23 +245,34 @@ asked_joins old s q e new is (inl h) j = store_joins old new h.store h.state
 asked_joins old s q e new is (inr h) j = subst (λ (st : State). Joins st.store) (sym h.ends.1)
     (query_joins old.store q h.result h.store is h.done j)
 
--- `add`, where a batch is open or none is
-add_command_joins : (old : State) (s : ℕ) (batch : Option (List HeldRow)) (l name : Bytes) (row : Tuple)
+-- a line that is held
+held_joins : (old : State) (s : ℕ) (held : HeldTransaction) (l : Bytes) (verb : Verb) (name : Bytes) (row : Tuple)
+    (e : Effect) (new : State) → HoldStep old s held l verb name row e new → Joins old.store → Joins new.store
+held_joins old s held l verb name row e new h j = same_joins old.store new.store (held_same h.result h.state) j
+  where
+    held_same : (r : Result ⊤ Refusal) → BecomesWhere old s (with_batch (holding held verb name row l)) new r
+        → new.store ≡ old.store
+    held_same (Ok u) k = ap (λ (st : State). st.store) k
+    held_same (Err r) k = ap (λ (st : State). st.store) k
+
+-- `add` and `del`, if a batch is open or none is
+add_command_joins : (old : State) (s : ℕ) (batch : Option HeldTransaction) (l name : Bytes) (row : Tuple)
     (e : Effect) (new : State)
-    → MatchOption batch (AddStep old s name row e new) (λ held. HoldStep old s held l name row e new)
+    → MatchOption batch (AddStep old s name row e new) (λ held. HoldStep old s held l Adds name row e new)
     → Joins old.store → Joins new.store
 add_command_joins old s None l name row e new h j =
     same_joins h.store new.store (change_store old s _ h.store _ e new h.change)
     (add_joins old.store name row h.result h.store h.done j)
-add_command_joins old s (Some held) l name row e new h j =
-    same_joins old.store new.store (held_same h.result h.state) j
-  where
-    more : List HeldRow
-    more = held ++ record { line = l; relation = name; row = row } ∷ []
+add_command_joins old s (Some held) l name row e new h j = held_joins old s held l Adds name row e new h j
 
-    held_same : (r : Result ⊤ Refusal) → BecomesWhere old s (with_batch more) new r → new.store ≡ old.store
-    held_same (Ok u) k = ap (λ (st : State). st.store) k
-    held_same (Err r) k = ap (λ (st : State). st.store) k
+delete_command_joins : (old : State) (s : ℕ) (batch : Option HeldTransaction) (l name : Bytes) (row : Tuple)
+    (e : Effect) (new : State)
+    → MatchOption batch (DeleteStep old s name row e new) (λ held. HoldStep old s held l Deletes name row e new)
+    → Joins old.store → Joins new.store
+delete_command_joins old s None l name row e new h j =
+    same_joins h.store new.store (change_store old s _ h.store _ e new h.change)
+    (delete_joins old.store name row h.result h.store h.done j)
+delete_command_joins old s (Some held) l name row e new h j = held_joins old s held l Deletes name row e new h j
 
 -- a command that isn't of the store
 apart_joins : (old : State) (s : ℕ) (x : Session) (l : Bytes) (c : Command) (e : Effect) (new : State)
@@ -278,9 +292,7 @@ command_joins old s x l (Union name members) e new says fine h j = absurd fine
 command_joins old s x l (Drop q) e new says fine h j =
     store_joins old new h.store h.state (drop_joins old.store _ q h.result h.store h.done j)
 command_joins old s x l (Add name row) e new says fine h j = add_command_joins old s x.batch l name row e new h j
-command_joins old s x l (Del name row) e new says fine h j =
-    same_joins h.store new.store (change_store old s _ h.store _ e new h.change)
-    (delete_joins old.store name row h.result h.store h.done j)
+command_joins old s x l (Del name row) e new says fine h j = delete_command_joins old s x.batch l name row e new h j
 command_joins old s x l (Open c q) e new says fine h j = apart_joins old s x l (Open c q) e new says refl h j
 command_joins old s x l (Next c n) e new says fine h j = apart_joins old s x l (Next c n) e new says refl h j
 command_joins old s x l (Close c) e new says fine h j = apart_joins old s x l (Close c) e new says refl h j
@@ -290,7 +302,7 @@ command_joins old s x l (Unwatch q) e new says fine h j = apart_joins old s x l 
 command_joins old s x l (Explain q) e new says fine h j = apart_joins old s x l (Explain q) e new says refl h j
 command_joins old s x l (Shape q) e new says fine h j = apart_joins old s x l (Shape q) e new says refl h j
 command_joins old s x l Batch e new says fine h j = apart_joins old s x l Batch e new says refl h j
-command_joins old s x l Done e new says fine h j = absurd fine
+command_joins old s x l (Done given) e new says fine h j = absurd fine
 command_joins old s x l Abandon e new says fine h j = apart_joins old s x l Abandon e new says refl h j
 command_joins old s x l Quit e new says fine h j = apart_joins old s x l Quit e new says refl h j
 command_joins old s x l Stop e new says fine h j = apart_joins old s x l Stop e new says refl h j

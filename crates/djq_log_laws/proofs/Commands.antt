@@ -17,7 +17,8 @@ use Rattle.djq_protocol.specs.declared.rest.QueryOutcome.TheVariants.{Registered
 use Rattle.djq_protocol.specs.declared.command.Command.{Command}
 use Rattle.djq_protocol.specs.declared.command.Command.TheVariants.{Rel, Query as Register, Union, Drop, Batch, Add}
 use Rattle.djq_protocol.specs.declared.command.Command.TheVariants.{Del, Done, Abandon}
-use Rattle.djq_protocol.specs.declared.held.HeldRow.{HeldRow}
+use Rattle.djq_protocol.specs.declared.held.Verb.{Verb}
+use Rattle.djq_protocol.specs.declared.held.Verb.TheVariants.{Add as Adds, Delete as Deletes}
 use Rattle.djq_protocol.specs.Variables.{constants_of}
 use Rattle.djq_protocol.specs.Conditions.{first_refusal, Answers, OutOfMemoryWhere}
 use Rattle.djq_protocol.specs.Grammar.{Reading, says_command, reading_of, outside, past_limit}
@@ -27,16 +28,17 @@ use Rattle.djq_store_spec.specs.Registering.{query_refusal, RegistersAs, Refused
 use Rattle.djq_store_spec.specs.Registering.{drop_refusal, DropsQuery, answer_steps}
 use Rattle.djq_store_spec.specs.Union.{union_refusal, AreUnder, RegistersUnion}
 use Rattle.djq_store_spec.specs.Changes.{row_in, row_out, add_outcome, delete_outcome}
-use Rattle.djq_store_spec.specs.Batch.{hold_refusal, suit_refusal, batch_outcome}
+use Rattle.djq_store_spec.specs.Held.{HeldLine, HeldTransaction, nothing_held, holding}
+use Rattle.djq_store_spec.specs.Transaction.{hold_refusal, suit_refusal, lines_outcome}
 use Rattle.djq_machine.specs.declared.machine.Loaded.{Loaded}
 use Rattle.djq_machine.specs.declared.machine.Loaded.TheVariants.{Ran as ran, NoMem as no_memory, Refused as refused}
 use Rattle.djq_machine.specs.Loading.{refused_by, StoreLoads, Loading, loading, CommandLoads, ReadingLoads, LoadStep}
-use Rattle.djq_machine.specs.Loading.{Loads}
+use Rattle.djq_machine.specs.Loading.{Loads, HoldsOrRefuses}
 use Rattle.djq_machine.specs.Step.{SameRelations}
 use Rattle.djq_machine.specs.State.{opening}
 use Rattle.djq_machine.proofs.Relations.{walk_keeps}
-use Rattle.djq_run_laws.specs.Form.{row_comes, row_goes, rows_come}
-use Rattle.djq_run_laws.specs.Sound.{IsSoundStore, IsSoundBatch, IsHeldBySaying}
+use Rattle.djq_run_laws.specs.Form.{row_comes, row_goes, carries_out}
+use Rattle.djq_run_laws.specs.Sound.{IsSoundStore, IsSoundBatch, verb_command}
 use Rattle.djq_run_laws.proofs.Forms.{done_of, none_holds, rel_stored, query_stored, union_stored, drop_stored}
 use Rattle.djq_run_laws.proofs.Lists.{nothing_apart, texts_apart}
 use Rattle.djq_run_laws.proofs.RegisteredQueries.{HasParts, said_parts}
@@ -387,18 +389,18 @@ follows_right to n rs h f = record {
 pub follows_closed : (a b : Store) → StoreFollows a b → LoadingFollows (loading a) (loading b)
 follows_closed a b f = record { store = f; batch = refl }
 
--- a loading whose batch holds these rows
-abbrev pub holding : Store → List HeldRow → Loading
-holding st held = record { store = st; batch = Some held }
+-- a loading whose batch holds these lines
+abbrev pub open_loading : Store → HeldTransaction → Loading
+open_loading st held = record { store = st; batch = Some held }
 
-pub follows_holding : (a b : Store) (held : List HeldRow) → StoreFollows a b
-    → LoadingFollows (holding a held) (holding b held)
-follows_holding a b held f = record { store = f; batch = refl }
+pub follows_open : (a b : Store) (held : HeldTransaction) → StoreFollows a b
+    → LoadingFollows (open_loading a held) (open_loading b held)
+follows_open a b held f = record { store = f; batch = refl }
 
 -- what holds of a loading, by whether its batch is open
-pub of_batch : (P : Loading → Type 0) (b : Loading) (o : Option (List HeldRow)) → b.batch ≡ o
+pub of_batch : (P : Loading → Type 0) (b : Loading) (o : Option HeldTransaction) → b.batch ≡ o
     → P (record { store = b.store; batch = o }) → P b
-of_batch P b o e p = subst (λ (k : Option (List HeldRow)). P (record { store = b.store; batch = k })) (sym e) p
+of_batch P b o e p = subst (λ (k : Option HeldTransaction). P (record { store = b.store; batch = k })) (sym e) p
 
 -- ---- a line
 
@@ -579,38 +581,49 @@ outside_sound : (old : Store) (l : Bytes) (c : Command) → HasParts c → (how 
     → CommandLoads (loading old) l c how new → IsSoundStore old
     → IsSoundLoading new
 outside_sound old l Batch parts how new (inl h) sound =
-    stays_so (holding old []) new h.1 (record {
+    stays_so (open_loading old nothing_held) new h.1 (record {
       store = sound;
       batch = record {
         few = omega arith;
-        suit = All-nil (λ (h : HeldRow). suit_refusal old h.relation h.row ≡ None);
-        lines = All-nil IsHeldBySaying;
+        short = omega arith;
+        suit = All-nil (λ (h : HeldLine). suit_refusal old h.relation h.row ≡ None);
+        lines = tt;
       };
     })
 outside_sound old l Batch parts how new (inr h) sound = stays_so (loading old) new h.1 (closed_sound old sound)
 outside_sound old l c parts how new h sound =
     of_batch IsSoundLoading new None h.1 (closed_sound new.store (command_sound old c parts how new.store h.0 sound))
 
--- a command where a batch is open
-within_sound : (old : Store) (held : List HeldRow) (l : Bytes) (c : Command) → reading_of l ≡ says_command c
-    → (how : Loaded) (new : Loading)
-    → CommandLoads (holding old held) l c how new → IsSoundLoading (holding old held) → IsSoundLoading new
-within_sound old held l (Add name row) said how new (Ok u, k, e, same) sound =
-    let more : HeldRow = record { line = l; relation = name; row = row } in
-    stays_so (holding old (held ++ more ∷ [])) new same (record {
+-- a line that a batch is to hold
+held_sound : (old : Store) (held : HeldTransaction) (l : Bytes) (verb : Verb) (name : Bytes) (row : Tuple)
+    → reading_of l ≡ says_command (verb_command verb name row) → (how : Loaded) (new : Loading)
+    → HoldsOrRefuses (open_loading old held) held l verb name row how new → IsSoundLoading (open_loading old held)
+    → IsSoundLoading new
+held_sound old held l verb name row said how new (Ok u, k, e, same) sound =
+    stays_so (open_loading old (holding held verb name row l)) new same (record {
       store = sound.store;
-      batch = held_more old held more (none_holds (hold_refusal old held name row) u (λ _. ⊤) (OutOfMemoryWhere ⊤) k)
+      batch = held_more old held l verb name row
+          (none_holds (hold_refusal old held l name row) u (λ _. ⊤) (OutOfMemoryWhere ⊤) k)
           (record { said = said }) sound.batch;
     })
-within_sound old held l (Add name row) said how new (Err r, k, e, same) sound =
-    stays_so (holding old held) new same sound
-within_sound old held l Done said how new (r, m, e, closed) sound =
+held_sound old held l verb name row said how new (Err r, k, e, same) sound =
+    stays_so (open_loading old held) new same sound
+
+-- a command where a batch is open
+within_sound : (old : Store) (held : HeldTransaction) (l : Bytes) (c : Command) → reading_of l ≡ says_command c
+    → (how : Loaded) (new : Loading)
+    → CommandLoads (open_loading old held) l c how new → IsSoundLoading (open_loading old held) → IsSoundLoading new
+within_sound old held l (Add name row) said how new h sound =
+    held_sound old held l Adds name row said how new h sound
+within_sound old held l (Del name row) said how new h sound =
+    held_sound old held l Deletes name row said how new h sound
+within_sound old held l (Done given) said how new (r, m, e, closed) sound =
     of_batch IsSoundLoading new None closed
     (closed_sound new.store
-    (made_sound (rows_come held) old (batch_outcome old held r) new.store
-    (batched old held r new.store m) sound.batch.suit sound.store))
+    (made_sound (carries_out held given) old (lines_outcome old.relations held.lines r) new.store
+    (batched old held given new.store r m) sound.batch.suit sound.store))
 within_sound old held l Abandon said how new h sound = stays_so (loading old) new h.1 (closed_sound old sound.store)
-within_sound old held l c said how new h sound = stays_so (holding old held) new h.1 sound
+within_sound old held l c said how new h sound = stays_so (open_loading old held) new h.1 sound
 
 reading_sound : (old : Loading) (l : Bytes) (r : Reading) → reading_of l ≡ r → (how : Loaded) (new : Loading)
     → ReadingLoads old l r how new
@@ -620,15 +633,15 @@ reading_sound old l (past_limit c) is how new h sound = stays_so old new h.1 sou
 reading_sound old l (says_command c) is how new (inr h) sound = stays_so old new h.3 sound
 reading_sound old l (says_command c) is how new (inl h) sound = by old.batch refl
   where
-    at : (o : Option (List HeldRow)) → old.batch ≡ o → IsSoundLoading (record { store = old.store; batch = o })
-    at o e = subst (λ (k : Option (List HeldRow)). IsSoundLoading (record { store = old.store; batch = k })) e sound
+    at : (o : Option HeldTransaction) → old.batch ≡ o → IsSoundLoading (record { store = old.store; batch = o })
+    at o e = subst (λ (k : Option HeldTransaction). IsSoundLoading (record { store = old.store; batch = k })) e sound
 
-    loads : (o : Option (List HeldRow)) → old.batch ≡ o
+    loads : (o : Option HeldTransaction) → old.batch ≡ o
         → CommandLoads (record { store = old.store; batch = o }) l c how new
     loads o e =
-        subst (λ (k : Option (List HeldRow)). CommandLoads (record { store = old.store; batch = k }) l c how new) e h
+        subst (λ (k : Option HeldTransaction). CommandLoads (record { store = old.store; batch = k }) l c how new) e h
 
-    by : (o : Option (List HeldRow)) → old.batch ≡ o → IsSoundLoading new
+    by : (o : Option HeldTransaction) → old.batch ≡ o → IsSoundLoading new
     by None e = outside_sound old.store l c (said_parts l c is) how new (loads None e) sound.store
     by (Some held) e = within_sound old.store held l c is how new (loads (Some held) e) (at (Some held) e)
 

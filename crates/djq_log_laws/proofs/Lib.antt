@@ -1,5 +1,6 @@
 mod Stores
 pub mod Commands
 mod Copies
+mod HeldLines
 mod LoggedLines
 pub mod Reloads

@@ -1,7 +1,7 @@
 -- What a step of a run logs: lines that can be loaded.
-use Rattle.std.proofs.Common.{ℕ, List, [], ◌∷◌, ◌≡◌, inl, inr, Bool, true, false, refl, sym, ap, ◌∙◌, subst, ◌++◌, ◌≤◌}
+use Rattle.std.proofs.Common.{ℕ, List, [], ◌∷◌, ◌≡◌, inl, inr, Bool, true, refl, sym, ap, subst, ◌++◌, ◌≤◌}
 use Rattle.std.proofs.Common.{length, arith, cond}
-use Rattle.std.specs.Prelude.{Option, None, Some, is_some, IsSomeAnd, MatchOption, Result, Ok, Err, map, ⊤, codes, All}
+use Rattle.std.specs.Prelude.{Option, None, Some, is_some, IsSomeAnd, MatchOption, Result, Ok, Err, ⊤, codes, All}
 use Rattle.std.proofs.lemmas.List.Elements.{All-nil, All-cons, All-append, All-from_recursion}
 use Rattle.djq_model.specs.declared.relation.ColumnType.{ColumnType}
 use Rattle.djq_model.specs.declared.query.Query.{Query}
@@ -22,7 +22,13 @@ use Rattle.djq_protocol.specs.declared.command.Command.{Command}
 use Rattle.djq_protocol.specs.declared.command.Command.TheVariants.{Rel, Add, Del, Query as Register, Union, Drop, Open}
 use Rattle.djq_protocol.specs.declared.command.Command.TheVariants.{Next, Close, Has, Watch, Unwatch, Explain, Shape}
 use Rattle.djq_protocol.specs.declared.command.Command.TheVariants.{Batch, Done, Abandon, Quit, Stop}
-use Rattle.djq_protocol.specs.declared.held.HeldRow.{HeldRow}
+use Rattle.djq_protocol.specs.declared.held.Verb.TheVariants.{Add as Adds, Delete as Deletes}
+use Rattle.djq_protocol.specs.declared.held.LineRefusal.{LineRefusal}
+use Rattle.djq_protocol.specs.declared.held.LineRefusal.TheVariants.{Limit as LimitReached, Absent as NoCopy}
+use Rattle.djq_protocol.specs.declared.held.LineRefusal.TheVariants.{NoMemory as NoneForLine}
+use Rattle.djq_protocol.specs.declared.held.DoneRefusal.{DoneRefusal}
+use Rattle.djq_protocol.specs.declared.held.DoneRefusal.TheVariants.{OtherNumber, Line, LastChange}
+use Rattle.djq_protocol.specs.declared.held.DoneRefusal.TheVariants.{NoMemory as NoneLeft}
 use Rattle.djq_protocol.specs.Variables.{constants_of}
 use Rattle.djq_protocol.specs.Conditions.{Answers, OutOfMemoryWhere}
 use Rattle.djq_protocol.specs.Grammar.{says_command, reading_of, reading_in, command_of, command_in}
@@ -31,13 +37,16 @@ use Rattle.djq_store_spec.specs.Relations.{RefusedByTexts, MakesRelation}
 use Rattle.djq_store_spec.specs.Rows.{add_refusal, AddsAs, AddsRow, delete_refusal, DeletesAs, DeletesRow}
 use Rattle.djq_store_spec.specs.Registering.{query_refusal, RegistersAs, RefusedLate, RegistersQuery, DropsQuery}
 use Rattle.djq_store_spec.specs.Union.{RegistersUnion}
-use Rattle.djq_store_spec.specs.Batch.{is_there, with_held, with_all, store_behind, HavePlaces, BatchStopsAt}
-use Rattle.djq_store_spec.specs.Batch.{RefusesBatch, AddsBatch}
+use Rattle.djq_store_spec.specs.Held.{HeldLine, HeldTransaction}
+use Rattle.djq_store_spec.specs.Judging.{texts_added, texts_after, StopsAtLine}
+use Rattle.djq_store_spec.specs.Done.{RefusesDone}
+use Rattle.djq_store_spec.specs.Transaction.{DoesAll}
 use Rattle.djq_machine.specs.State.{State, Session, Cursor, with_session, cursor_of}
 use Rattle.djq_machine.specs.Keeping.{Keeping, no_line, the_line, the_batch, kept_where, kept_batch, is_done}
 use Rattle.djq_machine.specs.Keeping.{is_removal, is_registration}
 use Rattle.djq_machine.specs.Effect.{Effect, RefusedStep}
-use Rattle.djq_machine.specs.Command.{AddStep, HoldStep, DoneStep, OpensTo, BecomesWhere, NextStepAt, CloseStep}
+use Rattle.djq_machine.specs.Command.{AddStep, DeleteStep, HoldStep, DoneStep, OpensTo, BecomesWhere, NextStepAt}
+use Rattle.djq_machine.specs.Command.{CloseStep}
 use Rattle.djq_machine.specs.Command.{ExplainStepOf, TellsLines, explain_lines, union_lines, without_batch, CommandStep}
 use Rattle.djq_machine.specs.LineStep.{run}
 use Rattle.djq_machine.specs.Step.{Event, stepped, Acts}
@@ -48,9 +57,10 @@ use Rattle.djq_run_laws.proofs.Forms.{done_of}
 use Rattle.djq_run_laws.proofs.Deltas.{change_store}
 use Rattle.djq_run_laws.proofs.BatchLines.{step_hold_lines, kept_lines}
 use Rattle.djq_log_laws.specs.Kept.{AreKnown, StoreFollows, KeptAreLines}
-use Rattle.djq_log_laws.proofs.Stores.{known_refl, known_trans, all_known, first_known, full_known}
+use Rattle.djq_log_laws.proofs.Stores.{known_refl, known_trans, first_known, full_known}
 use Rattle.djq_log_laws.proofs.Commands.{Respects, rel_respects, query_respects, union_respects, drop_respects}
 use Rattle.djq_log_laws.proofs.Copies.{add_respects, more_respects, delete_respects, left_respects}
+use Rattle.djq_log_laws.proofs.HeldLines.{texts_known}
 
 -- ---- What a step of a run keeps, and that it can be loaded.
 
@@ -61,12 +71,12 @@ pub record Grows (a to : Store) : Type 0 where
   pub seq : to.seq ≡ a.seq
   pub among : AreKnown a.texts to.texts
 
--- The line is kept, and can be loaded; or the session's batch is, of which each row has its place; or
+-- The line is kept, and can be loaded; or the session's batch is, of which all lines are carried out; or
 -- nothing is kept, and the store grows at most.
-pub data Keeps (a : Store) (batch : Option (List HeldRow)) (c : Command) (k : Keeping) (to : Store) : Type 0 where
+pub data Keeps (a : Store) (batch : Option HeldTransaction) (c : Command) (k : Keeping) (to : Store) : Type 0 where
   is_kept : k ≡ the_line → ((b : Store) → StoreFollows a b → Respects b c to) → Keeps a batch c k to
-  is_batch : (held : List HeldRow) → batch ≡ Some held → k ≡ the_batch (map (λ h. h.line) held) → HavePlaces a held
-      → to ≡ store_behind a held → Keeps a batch c k to
+  is_batch : (held : HeldTransaction) → batch ≡ Some held → k ≡ the_batch held.logged → (given : Option ℕ) (n : ℕ)
+      → DoesAll a held.lines given (Ok n) to → Keeps a batch c k to
   is_left : k ≡ no_line → Grows a to → Keeps a batch c k to
 
 pub grows_same : (a to : Store) → to ≡ a → Grows a to
@@ -93,7 +103,7 @@ grows_late : {A : Type 0} (a to : Store) (o : Option Refusal) (r : Refusal) (D :
 grows_late a to None r D L h stays late = late h
 grows_late a to (Some s) r D L h stays late = grows_same a to (stays refl)
 
-module _ (a : Store) (batch : Option (List HeldRow)) (k : Keeping) (to : Store) where
+module _ (a : Store) (batch : Option HeldTransaction) (k : Keeping) (to : Store) where
   rel_keeps : (name : Bytes) (types : List ColumnType) (r : Result ⊤ Refusal) → MakesRelation a name types r to
       → k ≡ kept_where (is_done r) → Keeps a batch (Rel name types) k to
   rel_keeps name types (Ok u) m e = is_kept e (λ b f. rel_respects a b f name types u to m)
@@ -146,35 +156,34 @@ module _ (a : Store) (batch : Option (List HeldRow)) (k : Keeping) (to : Store) 
   drop_keeps used q (Err r) m e = is_left e (grows_same a to m.stays)
 
 -- a batch that is refused, of which texts became known
-held_known : (st : Store) (h : HeldRow) → AreKnown st.texts (with_held st h).texts
-held_known st h = by (is_there st h) refl
-  where
-    by : (c : Bool) → is_there st h ≡ c → AreKnown st.texts (with_held st h).texts
-    by true e = rw e (known_refl st.texts)
-    by false e = rw e (all_known st.texts (texts_in h.row))
+stopped_known : (a : Store) (front : List HeldLine) (texts : List Bytes) (h : HeldLine) (known : List Bytes)
+    (r : LineRefusal) → StopsAtLine a.relations front texts h known r → AreKnown texts known
+stopped_known a front texts h known LimitReached (inl s) =
+    subst (λ (k : List Bytes). AreKnown texts k) (sym s.1) (known_refl texts)
+stopped_known a front texts h known LimitReached (inr s) = full_known texts (texts_added h) known s.1
+stopped_known a front texts h known NoCopy s =
+    subst (λ (k : List Bytes). AreKnown texts k) (sym s.1) (known_refl texts)
+stopped_known a front texts h known NoneForLine s = first_known texts (texts_added h) known s.2
 
-all_held_known : (st : Store) (held : List HeldRow) → AreKnown st.texts (with_all st held).texts
-all_held_known st [] = known_refl st.texts
-all_held_known st (h ∷ hs) =
-    known_trans st.texts (with_held st h).texts (with_all (with_held st h) hs).texts (held_known st h)
-    (all_held_known (with_held st h) hs)
+refused_known : (a : Store) (lines : List HeldLine) (known : List Bytes) (r : DoneRefusal)
+    → RefusesDone a.relations a.texts lines known r → AreKnown a.texts known
+refused_known a lines known OtherNumber h =
+    subst (λ (k : List Bytes). AreKnown a.texts k) (sym h) (known_refl a.texts)
+refused_known a lines known (Line r) h =
+    known_trans a.texts (texts_after a.texts h.front) known (texts_known a.texts h.front)
+    (stopped_known a h.front (texts_after a.texts h.front) h.at known r.refusal h.stops)
+refused_known a lines known LastChange h =
+    subst (λ (k : List Bytes). AreKnown a.texts k) (sym h) (texts_known a.texts lines)
+refused_known a lines known NoneLeft h =
+    subst (λ (k : List Bytes). AreKnown a.texts k) (sym h) (texts_known a.texts lines)
 
-stopped_known : (st : Store) (h : HeldRow) (known : List Bytes) (r : Refusal) → BatchStopsAt st h known r
-    → AreKnown st.texts known
-stopped_known st h known Limit (inl s) = subst (λ (k : List Bytes). AreKnown st.texts k) (sym s.1) (known_refl st.texts)
-stopped_known st h known Limit (inr s) = full_known st.texts (texts_in h.row) known s.2
-stopped_known st h known NoMemory s = first_known st.texts (texts_in h.row) known s.1
-stopped_known st h known _ s = absurd s
-
-grows_batch : (a to : Store) (held : List HeldRow) (r : Refusal) → RefusesBatch a held to r → Grows a to
-grows_batch a to held r h =
-    grows_texts a to h.stays
-    (known_trans a.texts (with_all a h.front).texts to.texts (all_held_known a h.front)
-    (stopped_known (with_all a h.front) h.at to.texts r h.stops))
+grows_batch : (a to : Store) (lines : List HeldLine) (given : Option ℕ) (r : DoneRefusal)
+    → DoesAll a lines given (Err r) to → Grows a to
+grows_batch a to lines given r h = grows_texts a to h.does.1 (refused_known a lines to.texts r h.does.0)
 
 -- ---- the commands
 
-module _ (old : State) (s : ℕ) (batch : Option (List HeldRow)) (c : Command) (e : Effect) (new : State) where
+module _ (old : State) (s : ℕ) (batch : Option HeldTransaction) (c : Command) (e : Effect) (new : State) where
   abbrev IsKept : Type 0
   IsKept = Keeps old.store batch c e.kept new.store
 
@@ -227,27 +236,32 @@ module _ (old : State) (s : ℕ) (batch : Option (List HeldRow)) (c : Command) (
   explain_found (Some (a_query q)) h = lines_quiet (explain_lines q h.tree) h.tells
   explain_found (Some (a_union name qs)) h = lines_quiet (union_lines qs) h
 
-  done_found : (o : Option (List HeldRow)) → batch ≡ o → MatchOption o ⊥ (λ held. DoneStep old s held e new) → IsKept
-  done_found None is h = absurd h
-  done_found (Some held) is h = by h.result h.done h.kept
+  done_found : (given : Option ℕ) (o : Option HeldTransaction) → batch ≡ o
+      → MatchOption o ⊥ (λ held. DoneStep old s held given e new) → IsKept
+  done_found given None is h = absurd h
+  done_found given (Some held) is h = by h.result h.done h.kept
     where
       same : new.store ≡ h.store
       same = change_store (with_session old s without_batch) s _ h.store _ e new h.change
 
-      by : (r : Result ℕ Refusal) → AddsBatch old.store held r h.store → e.kept ≡ kept_batch held r → IsKept
-      by (Ok n) m k = is_batch held is k m.0 (same ∙ m.2)
+      by : (r : Result ℕ DoneRefusal) → DoesAll old.store held.lines given r h.store → e.kept ≡ kept_batch held r
+          → IsKept
+      by (Ok n) m k =
+          is_batch held is k given n
+          (subst (λ (st : Store). DoesAll old.store held.lines given (Ok n) st) (sym same) m)
       by (Err r) m k =
-          is_left k (subst (λ (st : Store). Grows old.store st) (sym same) (grows_batch old.store h.store held r m))
+          is_left k
+          (subst (λ (st : Store). Grows old.store st) (sym same) (grows_batch old.store h.store held.lines given r m))
 
 -- the store behind a command
-store_is : (old : State) (batch : Option (List HeldRow)) (c : Command) (k : Keeping) (store : Store) (new : State)
+store_is : (old : State) (batch : Option HeldTransaction) (c : Command) (k : Keeping) (store : Store) (new : State)
     → new.store ≡ store
     → Keeps old.store batch c k store → Keeps old.store batch c k new.store
 store_is old batch c k store new e h = subst (λ (st : Store). Keeps old.store batch c k st) (sym e) h
 
 module _ (old : State) (s : ℕ) (x : Session) (l : Bytes) where
-  add_found : (name : Bytes) (row : Tuple) (e : Effect) (new : State) (o : Option (List HeldRow))
-      → MatchOption o (AddStep old s name row e new) (λ held. HoldStep old s held l name row e new)
+  add_found : (name : Bytes) (row : Tuple) (e : Effect) (new : State) (o : Option HeldTransaction)
+      → MatchOption o (AddStep old s name row e new) (λ held. HoldStep old s held l Adds name row e new)
       → Keeps old.store x.batch (Add name row) e.kept new.store
   add_found name row e new None h =
       store_is old x.batch (Add name row) e.kept h.store new (change_store old s _ h.store _ e new h.change)
@@ -255,15 +269,22 @@ module _ (old : State) (s : ℕ) (x : Session) (l : Bytes) where
   add_found name row e new (Some held) h =
       becomes_quiet old s x.batch (Add name row) e new _ h.result (ap (λ (f : Effect). f.kept) h.effect) h.state
 
+  delete_found : (name : Bytes) (row : Tuple) (e : Effect) (new : State) (o : Option HeldTransaction)
+      → MatchOption o (DeleteStep old s name row e new) (λ held. HoldStep old s held l Deletes name row e new)
+      → Keeps old.store x.batch (Del name row) e.kept new.store
+  delete_found name row e new None h =
+      store_is old x.batch (Del name row) e.kept h.store new (change_store old s _ h.store _ e new h.change)
+      (delete_keeps old.store x.batch e.kept h.store name row h.result h.done h.kept)
+  delete_found name row e new (Some held) h =
+      becomes_quiet old s x.batch (Del name row) e new _ h.result (ap (λ (f : Effect). f.kept) h.effect) h.state
+
   pub command_keeps : (c : Command) (e : Effect) (new : State) → CommandStep old s x l c e new
       → Keeps old.store x.batch c e.kept new.store
   command_keeps (Rel name types) e new h =
       store_is old x.batch (Rel name types) e.kept h.store new (ap (λ (st : State). st.store) h.state)
       (rel_keeps old.store x.batch e.kept h.store name types h.result h.done (ap (λ (f : Effect). f.kept) h.effect))
   command_keeps (Add name row) e new h = add_found name row e new x.batch h
-  command_keeps (Del name row) e new h =
-      store_is old x.batch (Del name row) e.kept h.store new (change_store old s _ h.store _ e new h.change)
-      (delete_keeps old.store x.batch e.kept h.store name row h.result h.done h.kept)
+  command_keeps (Del name row) e new h = delete_found name row e new x.batch h
   command_keeps (Register q) e new (inl h) =
       store_is old x.batch (Register q) e.kept h.store new (ap (λ (st : State). st.store) h.state)
       (query_keeps old.store x.batch e.kept h.store q h.result h.done (ap (λ (f : Effect). f.kept) h.effect))
@@ -296,7 +317,7 @@ module _ (old : State) (s : ℕ) (x : Session) (l : Bytes) where
       quiet old s x.batch (Shape q) e new (ap (λ (f : Effect). f.kept) h.effect) (ap (λ (st : State). st.store) h.state)
   command_keeps Batch e new h =
       becomes_quiet old s x.batch Batch e new _ h.result (ap (λ (f : Effect). f.kept) h.effect) h.state
-  command_keeps Done e new h = done_found old s x.batch Done e new x.batch refl h
+  command_keeps (Done given) e new h = done_found old s x.batch (Done given) e new given x.batch refl h
   command_keeps Abandon e new h =
       quiet old s x.batch Abandon e new (ap (λ (f : Effect). f.kept) h.0) (ap (λ (st : State). st.store) h.1)
 
@@ -335,7 +356,7 @@ unfolding command_of tokens
 batch_reads =
     ap (λ (b : Bool). reading_in (cond b (command_in (tokens (codes "batch"))) None)) (ascii_utf8 (codes "batch") refl)
 
-pub done_reads : reading_of (codes "done") ≡ says_command Done
+pub done_reads : reading_of (codes "done") ≡ says_command (Done None)
 unfolding command_of tokens
 done_reads = ap (λ (b : Bool). reading_in (cond b (command_in (tokens (codes "done"))) None))
     (ascii_utf8 (codes "done") refl)

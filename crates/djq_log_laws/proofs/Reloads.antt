@@ -1,20 +1,23 @@
 -- The lines that a run logged can be loaded, and give what it left.
 use Rattle.std.proofs.Common.{List, [], ◌∷◌, ◌++◌, ◌+◌, ◌≡◌, ◌<◌, ◌≤◌, inl, inr, Bool, true, false, length, refl, sym}
-use Rattle.std.proofs.Common.{◌∙◌, subst, arith, append_assoc, append-nil, length-append, ℕ, ◌⊎◌, ap, ◌≢◌}
-use Rattle.std.specs.Prelude.{◌==◌, not, nat_le, None, Some, is_none, Ok, Err, map, codes, All, ⊤, Option, IfSome}
+use Rattle.std.proofs.Common.{◌∙◌, subst, arith, ap₂, append_assoc, append-nil, length-append, ℕ, ◌⊎◌, ap, ◌≢◌}
+use Rattle.std.specs.Prelude.{sum_by, nat_lt, ◌==◌, not, nat_le, None, Some, is_none, Ok, Err, codes, ⊤, Option, IfSome}
 use Rattle.std.specs.Prelude.{MatchOption, IsSome}
-use Rattle.std.proofs.lemmas.Bool.{lt-leb, false≢true}
+use Rattle.std.proofs.lemmas.Bool.{and_from, lt-ltb, le-leb, false≢true}
+use Rattle.std.proofs.lemmas.List.Sums.{sum_by-cons, sum_by_push}
+use Rattle.djq_protocol.specs.Reply.{done_word}
 use Rattle.std.proofs.lemmas.List.Elements.{All-head, All-tail, All-nil}
 use Rattle.djq_model.specs.declared.relation.Relation.{Relation}
 use Rattle.djq_model.specs.Data.{Bytes, Tuple, relation_of}
 use Rattle.djq_model.specs.Typed.{fits}
-use Rattle.djq_protocol.specs.declared.limits.TheConstants.{HELD}
+use Rattle.djq_protocol.specs.declared.limits.TheConstants.{HELD, HELD_BYTES}
 use Rattle.djq_protocol.specs.declared.answer.Refusal.TheVariants.{NoRelation, Arity, WrongType, Limit, NoMemory}
 use Rattle.djq_protocol.specs.declared.command.Command.{Command}
 use Rattle.djq_protocol.specs.declared.command.Command.TheVariants.{Add, Batch, Done, Abandon, Rel, Del}
 use Rattle.djq_protocol.specs.declared.command.Command.TheVariants.{Query as Register, Union, Drop, Open, Next, Close}
 use Rattle.djq_protocol.specs.declared.command.Command.TheVariants.{Has, Watch, Unwatch, Explain, Shape, Quit, Stop}
-use Rattle.djq_protocol.specs.declared.held.HeldRow.{HeldRow}
+use Rattle.djq_protocol.specs.declared.held.Verb.{Verb}
+use Rattle.djq_protocol.specs.declared.held.Verb.TheVariants.{Add as Adds, Delete as Deletes}
 use Rattle.djq_protocol.specs.declared.answer.EndCause.{EndCause}
 use Rattle.djq_protocol.specs.declared.answer.EndCause.TheVariants.{Input}
 use Rattle.djq_protocol.specs.declared.answer.Refusal.{Refusal}
@@ -25,20 +28,21 @@ use Rattle.djq_protocol.specs.Columns.{types_of}
 use Rattle.djq_protocol.specs.Grammar.{says_command, reading_of, Reading, outside, past_limit}
 use Rattle.djq_protocol.specs.Conditions.{first_refusal, OutOfMemoryWhere}
 use Rattle.djq_store_spec.specs.Store.{Store}
-use Rattle.djq_store_spec.specs.Batch.{suit_refusal, hold_refusal, SuitAll, with_all, count_came, store_behind}
-use Rattle.djq_store_spec.specs.Batch.{HavePlaces}
+use Rattle.djq_store_spec.specs.Held.{HeldLine, HeldTransaction, nothing_held, holding, has_room}
+use Rattle.djq_store_spec.specs.Done.{rows_changed, is_other}
+use Rattle.djq_store_spec.specs.Transaction.{suit_refusal, hold_refusal, SuitAll, store_after, DoesAll}
 use Rattle.djq_machine.specs.declared.machine.Loaded.{Loaded}
 use Rattle.djq_machine.specs.declared.machine.Loaded.TheVariants.{Ran as ran}
 use Rattle.djq_machine.specs.Run.{Group, Did, Run, groups_in, kept_group, groups_of, lines_in}
 use Rattle.djq_machine.specs.Loading.{Loading, loading, CommandLoads, refused_by, StoreLoads, ReadingLoads, LoadStep}
-use Rattle.djq_machine.specs.Loading.{Loads}
+use Rattle.djq_machine.specs.Loading.{Loads, HoldsOrRefuses}
 use Rattle.djq_machine.specs.State.{State, Session, fresh, session_of, with_session, ended_by, opening}
 use Rattle.djq_machine.specs.Effect.{Effect, nothing, RefusedStep}
 use Rattle.djq_machine.specs.LineStep.{LineOutcome, long, blank, slow, no_room, run, behind_line, FrontStep}
 use Rattle.djq_machine.specs.Step.{Event, opened, fed, stepped, took, ended, closed, FedStep, TookStep, EndedStep, Acts}
 use Rattle.djq_machine.specs.Step.{Step, SameRelations, with_relations}
 use Rattle.djq_machine.specs.Keeping.{Keeping, no_line, the_line, the_batch}
-use Rattle.djq_run_laws.specs.Sound.{AreApart, IsSoundBatch, IsHeldBySaying, IsSoundSession, IsSoundState}
+use Rattle.djq_run_laws.specs.Sound.{IsSoundBatch, AreHeldBySaying, IsSoundSession, IsSoundState, verb_command}
 use Rattle.djq_run_laws.proofs.Lists.{some_there, all_found, nothing_apart}
 use Rattle.djq_run_laws.proofs.Forms.{Reads, turned_down, carried_out, line_reads, none_holds}
 use Rattle.djq_run_laws.proofs.Deltas.{queued_store}
@@ -48,11 +52,11 @@ use Rattle.djq_log_laws.specs.Kept.{StoreFollows, LoadingFollows, LoadsOn, Loads
 use Rattle.djq_log_laws.specs.Kept.{AbandonRuns, AbandonedAreLoaded, RunsReload, StoodAt, StopsReload}
 use Rattle.djq_log_laws.proofs.Stores.{hold_same, known_trans}
 use Rattle.djq_log_laws.proofs.Commands.{Respects, give, late_of, only_memory, rel_respects, query_respects}
-use Rattle.djq_log_laws.proofs.Commands.{union_respects, drop_respects, holding, follows_closed, follows_holding}
+use Rattle.djq_log_laws.proofs.Commands.{union_respects, drop_respects, open_loading, follows_closed, follows_open}
 use Rattle.djq_log_laws.proofs.Commands.{of_batch, EndsFollowing, CommandRespects, closed_respects, line_respects}
 use Rattle.djq_log_laws.proofs.Commands.{one_line, follows_left, no_lines, LineRespects, line_moved}
-use Rattle.djq_log_laws.proofs.Copies.{all_follow, places_too, behind_follows, refused_never, add_respects}
-use Rattle.djq_log_laws.proofs.Copies.{more_respects, delete_respects, left_respects}
+use Rattle.djq_log_laws.proofs.Copies.{add_respects, more_respects, delete_respects, left_respects}
+use Rattle.djq_log_laws.proofs.HeldLines.{names_as_many, done_too, done_follows, done_never}
 use Rattle.djq_log_laws.proofs.LoggedLines.{batch_reads, done_reads, abandon_reads, Grows, Keeps, is_kept, is_batch}
 use Rattle.djq_log_laws.proofs.LoggedLines.{is_left, grows_same, command_keeps}
 
@@ -61,73 +65,98 @@ use Rattle.djq_log_laws.proofs.LoggedLines.{is_left, grows_same, command_keeps}
 -- ---- its commands
 
 module _ (a b : Store) (f : StoreFollows a b) (l : Bytes) where
-  pub batch_respects : CommandRespects (loading b) l Batch (holding a [])
-  batch_respects = record { can = (holding b [], inl (refl, refl), follows_holding a b [] f); each = each }
+  pub batch_respects : CommandRespects (loading b) l Batch (open_loading a nothing_held)
+  batch_respects = record {
+    can = (open_loading b nothing_held, inl (refl, refl), follows_open a b nothing_held f);
+    each = each;
+  }
     where
-      each : (how : Loaded) (n : Loading) → CommandLoads (loading b) l Batch how n → EndsFollowing how (holding a []) n
-      each how n (inl h) =
-          inl (h.0, subst (λ (k : Loading). LoadingFollows (holding a []) k) (sym h.1) (follows_holding a b [] f))
+      each : (how : Loaded) (n : Loading) → CommandLoads (loading b) l Batch how n
+          → EndsFollowing how (open_loading a nothing_held) n
+      each how n (inl h) = inl (
+        h.0,
+        subst (λ (k : Loading). LoadingFollows (open_loading a nothing_held) k) (sym h.1)
+            (follows_open a b nothing_held f),
+      )
       each how n (inr h) = inr h.0
 
-  module _ (held : List HeldRow) where
-    -- the rows with one more
-    abbrev with_one : Bytes → Tuple → List HeldRow
-    with_one name row = held ++ record { line = l; relation = name; row = row } ∷ []
+  module _ (held : HeldTransaction) where
+    -- a line that finds its place is held there too
+    module _ (verb : Verb) (name : Bytes) (row : Tuple) (free : hold_refusal a held l name row ≡ None) where
+      abbrev with_one : HeldTransaction
+      with_one = holding held verb name row l
 
-    pub hold_respects : (name : Bytes) (row : Tuple) → hold_refusal a held name row ≡ None
-        → CommandRespects (holding b held) l (Add name row) (holding a (with_one name row))
-    hold_respects name row free = record {
+      free_too : hold_refusal b held l name row ≡ None
+      free_too = hold_same a b name row f held l ∙ free
+
+      holds_too : HoldsOrRefuses (open_loading b held) held l verb name row ran (open_loading b with_one)
+      holds_too =
+          (Ok tt, give (hold_refusal b held l name row) tt (λ _. ⊤) (OutOfMemoryWhere ⊤) free_too tt, refl, refl)
+
+      holds_well : (how : Loaded) (n : Loading) → HoldsOrRefuses (open_loading b held) held l verb name row how n
+          → EndsFollowing how (open_loading a with_one) n
+      holds_well how n (Ok u, k, e, same) = inl (
+        e,
+        subst (λ (k : Loading). LoadingFollows (open_loading a with_one) k) (sym same) (follows_open a b with_one f),
+      )
+      holds_well how n (Err r, k, e, same) =
+          inr (only_memory ⊤ r how
+          (late_of (hold_refusal b held l name row) r (λ _. ⊤) (OutOfMemoryWhere ⊤) free_too k) e)
+
+    pub hold_respects : (verb : Verb) (name : Bytes) (row : Tuple) → hold_refusal a held l name row ≡ None
+        → CommandRespects (open_loading b held) l (verb_command verb name row)
+        (open_loading a (holding held verb name row l))
+    hold_respects Adds name row free = record {
       can = (
-        holding b (with_one name row),
-        (Ok tt, give (hold_refusal b held name row) tt (λ _. ⊤) (OutOfMemoryWhere ⊤) free_too tt, refl, refl),
-        follows_holding a b (with_one name row) f,
+        open_loading b (holding held Adds name row l),
+        holds_too Adds name row free,
+        follows_open a b (holding held Adds name row l) f,
+      );
+      each = holds_well Adds name row free;
+    }
+    hold_respects Deletes name row free = record {
+      can = (
+        open_loading b (holding held Deletes name row l),
+        holds_too Deletes name row free,
+        follows_open a b (holding held Deletes name row l) f,
+      );
+      each = holds_well Deletes name row free;
+    }
+
+    -- what carried the lines out does so there, if it names as many, or no number
+    pub done_respects : (given : Option ℕ) (m : ℕ) (to : Store) → DoesAll a held.lines given (Ok m) to
+        → (again : Option ℕ) → is_other again (length held.lines) ≡ false
+        → CommandRespects (open_loading b held) l (Done again) (loading to)
+    done_respects given m to does again as_many = record {
+      can = (
+        loading (store_after b held.lines),
+        (Ok (rows_changed b.relations held.lines), too, refl, refl),
+        follows_closed to (store_after b held.lines)
+            (done_follows a b f held.lines given m to does again as_many (rows_changed b.relations held.lines)
+            (store_after b held.lines) too),
       );
       each = each;
     }
       where
-        free_too : hold_refusal b held name row ≡ None
-        free_too = hold_same a b name row f held ∙ free
+        too : DoesAll b held.lines again (Ok (rows_changed b.relations held.lines)) (store_after b held.lines)
+        too = done_too a b f held.lines given m to does again as_many
 
-        each : (how : Loaded) (n : Loading) → CommandLoads (holding b held) l (Add name row) how n
-            → EndsFollowing how (holding a (with_one name row)) n
-        each how n (Ok u, k, e, same) = inl (
-          e,
-          subst (λ (k : Loading). LoadingFollows (holding a (with_one name row)) k) (sym same)
-              (follows_holding a b (with_one name row) f),
-        )
-        each how n (Err r, k, e, same) =
-            inr (only_memory ⊤ r how
-            (late_of (hold_refusal b held name row) r (λ _. ⊤) (OutOfMemoryWhere ⊤) free_too k) e)
-
-    pub done_respects : HavePlaces a held → CommandRespects (holding b held) l Done (loading (store_behind a held))
-    done_respects places = record {
-      can = (
-        loading (store_behind b held),
-        (Ok (count_came b held), (places_too a b f held places, refl, refl), refl, refl),
-        follows_closed (store_behind a held) (store_behind b held) (behind_follows a b f held),
-      );
-      each = each;
-    }
-      where
-        once : (front : List HeldRow) → AreApart (with_all b front).texts
-        once front = (all_follow a b f front).once
-
-        each : (how : Loaded) (n : Loading) → CommandLoads (holding b held) l Done how n
-            → EndsFollowing how (loading (store_behind a held)) n
-        each how n (Ok m, k, e, is_closed) = inl (
+        each : (how : Loaded) (n : Loading) → CommandLoads (open_loading b held) l (Done again) how n
+            → EndsFollowing how (loading to) n
+        each how n (Ok k, d, e, is_closed) = inl (
           e,
           record {
-            store = subst (λ (st : Store). StoreFollows (store_behind a held) st) (sym k.2) (behind_follows a b f held);
+            store = done_follows a b f held.lines given m to does again as_many k n.store d;
             batch = is_closed;
           },
         )
-        each how n (Err r, k, e, is_closed) =
-            inr (refused_never b held n.store r how once (places_too a b f held places) k e)
+        each how n (Err r, d, e, is_closed) =
+            inr (done_never a b f held.lines given m to does again as_many r how d.answer e)
 
-    pub abandon_respects : CommandRespects (holding b held) l Abandon (loading a)
+    pub abandon_respects : CommandRespects (open_loading b held) l Abandon (loading a)
     abandon_respects = record { can = (loading b, (refl, refl), follows_closed a b f); each = each }
       where
-        each : (how : Loaded) (n : Loading) → CommandLoads (holding b held) l Abandon how n
+        each : (how : Loaded) (n : Loading) → CommandLoads (open_loading b held) l Abandon how n
             → EndsFollowing how (loading a) n
         each how n h = inl (h.0, subst (λ (k : Loading). LoadingFollows (loading a) k) (sym h.1) (follows_closed a b f))
 
@@ -140,15 +169,14 @@ GroupRespects a group to = (b : Store) → StoreFollows a b → (rest : List Byt
     → ((n : Store) → StoreFollows to n → LoadsOn (loading n) rest last) → LoadsOn (loading b) (group ++ rest) last
 
 -- the lines of a batch that is done
-abbrev pub batch_lines : List HeldRow → Group
-batch_lines held = codes "batch" ∷ map (λ (h : HeldRow). h.line) held ++ codes "done" ∷ []
+abbrev pub batch_lines : HeldTransaction → Group
+batch_lines held = codes "batch" ∷ held.logged ++ codes "done" ∷ []
 
 -- what suits a relation is held, where there is room
-suits_free : (a : Store) (held : List HeldRow) (name : Bytes) (row : Tuple) → suit_refusal a name row ≡ None
-    → length held < HELD
-    → hold_refusal a held name row ≡ None
-suits_free a held name row suits few =
-    by (nat_le HELD (length held)) (lt-leb HELD (length held) few) (is_none (relation_of a.relations name))
+suits_free : (a : Store) (held : HeldTransaction) (l name : Bytes) (row : Tuple) → suit_refusal a name row ≡ None
+    → has_room held (length l) ≡ true → hold_refusal a held l name row ≡ None
+suits_free a held l name row suits room =
+    by (not (has_room held (length l))) (ap not room) (is_none (relation_of a.relations name))
     (not (length row == length (types_of (relation_of a.relations name))))
     (not (fits (types_of (relation_of a.relations name)) row)) suits
   where
@@ -162,10 +190,10 @@ suits_free a held name row suits few =
     by false e false false false h = refl
 
 -- what follows a loading whose batch is open, by its store
-from_holding : (a : Store) (held : List HeldRow) (lines : List Bytes) (last : Loading)
-    → ((n : Store) → StoreFollows a n → LoadsOn (holding n held) lines last)
-    → (n : Loading) → LoadingFollows (holding a held) n → LoadsOn n lines last
-from_holding a held lines last more n f =
+from_open : (a : Store) (held : HeldTransaction) (lines : List Bytes) (last : Loading)
+    → ((n : Store) → StoreFollows a n → LoadsOn (open_loading n held) lines last)
+    → (n : Loading) → LoadingFollows (open_loading a held) n → LoadsOn n lines last
+from_open a held lines last more n f =
     of_batch (λ (k : Loading). LoadsOn k lines last) n (Some held) f.batch (more n.store f.store)
 
 pub from_closed : (a : Store) (lines : List Bytes) (last : Loading)
@@ -174,48 +202,78 @@ pub from_closed : (a : Store) (lines : List Bytes) (last : Loading)
 from_closed a lines last more n f =
     of_batch (λ (k : Loading). LoadsOn k lines last) n None f.batch (more n.store f.store)
 
+-- the bytes of lines
+abbrev bytes_in : List Bytes → ℕ
+bytes_in ls = sum_by (λ (l : Bytes). length l) ls
+
+-- the lines that a batch holds, and others after them
+abbrev held_on : HeldTransaction → List Bytes → List HeldLine → HeldTransaction
+held_on front ls hs = record { lines = front.lines ++ hs; logged = front.logged ++ ls }
+
+held_whole : (front : HeldTransaction) → held_on front [] [] ≡ front
+held_whole front =
+    ap₂ (λ (hs : List HeldLine) (ls : List Bytes). record { lines = hs; logged = ls }) (append-nil front.lines)
+    (append-nil front.logged)
+
+held_later : (front : HeldTransaction) (l : Bytes) (ls : List Bytes) (h : HeldLine) (hs : List HeldLine)
+    → held_on (holding front h.verb h.relation h.row l) ls hs ≡ held_on front (l ∷ ls) (h ∷ hs)
+held_later front l ls h hs =
+    ap₂ (λ (gs : List HeldLine) (ks : List Bytes). record { lines = gs; logged = ks })
+    (append_assoc front.lines (h ∷ []) hs) (append_assoc front.logged (l ∷ []) ls)
+
+room_for : (front : HeldTransaction) (l : Bytes) → length front.lines < HELD
+    → bytes_in front.logged + length l ≤ HELD_BYTES → has_room front (length l) ≡ true
+room_for front l few short =
+    and_from (nat_lt (length front.lines) HELD) (nat_le (bytes_in front.logged + length l) HELD_BYTES)
+    (lt-ltb (length front.lines) HELD few) (le-leb (bytes_in front.logged + length l) HELD_BYTES short)
+
 module _ (a : Store) where
   -- The lines of rows that are held load behind those before them.
-  rows_load : (front rest : List HeldRow) → length front + length rest ≤ HELD → SuitAll a rest → All IsHeldBySaying rest
-      → (lines : List Bytes) (last : Loading)
-      → ((n : Store) → StoreFollows a n → LoadsOn (holding n (front ++ rest)) lines last)
-      → (b : Store) → StoreFollows a b → LoadsOn (holding b front) (map (λ (h : HeldRow). h.line) rest ++ lines) last
-  rows_load front [] few suit said lines last more b f =
-      subst (λ (held : List HeldRow). LoadsOn (holding b held) lines last) (append-nil front) (more b f)
-  rows_load front (h ∷ rest) few suit said lines last more b f =
-      let says = All-head IsHeldBySaying h rest said in
-      let free = suits_free a front h.relation h.row
-      (All-head (λ (g : HeldRow). suit_refusal a g.relation g.row ≡ None) h rest suit) (omega (arith, few)) in
-      let one = length-append front (h ∷ []) in
-      one_line (holding b front) h.line (map (λ (g : HeldRow). g.line) rest ++ lines) (holding a (front ++ h ∷ [])) last
-      (line_respects (holding b front) h.line (Add h.relation h.row) (holding a (front ++ h ∷ [])) says.said
-      (hold_respects a b f h.line front h.relation h.row free))
-      (from_holding a (front ++ h ∷ []) (map (λ (g : HeldRow). g.line) rest ++ lines) last
-      (rows_load (front ++ h ∷ []) rest (omega (arith, few, one))
-      (All-tail (λ (g : HeldRow). suit_refusal a g.relation g.row ≡ None) h rest suit)
-      (All-tail IsHeldBySaying h rest said) lines last
-      (subst (λ (held : List HeldRow). (n : Store) → StoreFollows a n → LoadsOn (holding n held) lines last)
-      (sym (append_assoc front (h ∷ []) rest)) more)))
+  rows_load : (front : HeldTransaction) (ls : List Bytes) (hs : List HeldLine)
+      → length front.lines + length hs ≤ HELD → bytes_in front.logged + bytes_in ls ≤ HELD_BYTES → SuitAll a hs
+      → AreHeldBySaying ls hs → (lines : List Bytes) (last : Loading)
+      → ((n : Store) → StoreFollows a n → LoadsOn (open_loading n (held_on front ls hs)) lines last)
+      → (b : Store) → StoreFollows a b → LoadsOn (open_loading b front) (ls ++ lines) last
+  rows_load front [] [] few short suit said lines last more b f =
+      subst (λ (held : HeldTransaction). LoadsOn (open_loading b held) lines last) (held_whole front) (more b f)
+  rows_load front (l ∷ ls) (h ∷ hs) few short suit said lines last more b f =
+      let held = holding front h.verb h.relation h.row l in
+      let whole = sum_by-cons (λ (k : Bytes). length k) l ls in
+      let free = suits_free a front l h.relation h.row
+      (All-head (λ (g : HeldLine). suit_refusal a g.relation g.row ≡ None) h hs suit)
+      (room_for front l (omega (arith, few)) (omega (arith, short, whole))) in
+      let one = length-append front.lines (h ∷ []) in
+      let long = sum_by_push (λ (k : Bytes). length k) front.logged l in
+      one_line (open_loading b front) l (ls ++ lines) (open_loading a held) last
+      (line_respects (open_loading b front) l (verb_command h.verb h.relation h.row) (open_loading a held) said.0.said
+      (hold_respects a b f l front h.verb h.relation h.row free))
+      (from_open a held (ls ++ lines) last
+      (rows_load held ls hs (omega (arith, few, one)) (omega (arith, short, whole, long))
+      (All-tail (λ (g : HeldLine). suit_refusal a g.relation g.row ≡ None) h hs suit) said.1 lines last
+      (subst (λ (t : HeldTransaction). (n : Store) → StoreFollows a n → LoadsOn (open_loading n t) lines last)
+      (sym (held_later front l ls h hs)) more)))
+  rows_load front [] (h ∷ hs) few short suit said lines last more b f = absurd said
+  rows_load front (l ∷ ls) [] few short suit said lines last more b f = absurd said
 
   -- A batch that was done can be loaded whole.
-  pub batch_loads : (held : List HeldRow) → IsSoundBatch a held → HavePlaces a held
-      → GroupRespects a (batch_lines held) (store_behind a held)
-  batch_loads held sound places b f rest last more =
-      let lines = map (λ (h : HeldRow). h.line) held in
+  pub batch_loads : (held : HeldTransaction) → IsSoundBatch a held → (given : Option ℕ) (m : ℕ) (to : Store)
+      → DoesAll a held.lines given (Ok m) to → GroupRespects a (batch_lines held) to
+  batch_loads held sound given m to does b f rest last more =
       subst (λ (ls : List Bytes). LoadsOn (loading b) (codes "batch" ∷ ls) last)
-      (sym (append_assoc lines (codes "done" ∷ []) rest))
-      (one_line (loading b) (codes "batch") (lines ++ codes "done" ∷ rest) (holding a []) last
-      (line_respects (loading b) (codes "batch") Batch (holding a []) batch_reads
+      (sym (append_assoc held.logged (codes "done" ∷ []) rest))
+      (one_line (loading b) (codes "batch") (held.logged ++ codes "done" ∷ rest) (open_loading a nothing_held) last
+      (line_respects (loading b) (codes "batch") Batch (open_loading a nothing_held) batch_reads
       (batch_respects a b f (codes "batch")))
-      (from_holding a [] (lines ++ codes "done" ∷ rest) last
-      (rows_load [] held (omega (arith, sound.few)) sound.suit sound.lines (codes "done" ∷ rest) last ends)))
+      (from_open a nothing_held (held.logged ++ codes "done" ∷ rest) last
+      (rows_load nothing_held held.logged held.lines (omega (arith, sound.few)) (omega (arith, sound.short)) sound.suit
+      sound.lines (codes "done" ∷ rest) last ends)))
     where
-      ends : (n : Store) → StoreFollows a n → LoadsOn (holding n held) (codes "done" ∷ rest) last
+      ends : (n : Store) → StoreFollows a n → LoadsOn (open_loading n held) (codes "done" ∷ rest) last
       ends n k =
-          one_line (holding n held) (codes "done") rest (loading (store_behind a held)) last
-          (line_respects (holding n held) (codes "done") Done (loading (store_behind a held)) done_reads
-          (done_respects a n k (codes "done") held places))
-          (from_closed (store_behind a held) rest last more)
+          one_line (open_loading n held) (codes "done") rest (loading to) last
+          (line_respects (open_loading n held) (codes "done") (Done None) (loading to) done_reads
+          (done_respects a n k (codes "done") held given m to does None refl))
+          (from_closed to rest last more)
 
   -- So can a line outside a batch.
   pub line_loads : (l : Bytes) (c : Command) (to : Store) → reading_of l ≡ says_command c
@@ -266,11 +324,10 @@ module _ (old : State) (s : ℕ) (l rest : Bytes) (y : Session) (sound : IfSome 
   carried_keeps : (c : Command) → reading_of l ≡ says_command c → Keeps old.store y.batch c e.kept mid.store
       → ActKeeps old (stepped s (run l)) e mid
   carried_keeps c is (is_kept k f) = act_group (l ∷ []) (ap (groups_in l) k) (line_loads old.store l c mid.store is f)
-  carried_keeps c is (is_batch held batch k places to) =
+  carried_keeps c is (is_batch held batch k given m does) =
       act_group (batch_lines held) (ap (groups_in l) k)
-      (subst (λ (st : Store). GroupRespects old.store (batch_lines held) st) (sym to)
       (batch_loads old.store held
-      (subst (λ (o : Option (List HeldRow)). IfSome o (IsSoundBatch old.store)) batch sound) places))
+      (subst (λ (o : Option HeldTransaction). IfSome o (IsSoundBatch old.store)) batch sound) given m mid.store does)
   carried_keeps c is (is_left k g) = act_none (ap (groups_in l) k) g
 
   read_keeps : Reads read_from s y l (reading_of l) e mid → ActKeeps old (stepped s (run l)) e mid
@@ -400,7 +457,7 @@ command_loaded a to (Unwatch q) h b f = let e = h.0 in absurd (cc (e))
 command_loaded a to (Explain q) h b f = let e = h.0 in absurd (cc (e))
 command_loaded a to (Shape q) h b f = let e = h.0 in absurd (cc (e))
 command_loaded a to Batch h b f = let e = h.0 in absurd (cc (e))
-command_loaded a to Done h b f = let e = h.0 in absurd (cc (e))
+command_loaded a to (Done given) h b f = let e = h.0 in absurd (cc (e))
 command_loaded a to Abandon h b f = let e = h.0 in absurd (cc (e))
 command_loaded a to Quit h b f = let e = h.0 in absurd (cc (e))
 command_loaded a to Stop h b f = let e = h.0 in absurd (cc (e))
@@ -416,20 +473,28 @@ closed_loaded a l c to h b f =
     (closed_respects b to.store l c (command_loaded a to.store c h.0 b f))
 
 -- So can one that was loaded where a batch was open.
-open_loaded : (a : Store) (held : List HeldRow) (l : Bytes) (c : Command) (to : Loading)
-    → CommandLoads (holding a held) l c ran to → (b : Store)
-    → StoreFollows a b → CommandRespects (holding b held) l c to
-open_loaded a held l (Add name row) to (Ok u, k, e, same) b f =
-    subst (λ (n : Loading). CommandRespects (holding b held) l (Add name row) n) (sym same)
-    (hold_respects a b f l held name row (none_holds (hold_refusal a held name row) u (λ _. ⊤) (OutOfMemoryWhere ⊤) k))
-open_loaded a held l (Add name row) to (Err r, k, e, same) b f = absurd (not_ran r e)
-open_loaded a held l Done to (Ok n, k, e, is_closed) b f =
-    of_batch (λ (m : Loading). CommandRespects (holding b held) l Done m) to None is_closed
-    (subst (λ (st : Store). CommandRespects (holding b held) l Done (loading st)) (sym k.2)
-    (done_respects a b f l held k.0))
-open_loaded a held l Done to (Err r, k, e, is_closed) b f = absurd (not_ran r e)
+held_loaded : (a : Store) (held : HeldTransaction) (l : Bytes) (verb : Verb) (name : Bytes) (row : Tuple) (to : Loading)
+    → HoldsOrRefuses (open_loading a held) held l verb name row ran to → (b : Store) → StoreFollows a b
+    → CommandRespects (open_loading b held) l (verb_command verb name row) to
+held_loaded a held l verb name row to (Ok u, k, e, same) b f =
+    subst (λ (n : Loading). CommandRespects (open_loading b held) l (verb_command verb name row) n) (sym same)
+    (hold_respects a b f l held verb name row
+    (none_holds (hold_refusal a held l name row) u (λ _. ⊤) (OutOfMemoryWhere ⊤) k))
+held_loaded a held l verb name row to (Err r, k, e, same) b f = absurd (not_ran r e)
+
+open_loaded : (a : Store) (held : HeldTransaction) (l : Bytes) (c : Command) (to : Loading)
+    → CommandLoads (open_loading a held) l c ran to → (b : Store)
+    → StoreFollows a b → CommandRespects (open_loading b held) l c to
+open_loaded a held l (Add name row) to h b f = held_loaded a held l Adds name row to h b f
+open_loaded a held l (Del name row) to h b f = held_loaded a held l Deletes name row to h b f
+open_loaded a held l (Done given) to (Ok m, d, e, is_closed) b f =
+    of_batch (λ (k : Loading). CommandRespects (open_loading b held) l (Done given) k) to None is_closed
+    (done_respects a b f l held given m to.store d given
+    (names_as_many (is_other given (length held.lines)) _ d.answer))
+open_loaded a held l (Done given) to (Err r, d, e, is_closed) b f = absurd (not_ran (done_word r) e)
 open_loaded a held l Abandon to h b f =
-    subst (λ (k : Loading). CommandRespects (holding b held) l Abandon k) (sym h.1) (abandon_respects a b f l held)
+    subst (λ (k : Loading). CommandRespects (open_loading b held) l Abandon k) (sym h.1)
+    (abandon_respects a b f l held)
 open_loaded a held l c to h b f = let e = h.0 in absurd (cc (e))
 
 loaded_again : (a : Loading) (l : Bytes) (c : Command) (to : Loading) → CommandLoads a l c ran to → (b : Loading)
@@ -437,10 +502,10 @@ loaded_again : (a : Loading) (l : Bytes) (c : Command) (to : Loading) → Comman
     → CommandRespects b l c to
 loaded_again a l c to h b f = by a.batch refl
   where
-    at : (o : Option (List HeldRow)) → a.batch ≡ o → CommandLoads (record { store = a.store; batch = o }) l c ran to
-    at o e = subst (λ (k : Option (List HeldRow)). CommandLoads (record { store = a.store; batch = k }) l c ran to) e h
+    at : (o : Option HeldTransaction) → a.batch ≡ o → CommandLoads (record { store = a.store; batch = o }) l c ran to
+    at o e = subst (λ (k : Option HeldTransaction). CommandLoads (record { store = a.store; batch = k }) l c ran to) e h
 
-    by : (o : Option (List HeldRow)) → a.batch ≡ o → CommandRespects b l c to
+    by : (o : Option HeldTransaction) → a.batch ≡ o → CommandRespects b l c to
     by None e =
         of_batch (λ (k : Loading). CommandRespects k l c to) b None (f.batch ∙ e)
         (closed_loaded a.store l c to (at None e) b.store f.store)
@@ -493,11 +558,12 @@ runs_reload found old loads done new w sound =
 -- ---- a batch that is left open
 
 -- whatever the line `abandon` comes to where one is open
-abandon_ends : (left : Loading) (held : List HeldRow) → left.batch ≡ Some held → (b : Loading) → LoadingFollows left b
+abandon_ends : (left : Loading) (held : HeldTransaction) → left.batch ≡ Some held → (b : Loading)
+    → LoadingFollows left b
     → LineRespects b (codes "abandon") (loading left.store)
 abandon_ends left held e b f =
     of_batch (λ (k : Loading). LineRespects k (codes "abandon") (loading left.store)) b (Some held) (f.batch ∙ e)
-    (line_respects (holding b.store held) (codes "abandon") Abandon (loading left.store) abandon_reads
+    (line_respects (open_loading b.store held) (codes "abandon") Abandon (loading left.store) abandon_reads
     (abandon_respects left.store b.store f.store (codes "abandon") held))
 
 pub abandon_runs : AbandonRuns
@@ -505,15 +571,15 @@ abandon_runs old how new step is_open =
     by old.batch refl is_open
     (subst (λ (r : Reading). ReadingLoads old (codes "abandon") r how step.mid) abandon_reads step.loads)
   where
-    ends : (held : List HeldRow) → old.batch ≡ Some held → CommandLoads old (codes "abandon") Abandon how step.mid
+    ends : (held : HeldTransaction) → old.batch ≡ Some held → CommandLoads old (codes "abandon") Abandon how step.mid
         → (how ≡ ran) × (new.batch ≡ None)
     ends held e h =
         let k = subst
-        (λ (o : Option (List HeldRow)). CommandLoads (record { store = old.store; batch = o })
+        (λ (o : Option HeldTransaction). CommandLoads (record { store = old.store; batch = o })
         (codes "abandon") Abandon how step.mid) e h in
         (k.0, ap (λ (n : Loading). n.batch) step.after ∙ ap (λ (n : Loading). n.batch) k.1)
 
-    by : (o : Option (List HeldRow)) → old.batch ≡ o → IsSome o
+    by : (o : Option HeldTransaction) → old.batch ≡ o → IsSome o
         → ReadingLoads old (codes "abandon") (says_command Abandon) how step.mid
         → (how ≡ ran) × (new.batch ≡ None)
     by None e some h = absurd (false≢true some)
@@ -523,7 +589,7 @@ abandon_runs old how new step is_open =
 pub abandoned_are_loaded : AbandonedAreLoaded
 abandoned_are_loaded found left loads is_open = by left.batch refl is_open
   where
-    by : (o : Option (List HeldRow)) → left.batch ≡ o → IsSome o
+    by : (o : Option HeldTransaction) → left.batch ≡ o → IsSome o
         → LoadsTo opening.store (found ++ codes "abandon" ∷ []) left.store
     by None e h = absurd (false≢true h)
     by (Some held) e h =

@@ -27,12 +27,11 @@ use Rattle.djq_model.specs.Listed.{Listed, a_query, a_union, listed_of}
 use Rattle.djq_model.specs.Typed.{fits}
 use Rattle.djq_model.proofs.Copies.{tuples_moved, has_moved, differ_moved, copies_moved}
 use Rattle.djq_protocol.specs.declared.limits.TheConstants.{TEXTS, COLUMNS, RELATIONS, ROWS, COPIES, LAST_SEQ, QUERIES}
-use Rattle.djq_protocol.specs.declared.limits.TheConstants.{MEMBERS, HELD}
+use Rattle.djq_protocol.specs.declared.limits.TheConstants.{MEMBERS}
 use Rattle.djq_protocol.specs.declared.answer.Refusal.{Refusal}
 use Rattle.djq_protocol.specs.declared.answer.Refusal.TheVariants.{Taken, NoRelation, NoQuery, Arity, WrongType}
 use Rattle.djq_protocol.specs.declared.answer.Refusal.TheVariants.{VariableType, Unbound, HeadRepeated, HeadUnbound}
 use Rattle.djq_protocol.specs.declared.answer.Refusal.TheVariants.{Member, Limit}
-use Rattle.djq_protocol.specs.declared.held.HeldRow.{HeldRow}
 use Rattle.djq_protocol.specs.Columns.{types_of, columns_of}
 use Rattle.djq_protocol.specs.QueryFault.{any_column, any_place, is_misfit, is_clash, is_miscompared, reads_unknown}
 use Rattle.djq_protocol.specs.QueryFault.{has_wrong_arity, has_misfit, has_clash, compares_unbound, has_miscompared}
@@ -44,7 +43,8 @@ use Rattle.djq_store_spec.specs.Rows.{copies_of, add_refusal, delete_refusal}
 use Rattle.djq_store_spec.specs.Registering.{query_refusal}
 use Rattle.djq_store_spec.specs.Asking.{type_among, variable_type, answer_types, listed_types}
 use Rattle.djq_store_spec.specs.Union.{stands_twice, is_union, same_types, types_under, types_differ, union_refusal}
-use Rattle.djq_store_spec.specs.Batch.{hold_refusal}
+use Rattle.djq_store_spec.specs.Held.{HeldTransaction, has_room}
+use Rattle.djq_store_spec.specs.Transaction.{hold_refusal}
 use Rattle.djq_machine.specs.Step.{SameRelations}
 use Rattle.djq_run_laws.specs.Sound.{AreApart}
 use Rattle.djq_run_laws.proofs.Lists.{texts_apart, nothing_apart, all_changed, all_found}
@@ -395,12 +395,9 @@ module _ (a b : Store) (n : Bytes) (row : Tuple) (h : StoreFollows a b) where
       row_same a b n row (more_in b) h
       ∙ ap (λ (x : List (Bool × Refusal)). row_by (is_none left) (types_of left) row x) more_same
 
-  -- so of a row that a batch holds
-  pub place_same : first_refusal (more_in b) ≡ first_refusal (more_in a)
-  place_same = ap first_refusal more_same
-
-  pub hold_same : (held : List HeldRow) → hold_refusal b held n row ≡ hold_refusal a held n row
-  hold_same held = row_same a b n row ((nat_le HELD (length held), Limit) ∷ []) h
+  -- so of a line that a batch is to hold
+  pub hold_same : (held : HeldTransaction) (l : Bytes) → hold_refusal b held l n row ≡ hold_refusal a held l n row
+  hold_same held l = row_same a b n row ((not (has_room held (length l)), Limit) ∷ []) h
 
 abbrev delete_more : ℕ → ℕ → List (Bool × Refusal)
 delete_more copies seq = ((copies == 1) && nat_le LAST_SEQ seq, Limit) ∷ []

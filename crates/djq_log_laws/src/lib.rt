@@ -3,19 +3,19 @@
 //! Each function here is empty: its contract is the law, and its proof concerns no code. A run
 //! logs the lines of `rel`, `add`, `union` and `drop` that weren't refused, of `del` if a copy
 //! was deleted, and of `query` if it was registered. Of a batch that was done it logs `batch`, the lines that it
-//! held and `done`, as one group (djq_machine, `specs/Keeping.antt`).
+//! held, which insert and delete, and `done` without a number, as one group (djq_machine, `specs/Keeping.antt`).
 //!
 //! ```text
 //! rel r int       logged        loaded into an empty store, the eight logged lines give
 //! add r 7         logged        r with two copies of the row (8) and one of (9), no
-//! add r 8         logged        query, and 4 changes, as the run left it
+//! add r 8         logged        query, and 3 changes, as the run left it
 //! del r 9
 //! has q 7
 //! batch
 //! add r 8         held
 //! add r 9         held
-//! done            logged: batch, add r 8, add r 9, done
-//! del r 7         logged
+//! del r 7         held
+//! done 3          logged: batch, add r 8, add r 9, del r 7, done
 //! ```
 //!
 //! What this crate is not: it writes no lines and reads none. It states what whoever writes them to a log

@@ -51,7 +51,9 @@ use Rattle.djq_protocol.specs.declared.answer.EndCause.TheVariants.{
   Memory,
 }
 use Rattle.djq_protocol.specs.declared.command.Command.{Command}
-use Rattle.djq_protocol.specs.declared.held.HeldRow.{HeldRow}
+use Rattle.djq_protocol.specs.declared.held.Verb.{Verb}
+use Rattle.djq_protocol.specs.declared.held.Verb.TheVariants.{Add as Adds, Delete as Deletes}
+use Rattle.djq_protocol.specs.declared.held.DoneRefusal.{DoneRefusal}
 use Rattle.djq_protocol.specs.declared.command.Command.TheVariants.{
   Rel,
   Add,
@@ -110,9 +112,10 @@ use Rattle.djq_store_spec.specs.Listing.{TellsAnswers, IsLeft}
 use Rattle.djq_store_spec.specs.Union.{RegistersUnion}
 use Rattle.djq_store_spec.specs.Changes.{row_in, row_out, add_outcome, delete_outcome}
 use Rattle.djq_machine.specs.Watch.{is_watching, ChangeStep}
-use Rattle.djq_store_spec.specs.Batch.{hold_refusal, AddsBatch, batch_outcome}
+use Rattle.djq_store_spec.specs.Held.{HeldTransaction, nothing_held, holding}
+use Rattle.djq_store_spec.specs.Transaction.{hold_refusal, DoesAll, lines_outcome}
 use Rattle.djq_machine.specs.Keeping.{no_line, kept_where, is_done, is_removal, is_registration, kept_batch}
-use Rattle.djq_machine.specs.Effect.{Effect, says, answers, EndsWith, EndsAnswering, RefusedStep}
+use Rattle.djq_machine.specs.Effect.{Effect, says, answers, lost_line, EndsWith, EndsAnswering, RefusedStep}
 
 -- `rel`: a relation is made.
 pub record RelStep (old : State) (s : ℕ) (makes : Store → Result ⊤ Refusal → Store → Type 0)
@@ -346,52 +349,52 @@ abbrev pub ExplainStepOf : State → ℕ → Listed → Effect → State → Typ
 ExplainStepOf old s (a_query q) e new = ExplainStep old s q e new
 ExplainStepOf old s (a_union name qs) e new = TellsLines old s (union_lines qs) e new
 
--- a session that has a batch open, which holds these rows
-abbrev pub with_batch : List HeldRow → Session → Session
+-- a session that has a batch open, which holds these lines
+abbrev pub with_batch : HeldTransaction → Session → Session
 with_batch held x = record x { batch = Some held }
 
 -- a session that has none
 abbrev pub without_batch : Session → Session
 without_batch x = record x { batch = None }
 
--- `batch`: rows that are added are held from now on.
+-- `batch`: lines that insert and delete rows are held from now on.
 pub record BatchStep (old : State) (s : ℕ) (e : Effect) (new : State) : Type 0 where
   pub result : Result ⊤ Refusal
   pub answer : Answers None result (λ _. ⊤) (OutOfMemoryWhere ⊤)
   pub effect : e ≡ says s (ok_reply (codes "ok batch") result)
-  pub state : BecomesWhere old s (with_batch []) new result
+  pub state : BecomesWhere old s (with_batch nothing_held) new result
 
--- `add` in a batch: the row is held behind the others, and its line with it.
-pub record HoldStep (old : State) (s : ℕ) (held : List HeldRow) (l name : Bytes) (row : Tuple)
-    (e : Effect) (new : State) : Type 0 where
+-- `add` and `del` in a batch: the line is held after the others.
+pub record HoldStep (old : State) (s : ℕ) (held : HeldTransaction) (l : Bytes) (verb : Verb) (name : Bytes)
+    (row : Tuple) (e : Effect) (new : State) : Type 0 where
   pub result : Result ⊤ Refusal
-  pub answer : Answers (hold_refusal old.store held name row) result (λ _. ⊤) (OutOfMemoryWhere ⊤)
-  pub effect : e ≡ says s (held_reply result (length held + 1))
-  pub state : BecomesWhere old s
-      (with_batch (held ++ record { line = l; relation = name; row = row } ∷ [])) new result
+  pub answer : Answers (hold_refusal old.store held l name row) result (λ _. ⊤) (OutOfMemoryWhere ⊤)
+  pub effect : e ≡ says s (held_reply result (length held.lines + 1))
+  pub state : BecomesWhere old s (with_batch (holding held verb name row l)) new result
 
--- `done`: the batch is closed, and the rows that it holds go in at once, as one change, which is told
--- those who watch; or, where it is refused, none does.
-pub record DoneStep (old : State) (s : ℕ) (held : List HeldRow) (e : Effect) (new : State) : Type 0
-  where
-    pub result : Result ℕ Refusal
-    pub store : Store
-    pub done : AddsBatch old.store held result store
-    pub change : ChangeStep (with_session old s without_batch) s (batch_outcome old.store held result)
-        store (done_reply result store.seq) e new
-    pub kept : e.kept ≡ kept_batch held result
+-- `done`: the batch is closed, and the lines that it holds are carried out as one change, which is reported to those
+-- who watch; or, if it is refused, none is.
+pub record DoneStep (old : State) (s : ℕ) (held : HeldTransaction) (given : Option ℕ) (e : Effect) (new : State)
+    : Type 0 where
+  pub result : Result ℕ DoneRefusal
+  pub store : Store
+  pub done : DoesAll old.store held.lines given result store
+  pub change : ChangeStep (with_session old s without_batch) s
+      (lines_outcome old.store.relations held.lines result) store (done_reply result store.seq) e new
+  pub kept : e.kept ≡ kept_batch held result
 
--- `abandon`: the batch is closed, and the rows that it holds are dropped.
+-- `abandon`: the batch is closed, and the lines that it holds are dropped.
 abbrev pub AbandonStep : State → ℕ → Effect → State → Type 0
 AbandonStep old s e new = (e ≡ says s (line (codes "ok"))) × (new ≡ with_session old s without_batch)
 
 -- Whether a session's command isn't for a session with a batch open, or only for one.
 abbrev pub is_misplaced : {A : Type 0} → Option A → Command → Bool
-is_misplaced None Done = true
+is_misplaced None (Done given) = true
 is_misplaced None Abandon = true
 is_misplaced None _ = false
 is_misplaced (Some held) (Add name row) = false
-is_misplaced (Some held) Done = false
+is_misplaced (Some held) (Del name row) = false
+is_misplaced (Some held) (Done given) = false
 is_misplaced (Some held) Abandon = false
 is_misplaced (Some held) Quit = false
 is_misplaced (Some held) Stop = false
@@ -402,8 +405,10 @@ abbrev pub CommandStep : State → ℕ → Session → Bytes → Command → Eff
 CommandStep old s x l (Rel name types) e new = RelStep old s (λ st. MakesRelation st name types) e new
 CommandStep old s x l (Add name row) e new = MatchOption x.batch
     (AddStep old s name row e new)
-    (λ held. HoldStep old s held l name row e new)
-CommandStep old s x l (Del name row) e new = DeleteStep old s name row e new
+    (λ held. HoldStep old s held l Adds name row e new)
+CommandStep old s x l (Del name row) e new = MatchOption x.batch
+    (DeleteStep old s name row e new)
+    (λ held. HoldStep old s held l Deletes name row e new)
 CommandStep old s x l (Register q) e new = QueryStep old s q e new ⊎ QueryCutStep old s q e new
 CommandStep old s x l (Union name members) e new = UnionStep old s name members e new
 CommandStep old s x l (Open c q) e new = OpenStep old s x c q e new
@@ -414,8 +419,9 @@ CommandStep old s x l (Next c count) e new = MatchOption (cursor_of x.cursors c)
 CommandStep old s x l (Close c) e new = MatchOption (cursor_of x.cursors c)
     (RefusedStep old s NoCursor e new)
     (λ k. CloseStep old s c e new)
-CommandStep old s x l Quit e new = EndsWith bye SaidQuit old s e new
-CommandStep old s x l Stop e new = EndsWith bye SaidStop (record old { stopped = true }) s e new
+CommandStep old s x l Quit e new = EndsWith (lost_line x.batch ++ bye) SaidQuit old s e new
+CommandStep old s x l Stop e new =
+    EndsWith (lost_line x.batch ++ bye) SaidStop (record old { stopped = true }) s e new
 CommandStep old s x l (Drop q) e new = DropStep old s q e new
 CommandStep old s x l (Has q row) e new = HasStep old s q row e new
 CommandStep old s x l (Watch q) e new = WatchStep old s x q e new
@@ -425,5 +431,5 @@ CommandStep old s x l (Explain q) e new = MatchOption (listed_of old.store.queri
     (λ k. ExplainStepOf old s k e new)
 CommandStep old s x l (AskShape q) e new = ShapeStep old s q e new
 CommandStep old s x l Batch e new = BatchStep old s e new
-CommandStep old s x l Done e new = MatchOption x.batch ⊥ (λ held. DoneStep old s held e new)
+CommandStep old s x l (Done given) e new = MatchOption x.batch ⊥ (λ held. DoneStep old s held given e new)
 CommandStep old s x l Abandon e new = AbandonStep old s e new

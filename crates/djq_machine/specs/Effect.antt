@@ -4,6 +4,7 @@ use Rattle.djq_model.specs.Data.{Bytes}
 use Rattle.djq_protocol.specs.declared.answer.EndCause.{EndCause}
 use Rattle.djq_protocol.specs.declared.answer.Refusal.{Refusal}
 use Rattle.djq_protocol.specs.Reply.{refusal_line}
+pub use Rattle.djq_store_spec.specs.Held.{lost_line}
 use Rattle.djq_machine.specs.State.{State, with_session, ended_by}
 use Rattle.djq_machine.specs.Keeping.{Keeping, no_line, kept_where}
 
@@ -28,6 +29,11 @@ says s text = record { queued = (s, text) ∷ []; cost = 0; kept = no_line }
 -- bytes for one session, which answer a line that is kept where this holds
 abbrev pub answers : ℕ → Bytes → Bool → Effect
 answers s text test = record { queued = (s, text) ∷ []; cost = 0; kept = kept_where test }
+
+-- bytes for one session, if there are any
+abbrev pub says_any : ℕ → Bytes → Effect
+says_any s [] = nothing
+says_any s (b ∷ bs) = says s (b ∷ bs)
 
 -- A session ends with a line: the line is queued, the cause kept, and its cursors and watches are given up.
 abbrev pub EndsWith : Bytes → EndCause → State → ℕ → Effect → State → Type 0

@@ -1,12 +1,12 @@
 -- Which lines are kept: those whose commands change the relations, their rows or copies, or the queries.
-use Rattle.std.specs.Prelude.{List, map, Bool, true, false, Result, Ok, Err}
+use Rattle.std.specs.Prelude.{List, Bool, true, false, Result, Ok, Err}
 use Rattle.djq_model.specs.Data.{Bytes}
 use Rattle.djq_protocol.specs.declared.answer.Refusal.{Refusal}
 use Rattle.djq_protocol.specs.declared.answer.DeleteOutcome.{DeleteOutcome}
 use Rattle.djq_protocol.specs.declared.answer.DeleteOutcome.TheVariants.{Last, Left, Absent}
 use Rattle.djq_protocol.specs.declared.rest.QueryOutcome.{QueryOutcome}
 use Rattle.djq_protocol.specs.declared.rest.QueryOutcome.TheVariants.{Registered, Cyclic, NotConnex}
-use Rattle.djq_protocol.specs.declared.held.HeldRow.{HeldRow}
+use Rattle.djq_store_spec.specs.Held.{HeldTransaction}
 
 -- What a step keeps: nothing, the line that it runs, or the batch that this line ends, of which these
 -- are the lines that were held.
@@ -27,8 +27,8 @@ is_done (Ok a) = true
 is_done (Err r) = false
 
 -- A batch is kept whole where it is done.
-abbrev pub kept_batch : {A : Type 0} → List HeldRow → Result A Refusal → Keeping
-kept_batch held (Ok a) = the_batch (map (λ h. h.line) held)
+abbrev pub kept_batch : {A E : Type 0} → HeldTransaction → Result A E → Keeping
+kept_batch held (Ok a) = the_batch held.logged
 kept_batch held (Err r) = no_line
 
 -- The line of `del` is kept where a copy went.

@@ -1,24 +1,5 @@
 -- What loading lines that were kept does to a store in which no session is open.
-use Rattle.std.specs.Prelude.{
-  ℕ,
-  List,
-  [],
-  ◌∷◌,
-  ◌++◌,
-  ◌≡◌,
-  ◌⊎◌,
-  Bool,
-  true,
-  false,
-  Option,
-  None,
-  Some,
-  Result,
-  Ok,
-  Err,
-  if◌then◌else◌,
-  ⊤,
-}
+use Rattle.std.specs.Prelude.{ℕ, List, ◌≡◌, ◌⊎◌, Bool, true, false, Option, None, Some, Result, Ok, Err, if◌then◌else◌, ⊤}
 use Rattle.djq_model.specs.declared.relation.Relation.{Relation}
 use Rattle.djq_model.specs.Data.{Bytes, Tuple}
 use Rattle.djq_protocol.specs.declared.answer.Refusal.{Refusal}
@@ -48,14 +29,18 @@ use Rattle.djq_protocol.specs.Grammar.{
 }
 use Rattle.djq_machine.specs.declared.machine.Loaded.{Loaded}
 use Rattle.djq_machine.specs.declared.machine.Loaded.TheVariants.{Ran as ran, Refused as refused, NoMem as no_memory}
-use Rattle.djq_protocol.specs.declared.held.HeldRow.{HeldRow}
+use Rattle.djq_protocol.specs.declared.held.Verb.{Verb}
+use Rattle.djq_protocol.specs.declared.held.Verb.TheVariants.{Add as Adds, Delete as Deletes}
+use Rattle.djq_protocol.specs.declared.held.DoneRefusal.{DoneRefusal}
+use Rattle.djq_protocol.specs.Reply.{done_word}
 use Rattle.djq_store_spec.specs.Store.{Store}
 use Rattle.djq_protocol.specs.Conditions.{Answers, OutOfMemoryWhere}
 use Rattle.djq_store_spec.specs.Relations.{MakesRelation}
 use Rattle.djq_store_spec.specs.Rows.{AddsRow, DeletesRow}
 use Rattle.djq_store_spec.specs.Registering.{RegistersQuery, DropsQuery}
 use Rattle.djq_store_spec.specs.Union.{RegistersUnion}
-use Rattle.djq_store_spec.specs.Batch.{hold_refusal, AddsBatch}
+use Rattle.djq_store_spec.specs.Held.{HeldTransaction, nothing_held, holding}
+use Rattle.djq_store_spec.specs.Transaction.{hold_refusal, DoesAll}
 use Rattle.djq_machine.specs.Command.{is_misplaced}
 use Rattle.djq_machine.specs.Keeping.{is_done, is_removal, is_registration}
 use Rattle.djq_machine.specs.Step.{SameRelations}
@@ -71,11 +56,15 @@ abbrev pub loaded_by : {A : Type 0} → (Result A Refusal → Bool) → Result A
 loaded_by kept (Ok a) = if kept (Ok a) then ran else refused
 loaded_by kept (Err r) = refused_by r
 
--- Where the loading of lines has come to: the store, and the rows that the batch of these lines holds,
--- where one is open.
+-- `done` runs where it isn't refused.
+abbrev pub done_loaded : Result ℕ DoneRefusal → Loaded
+done_loaded (Ok rows) = ran
+done_loaded (Err r) = refused_by (done_word r)
+
+-- Where the loading of lines has come to: the store, and what the batch of these lines holds, if one is open.
 pub record Loading : Type 0 where
   pub store : Store
-  pub batch : Option (List HeldRow)
+  pub batch : Option HeldTransaction
 
 -- no batch is open
 abbrev pub loading : Store → Loading
@@ -99,29 +88,32 @@ StoreLoads old _ how new = (how ≡ refused) × (new ≡ old)
 
 -- A batch is opened, or memory lacks for it.
 abbrev pub LoadsBatch : Loading → Loaded → Loading → Type 0
-LoadsBatch old how new = ((how ≡ ran) × (new ≡ record old { batch = Some [] }))
+LoadsBatch old how new = ((how ≡ ran) × (new ≡ record old { batch = Some nothing_held }))
     ⊎ ((how ≡ no_memory) × (new ≡ old))
 
--- A row is held behind these, or nothing changes.
-abbrev pub HoldsLoaded : Loading → List HeldRow → Bytes → Bytes → Tuple → Result ⊤ Refusal → Loading
+-- A line is held after these, or nothing changes.
+abbrev pub HoldsLoaded : Loading → HeldTransaction → Bytes → Verb → Bytes → Tuple → Result ⊤ Refusal → Loading
     → Type 0
-HoldsLoaded old held l name row (Ok _) new = new ≡ record old {
-  batch = Some (held ++ record { line = l; relation = name; row = row } ∷ []);
-}
-HoldsLoaded old held l name row (Err _) new = new ≡ old
+HoldsLoaded old held l verb name row (Ok _) new = new ≡ record old { batch = Some (holding held verb name row l) }
+HoldsLoaded old held l verb name row (Err _) new = new ≡ old
+
+-- A line of a batch is held, or refused.
+abbrev pub HoldsOrRefuses : Loading → HeldTransaction → Bytes → Verb → Bytes → Tuple → Loaded → Loading → Type 0
+HoldsOrRefuses old held l verb name row how new = (r : Result ⊤ Refusal)
+    × Answers (hold_refusal old.store held l name row) r (λ _. ⊤) (OutOfMemoryWhere ⊤)
+    × (how ≡ loaded_by is_done r) × HoldsLoaded old held l verb name row r new
 
 -- What a command that is loaded does, as in a session with the batch that is open, or with none.
 abbrev pub CommandLoads : Loading → Bytes → Command → Loaded → Loading → Type 0
 CommandLoads old l c how new = LoadsIn old.batch c
   where
-    LoadsIn : Option (List HeldRow) → Command → Type 0
+    LoadsIn : Option HeldTransaction → Command → Type 0
     LoadsIn None Batch = LoadsBatch old how new
     LoadsIn None c = StoreLoads old.store c how new.store × (new.batch ≡ None)
-    LoadsIn (Some held) (Add name row) = (r : Result ⊤ Refusal)
-        × Answers (hold_refusal old.store held name row) r (λ _. ⊤) (OutOfMemoryWhere ⊤)
-        × (how ≡ loaded_by is_done r) × HoldsLoaded old held l name row r new
-    LoadsIn (Some held) Done = (r : Result ℕ Refusal)
-        × AddsBatch old.store held r new.store × (how ≡ loaded_by is_done r) × (new.batch ≡ None)
+    LoadsIn (Some held) (Add name row) = HoldsOrRefuses old held l Adds name row how new
+    LoadsIn (Some held) (Del name row) = HoldsOrRefuses old held l Deletes name row how new
+    LoadsIn (Some held) (Done given) = (r : Result ℕ DoneRefusal)
+        × DoesAll old.store held.lines given r new.store × (how ≡ done_loaded r) × (new.batch ≡ None)
     LoadsIn (Some held) Abandon = (how ≡ ran) × (new ≡ record old { batch = None })
     LoadsIn (Some held) _ = (how ≡ refused) × (new ≡ old)
 

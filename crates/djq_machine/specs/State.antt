@@ -2,7 +2,7 @@
 use Rattle.std.specs.Prelude.{ℕ, List, [], ◌==◌, Bool, false, Option, None, Some, find, map}
 use Rattle.djq_model.specs.Data.{Bytes, bytes_eq, change_first}
 use Rattle.djq_protocol.specs.declared.answer.EndCause.{EndCause}
-use Rattle.djq_protocol.specs.declared.held.HeldRow.{HeldRow}
+use Rattle.djq_store_spec.specs.Held.{HeldTransaction}
 use Rattle.djq_store_spec.specs.Store.{Store, Position, empty_store}
 
 -- A cursor of a session, over the answers of a query.
@@ -23,8 +23,8 @@ pub record Session : Type 0 where
   pub cursors : List Cursor
   -- the names of the queries that it watches
   pub watches : List Bytes
-  -- the rows that its batch holds, where one is open
-  pub batch : Option (List HeldRow)
+  -- the lines that its batch holds, if one is open
+  pub batch : Option HeldTransaction
 
 -- The state of the join machine: the store, and what is kept of each open session.
 pub record State : Type 0 where

@@ -6,9 +6,10 @@ use Rattle.djq_model.specs.Data.{Bytes}
 use Rattle.djq_protocol.specs.declared.limits.TheConstants.{SESSIONS}
 use Rattle.djq_protocol.specs.declared.answer.EndCause.TheVariants.{Input, Memory}
 use Rattle.djq_protocol.specs.Line.{Front, dry, front_of}
-use Rattle.djq_protocol.specs.Reply.{end_memory, input_cut}
+use Rattle.djq_protocol.specs.Reply.{end_memory}
+pub use Rattle.djq_protocol.specs.Reply.{cut_line}
 use Rattle.djq_machine.specs.State.{Session, State, fresh, session_of, with_session, ended_by}
-use Rattle.djq_machine.specs.Effect.{Effect, nothing, says, EndsWith, queue_all}
+use Rattle.djq_machine.specs.Effect.{Effect, nothing, says_any, lost_line, EndsWith, queue_all}
 use Rattle.djq_machine.specs.LineStep.{LineOutcome, FrontStep}
 
 -- An event: what comes to the machine.
@@ -53,15 +54,12 @@ abbrev pub TookStep : State → ℕ → Bytes → Session → Effect → State �
 TookStep old s bytes x e new = (e ≡ nothing)
     × ((rest : Bytes) × (x.pending ≡ bytes ++ rest) × (new ≡ with_session old s (λ y. record y { pending = rest })))
 
--- A session whose input ends ends with it; that bytes are held, which no line end follows, is said.
+-- A session whose input ends ends with it. That bytes of a line are held is said, and that lines of a batch are.
 abbrev pub EndedStep : State → ℕ → Session → Effect → State → Type 0
 EndedStep old s x e new = MatchOption x.cause
-    ((is_dry x.held ≡ true) × (e ≡ cut_of x.held) × (new ≡ with_session old s (ended_by Input)))
+    ((is_dry x.held ≡ true) × (e ≡ says_any s (cut_line x.held ++ lost_line x.batch))
+    × (new ≡ with_session old s (ended_by Input)))
     (λ _. (e ≡ nothing) × (new ≡ old))
-  where
-    cut_of : Bytes → Effect
-    cut_of [] = nothing
-    cut_of (b ∷ bs) = says s input_cut
 
 -- What an event does, before its bytes are queued.
 abbrev pub Acts : State → Event → Effect → State → Type 0

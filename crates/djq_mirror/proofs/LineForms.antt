@@ -15,12 +15,13 @@ use Rattle.djq_protocol.specs.declared.answer.Refusal.{Refusal}
 use Rattle.djq_protocol.specs.declared.answer.Refusal.TheVariants.{Syntax, Taken, NoRelation, NoQuery, NoCursor, Arity}
 use Rattle.djq_protocol.specs.declared.answer.Refusal.TheVariants.{WrongType, HeadUnbound, HeadRepeated, VariableType}
 use Rattle.djq_protocol.specs.declared.answer.Refusal.TheVariants.{Limit, NoMemory, InUse, Unbound, Member, Misplaced}
+use Rattle.djq_protocol.specs.declared.answer.Refusal.TheVariants.{NoCopy, OtherCount}
 use Rattle.djq_protocol.specs.declared.answer.Shape.TheVariants.{Flat, Linear, Union}
 use Rattle.djq_protocol.specs.declared.answer.Sign.{Sign}
 use Rattle.djq_protocol.specs.declared.answer.Sign.TheVariants.{Came, Went}
 use Rattle.djq_protocol.specs.Reply.{line, cells_text, sign_text}
 use Rattle.djq_mirror.specs.Replies.{Node, leaf, trim, meet, Reply, done, opened, added, removed, absent, batch_opened}
-use Rattle.djq_mirror.specs.Replies.{row_held, batch_done, registered, cyclic, not_connex, answer, more, last, stale}
+use Rattle.djq_mirror.specs.Replies.{lines_held, batch_done, registered, cyclic, not_connex, answer, more, last, stale}
 use Rattle.djq_mirror.specs.Replies.{united, member, had, shaped, watched, changed, counted, explained, refused, ended}
 use Rattle.djq_mirror.specs.Replies.{cut, bye, IsPrinted, IsReply, joined, label_of, node_of, reply_text, IsNode}
 use Rattle.djq_mirror.specs.Replies.{are_cells, is_edge, is_label, is_rest}
@@ -53,6 +54,8 @@ refused_words InUse = codes "err 14 in use"
 refused_words Unbound = codes "err 16 unbound"
 refused_words Member = codes "err 17 member"
 refused_words Misplaced = codes "err 18 batch"
+refused_words NoCopy = codes "err 19 absent"
+refused_words OtherCount = codes "err 20 held"
 
 abbrev pub ended_words : EndLine → Bytes
 ended_words Long = codes "end long"
@@ -82,7 +85,7 @@ body (added n m) = codes "ok" ++ spaced 32 (codes "added" ∷ decimal n ∷ deci
 body (removed n m) = codes "ok" ++ spaced 32 (codes "removed" ∷ decimal n ∷ decimal m ∷ [])
 body (absent n) = codes "ok" ++ spaced 32 (codes "absent" ∷ decimal n ∷ [])
 body batch_opened = codes "ok batch"
-body (row_held n) = codes "ok" ++ spaced 32 (codes "held" ∷ decimal n ∷ [])
+body (lines_held n) = codes "ok" ++ spaced 32 (codes "held" ∷ decimal n ∷ [])
 body (batch_done n m) = codes "ok" ++ spaced 32 (codes "done" ∷ decimal n ∷ decimal m ∷ [])
 body (registered n) = codes "ok" ++ spaced 32 (codes "query" ∷ decimal n ∷ [])
 body (cyclic es) = codes "no" ++ spaced 32 (codes "cyclic" ∷ edge_words es)
@@ -129,6 +132,8 @@ refused_text InUse = refl
 refused_text Unbound = refl
 refused_text Member = refl
 refused_text Misplaced = refl
+refused_text NoCopy = refl
+refused_text OtherCount = refl
 
 ended_text : (e : EndLine) → reply_text (ended e) ≡ line (ended_words e)
 ended_text Long = refl
@@ -197,7 +202,7 @@ text_is (added n m) = ap line (two_parts (codes "ok added ") (decimal n) (decima
 text_is (removed n m) = ap line (two_parts (codes "ok removed ") (decimal n) (decimal m))
 text_is (absent n) = ap line (one_part (codes "ok absent ") (decimal n))
 text_is batch_opened = refl
-text_is (row_held n) = ap line (one_part (codes "ok held ") (decimal n))
+text_is (lines_held n) = ap line (one_part (codes "ok held ") (decimal n))
 text_is (batch_done n m) = ap line (two_parts (codes "ok done ") (decimal n) (decimal m))
 text_is (registered n) = ap line (one_part (codes "ok query ") (decimal n))
 text_is (cyclic es) = ap (λ (r : Bytes). line (codes "no cyclic" ++ r)) (edges_spaced es)
@@ -402,6 +407,8 @@ refused_told InUse = refl
 refused_told Unbound = refl
 refused_told Member = refl
 refused_told Misplaced = refl
+refused_told NoCopy = refl
+refused_told OtherCount = refl
 
 ended_told : (e : EndLine) → news_in (ended_words e) ≡ Some nothing
 ended_told Long = refl
@@ -416,7 +423,7 @@ body_told (added n m) h = ok_two (codes "added") n m h.0 h.1 refl (both_numbers 
 body_told (removed n m) h = ok_two (codes "removed") n m h.0 h.1 refl (both_numbers n m h.0 h.1)
 body_told (absent n) h = ok_one (codes "absent") n h refl (number_printed n h)
 body_told batch_opened h = refl
-body_told (row_held n) h = ok_one (codes "held") n h refl (number_printed n h)
+body_told (lines_held n) h = ok_one (codes "held") n h refl (number_printed n h)
 body_told (batch_done n m) h = ok_two (codes "done") n m h.0 h.1 refl (both_numbers n m h.0 h.1)
 body_told (registered n) h = ok_one (codes "query") n h refl (number_printed n h)
 body_told (cyclic es) h = rest_told (codes "cyclic") es h refl (λ e rest. refl)

@@ -22,7 +22,7 @@ use Rattle.djq_mirror.specs.Acting.{set_texts, LineEnds, MirrorTurns}
 use Rattle.djq_mirror.specs.Mirror.{Acted, IsInOrder, has_text, put, take_out, Act, Follows, Held, IsOutside}
 use Rattle.djq_mirror.specs.Mirror.{SeenMirror, Turned, may_turn, turn_of}
 use Rattle.djq_mirror.specs.Reading.{News, news_of, news_in, turn_by}
-use Rattle.djq_mirror.specs.Replies.{Reply, done, opened, added, removed, absent, batch_opened, row_held, batch_done}
+use Rattle.djq_mirror.specs.Replies.{Reply, done, opened, added, removed, absent, batch_opened, lines_held, batch_done}
 use Rattle.djq_mirror.specs.Replies.{registered, cyclic, not_connex, answer, more, last, stale, united, member, had}
 use Rattle.djq_mirror.specs.Replies.{shaped, watched, changed, counted, explained, refused, ended, cut, bye}
 use Rattle.djq_mirror.proofs.Spellings.{bytes_are, same_bytes}
@@ -179,7 +179,7 @@ turn_same name mode (added n m) = refl
 turn_same name mode (removed n m) = refl
 turn_same name mode (absent n) = refl
 turn_same name mode batch_opened = refl
-turn_same name mode (row_held n) = refl
+turn_same name mode (lines_held n) = refl
 turn_same name mode (batch_done n m) = refl
 turn_same name mode (registered n) = refl
 turn_same name mode (cyclic es) = refl

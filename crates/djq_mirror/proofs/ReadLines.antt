@@ -12,6 +12,7 @@ use Rattle.djq_protocol.specs.declared.answer.EndLine.TheVariants.{Long, Slow, M
 use Rattle.djq_protocol.specs.declared.answer.Refusal.TheVariants.{Syntax, Taken, NoRelation, NoQuery, NoCursor, Arity}
 use Rattle.djq_protocol.specs.declared.answer.Refusal.TheVariants.{WrongType, HeadUnbound, HeadRepeated, VariableType}
 use Rattle.djq_protocol.specs.declared.answer.Refusal.TheVariants.{Limit, NoMemory, InUse, Unbound, Member, Misplaced}
+use Rattle.djq_protocol.specs.declared.answer.Refusal.TheVariants.{NoCopy, OtherCount}
 use Rattle.djq_protocol.specs.declared.answer.Shape.TheVariants.{Flat, Linear, Union}
 use Rattle.djq_protocol.specs.declared.answer.Sign.{Sign}
 use Rattle.djq_protocol.specs.declared.answer.Sign.TheVariants.{Came, Went}
@@ -24,7 +25,7 @@ use Rattle.djq_mirror.specs.Reading.{is_label_end, is_label_word, is_leaf_told, 
 use Rattle.djq_mirror.specs.Reading.{is_node_kind, is_node_told, is_printed_number, is_rest_told, is_stale_told}
 use Rattle.djq_mirror.specs.Reading.{is_trim_told, is_worded, line_told, told_if, news_in, word_told, words_told}
 use Rattle.djq_mirror.specs.Replies.{Node, leaf, trim, meet, Reply, done, opened, added, removed, absent, batch_opened}
-use Rattle.djq_mirror.specs.Replies.{row_held, batch_done, registered, cyclic, not_connex, answer, more, last, stale}
+use Rattle.djq_mirror.specs.Replies.{lines_held, batch_done, registered, cyclic, not_connex, answer, more, last, stale}
 use Rattle.djq_mirror.specs.Replies.{united, member, had, shaped, watched, changed, counted, explained, refused, ended}
 use Rattle.djq_mirror.specs.Replies.{cut, bye, IsNode, IsPrinted, IsReply, is_edge, is_label, is_rest, joined, label_of}
 use Rattle.djq_mirror.proofs.LineForms.{body, edge_words, node_words, out_words, reply_from}
@@ -123,7 +124,10 @@ all_fixed = (
                                                         fixed (codes "err 17 member") (refused Member) tt refl refl,
                                                         (
                                                           fixed (codes "err 18 batch") (refused Misplaced) tt refl refl,
-                                                          tt,
+                                                          (
+                                                            fixed (codes "err 19 absent") (refused NoCopy) tt refl refl,
+                                                            (fixed (codes "err 20 held") (refused OtherCount) tt refl refl, tt),
+                                                          ),
                                                         ),
                                                       ),
                                                     ),
@@ -189,7 +193,7 @@ counted_found l (w ∷ n ∷ []) e h =
                     | inl is ↦ by_body l nothing (absent k.0) k.1
                         (words_are l (codes "ok") _ _ e
                         (two_words (codes "absent") w k.0 (same_bytes w _ is) n k.2)) refl
-                    | inr is ↦ by_body l nothing (row_held k.0) k.1
+                    | inr is ↦ by_body l nothing (lines_held k.0) k.1
                         (words_are l (codes "ok") _ _ e (two_words (codes "held") w k.0 (same_bytes w _ is) n k.2)) refl
                   ]
                   | inr is ↦ by_body l nothing (registered k.0) k.1

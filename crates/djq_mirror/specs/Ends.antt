@@ -1,5 +1,5 @@
 -- How `mirror` ends: what a session was sent is read and followed, and what it leaves is written.
-use Rattle.std.specs.Prelude.{ℕ, List, ◌++◌, ◌≡◌, ◌<◌, ◌≤◌, ◌⊎◌, Option, length, take, drop, codes, decimal}
+use Rattle.std.specs.Prelude.{ℕ, List, ◌≡◌, ◌<◌, ◌≤◌, ◌⊎◌, Option, length, take, drop, codes}
 use Rattle.djq_io.specs.Faults.{Counted}
 use Rattle.djq_io.specs.Source.{SourceReading}
 use Rattle.djq_io.specs.Written.{GainsBytes, FailsBehind}

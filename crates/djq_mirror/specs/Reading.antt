@@ -174,7 +174,8 @@ fixed_lines =
     ∷ codes "err 4 no query" ∷ codes "err 5 no cursor" ∷ codes "err 6 arity" ∷ codes "err 7 type"
     ∷ codes "err 8 head unbound" ∷ codes "err 9 head repeated" ∷ codes "err 10 variable type"
     ∷ codes "err 11 limit" ∷ codes "err 12 memory" ∷ codes "err 13 cut" ∷ codes "err 14 in use"
-    ∷ codes "err 16 unbound" ∷ codes "err 17 member" ∷ codes "err 18 batch" ∷ []
+    ∷ codes "err 16 unbound" ∷ codes "err 17 member" ∷ codes "err 18 batch"
+    ∷ codes "err 19 absent" ∷ codes "err 20 held" ∷ []
 
 -- whether a line is one of these
 abbrev pub is_fixed : Bytes → Bool

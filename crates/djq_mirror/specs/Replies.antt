@@ -46,9 +46,9 @@ pub data Reply : Type 0 where
   added : ℕ → ℕ → Reply
   removed : ℕ → ℕ → Reply
   absent : ℕ → Reply
-  -- a batch: opened; rows that it holds; or done, with the number of changes and the rows that came
+  -- a batch: opened; lines that it holds; or done, with the number of changes and of the rows that came and went
   batch_opened : Reply
-  row_held : ℕ → Reply
+  lines_held : ℕ → Reply
   batch_done : ℕ → ℕ → Reply
   -- a query: the most that an answer of it costs, or the edges of a rest
   registered : ℕ → Reply
@@ -106,7 +106,7 @@ reply_text (added n copies) = numbered_twice (codes "ok added ") n copies
 reply_text (removed n copies) = numbered_twice (codes "ok removed ") n copies
 reply_text (absent n) = numbered_line (codes "ok absent ") n
 reply_text batch_opened = line (codes "ok batch")
-reply_text (row_held n) = numbered_line (codes "ok held ") n
+reply_text (lines_held n) = numbered_line (codes "ok held ") n
 reply_text (batch_done n rows) = numbered_twice (codes "ok done ") n rows
 reply_text (registered most) = numbered_line (codes "ok query ") most
 reply_text (cyclic edges) = edges_line (codes "no cyclic") edges
@@ -176,7 +176,7 @@ abbrev pub IsPrinted : Reply → Type 0
 IsPrinted (added n copies) = IsNumber n × IsNumber copies
 IsPrinted (removed n copies) = IsNumber n × IsNumber copies
 IsPrinted (absent n) = IsNumber n
-IsPrinted (row_held n) = IsNumber n
+IsPrinted (lines_held n) = IsNumber n
 IsPrinted (batch_done n rows) = IsNumber n × IsNumber rows
 IsPrinted (registered most) = IsNumber most
 IsPrinted (cyclic edges) = is_rest edges ≡ true

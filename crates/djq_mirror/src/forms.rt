@@ -16,7 +16,7 @@ use djq_value::{is_name, is_text};
 pub(crate) fn is_fixed(line: &[u8]) -> bool
     ensures { result ≡ is_fixed_of line.now }
 {
-    let lines: [&[u8]; 29] = [
+    let lines: [&[u8]; 31] = [
         b"ok",
         b"ok batch",
         b"yes",
@@ -46,6 +46,8 @@ pub(crate) fn is_fixed(line: &[u8]) -> bool
         b"err 16 unbound",
         b"err 17 member",
         b"err 18 batch",
+        b"err 19 absent",
+        b"err 20 held",
     ];
     lines.contains(&line)
 }

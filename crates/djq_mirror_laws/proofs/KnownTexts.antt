@@ -1,5 +1,5 @@
 -- The texts that are known are texts that lines can say: those of rows, and of constants of queries.
-use Rattle.std.specs.Prelude.{ℕ, suc, ◌+◌, List, [], ◌∷◌, ◌==◌, ◌≡◌, ◌++◌, Bool, true, false, cond, nat_le, Option}
+use Rattle.std.specs.Prelude.{ℕ, suc, List, [], ◌∷◌, ◌==◌, ◌≡◌, ◌++◌, Bool, true, false, cond, nat_le, Option}
 use Rattle.std.specs.Prelude.{None, Some, is_some, Err, All}
 use Rattle.std.specs.List.{flat_map}
 use Rattle.std.proofs.Common.{refl, sym, subst, inl, inr}
@@ -11,17 +11,33 @@ use Rattle.djq_model.specs.declared.query.Atom.{Atom}
 use Rattle.djq_model.specs.declared.query.Term.{Term}
 use Rattle.djq_model.specs.declared.query.Term.TheVariants.{Variable, Hole, Constant}
 use Rattle.djq_model.specs.declared.query.Comparison.{Comparison}
-use Rattle.djq_model.specs.Data.{Bytes, Tuple, counted_of, with_row}
+use Rattle.djq_model.specs.declared.relation.Relation.{Relation}
+use Rattle.djq_model.specs.Data.{Bytes, Tuple}
 use Rattle.djq_model.specs.Known.{knows, learned, all_learned, texts_in}
 use Rattle.djq_protocol.specs.declared.answer.Refusal.{Refusal}
 use Rattle.djq_protocol.specs.declared.answer.Refusal.TheVariants.{Limit, NoMemory}
-use Rattle.djq_protocol.specs.declared.held.HeldRow.{HeldRow}
+use Rattle.djq_protocol.specs.declared.held.Verb.{Verb}
+use Rattle.djq_protocol.specs.declared.held.Verb.TheVariants.{Add, Delete}
+use Rattle.djq_protocol.specs.declared.held.LineRefusal.{LineRefusal}
+use Rattle.djq_protocol.specs.declared.held.LineRefusal.TheVariants.{
+  Limit as OverLimit,
+  Absent,
+  NoMemory as OutOfMemory,
+}
+use Rattle.djq_protocol.specs.declared.held.DoneRefusal.{DoneRefusal}
+use Rattle.djq_protocol.specs.declared.held.DoneRefusal.TheVariants.{
+  OtherNumber,
+  Line,
+  LastChange,
+  NoMemory as NoneLeft,
+}
 use Rattle.djq_protocol.specs.Conditions.{Answers}
 use Rattle.djq_protocol.specs.Variables.{constant_of, compared_behind, constants_from, constants_of}
 use Rattle.djq_store_spec.specs.Store.{Store}
-use Rattle.djq_store_spec.specs.Relations.{with_rows, RefusedByTexts}
-use Rattle.djq_store_spec.specs.Rows.{copies_of, with_copies_of}
-use Rattle.djq_store_spec.specs.Batch.{is_there, with_held, with_all, BatchStopsAt, RefusesBatch}
+use Rattle.djq_store_spec.specs.Relations.{RefusedByTexts}
+use Rattle.djq_store_spec.specs.Held.{HeldLine}
+use Rattle.djq_store_spec.specs.Judging.{texts_by, texts_added, texts_after, StopsAtLine}
+use Rattle.djq_store_spec.specs.Done.{RefusesDone}
 use Rattle.djq_mirror_laws.specs.Sayable.{IsSayableValue, IsSayableRow, IsSayableText, IsSayableTerm, IsSayableAtom}
 use Rattle.djq_mirror_laws.specs.Sayable.{IsSayableComparison, IsSayableQuery, IsSayableHeld}
 
@@ -119,43 +135,51 @@ from_said n (a ∷ more) cs atoms compared =
 pub constants_said : (q : Query) → IsSayableQuery q → All IsSayableText (texts_in (constants_of q))
 constants_said q said = row_texts (constants_of q) (from_said 0 q.atoms q.comparisons said.atoms said.comparisons)
 
--- ---- batches
+-- ---- lines that a batch holds
 
-held_texts : (st : Store) (h : HeldRow) → IsSayableHeld h → All IsSayableText st.texts
-    → All IsSayableText (with_held st h).texts
-held_texts st h said all = by (is_there st h)
+line_texts : (h : HeldLine) → IsSayableHeld h → All IsSayableText (texts_added h)
+line_texts h said = by h.verb
   where
-    by : (b : Bool) → All IsSayableText (cond b (record st {
-      relations = with_copies_of st.relations h.relation h.row (copies_of st h.relation h.row + 1);
-    }) (record st {
-      relations = with_rows st.relations h.relation (with_row (counted_of st.relations h.relation) h.row);
-      texts = all_learned st.texts (texts_in h.row);
-    })).texts
-    by true = all
-    by false = all_learned_said st.texts (texts_in h.row) (row_texts h.row said.row) all
+    by : (v : Verb) → All IsSayableText (texts_by v h.row)
+    by Add = row_texts h.row said.row
+    by Delete = All-nil IsSayableText
 
-pub all_held_texts : (st : Store) (held : List HeldRow) → All IsSayableHeld held → All IsSayableText st.texts
-    → All IsSayableText (with_all st held).texts
-all_held_texts st [] said all = all
-all_held_texts st (h ∷ hs) said all =
-    all_held_texts (with_held st h) hs (All-tail IsSayableHeld h hs said)
-    (held_texts st h (All-head IsSayableHeld h hs said) all)
+pub texts_after_said : (known : List Bytes) (lines : List HeldLine) → All IsSayableHeld lines
+    → All IsSayableText known
+    → All IsSayableText (texts_after known lines)
+texts_after_said known [] said all = all
+texts_after_said known (h ∷ hs) said all =
+    texts_after_said (all_learned known (texts_added h)) hs (All-tail IsSayableHeld h hs said)
+    (all_learned_said known (texts_added h) (line_texts h (All-head IsSayableHeld h hs said)) all)
 
-stop_texts : (st : Store) (h : HeldRow) (known : List Bytes) (r : Refusal) → BatchStopsAt st h known r
-    → IsSayableHeld h → All IsSayableText st.texts → All IsSayableText known
-stop_texts st h known Limit (inl stops) said all = subst (λ (ts : List Bytes). All IsSayableText ts) (sym stops.1) all
-stop_texts st h known Limit (inr stops) said all =
-    some_learned st.texts (stops.2).first ((stops.2).next ∷ (stops.2).rest) (texts_in h.row) known stops.2.parts
-    stops.2.learned (row_texts h.row said.row) all
-stop_texts st h known NoMemory stops said all =
-    some_learned st.texts (stops.1).first (stops.1).rest (texts_in h.row) known stops.1.parts stops.1.learned
-    (row_texts h.row said.row) all
-stop_texts st h known _ stops said all = absurd stops
+stop_texts : (relations : List Relation) (front : List HeldLine) (texts : List Bytes) (h : HeldLine)
+    (known : List Bytes) (r : LineRefusal)
+    → StopsAtLine relations front texts h known r → IsSayableHeld h → All IsSayableText texts
+    → All IsSayableText known
+stop_texts relations front texts h known OverLimit (inl stops) said all =
+    subst (λ (ts : List Bytes). All IsSayableText ts) (sym stops.1) all
+stop_texts relations front texts h known OverLimit (inr stops) said all =
+    some_learned texts (stops.1).first ((stops.1).next ∷ (stops.1).rest) (texts_added h) known stops.1.parts
+    stops.1.learned (line_texts h said) all
+stop_texts relations front texts h known Absent stops said all =
+    subst (λ (ts : List Bytes). All IsSayableText ts) (sym stops.1) all
+stop_texts relations front texts h known OutOfMemory stops said all =
+    some_learned texts (stops.2).first (stops.2).rest (texts_added h) known stops.2.parts stops.2.learned
+    (line_texts h said) all
 
-pub refused_texts : (old : Store) (held : List HeldRow) (r : Refusal) (new : Store) → RefusesBatch old held new r
-    → All IsSayableHeld held → All IsSayableText old.texts → All IsSayableText new.texts
-refused_texts old held r new h said all =
-    let parts = subst (λ (hs : List HeldRow). All IsSayableHeld hs) h.parts said in
+pub refused_texts : (relations : List Relation) (texts : List Bytes) (lines : List HeldLine) (known : List Bytes)
+    (r : DoneRefusal)
+    → RefusesDone relations texts lines known r → All IsSayableHeld lines → All IsSayableText texts
+    → All IsSayableText known
+refused_texts relations texts lines known OtherNumber h said all =
+    subst (λ (ts : List Bytes). All IsSayableText ts) (sym h) all
+refused_texts relations texts lines known (Line r) h said all =
+    let parts = subst (λ (hs : List HeldLine). All IsSayableHeld hs) h.parts said in
     let behind = rest_said IsSayableHeld h.front (h.at ∷ h.rest) parts in
-    stop_texts (with_all old h.front) h.at new.texts r h.stops (All-head IsSayableHeld h.at h.rest behind)
-    (all_held_texts old h.front (first_said IsSayableHeld h.front (h.at ∷ h.rest) parts) all)
+    stop_texts relations h.front (texts_after texts h.front) h.at known r.refusal h.stops
+    (All-head IsSayableHeld h.at h.rest behind)
+    (texts_after_said texts h.front (first_said IsSayableHeld h.front (h.at ∷ h.rest) parts) all)
+refused_texts relations texts lines known LastChange h said all =
+    subst (λ (ts : List Bytes). All IsSayableText ts) (sym h) (texts_after_said texts lines said all)
+refused_texts relations texts lines known NoneLeft h said all =
+    subst (λ (ts : List Bytes). All IsSayableText ts) (sym h) (texts_after_said texts lines said all)

@@ -1,6 +1,6 @@
 -- What a mirror makes of all that a session was ever sent.
 use Rattle.std.specs.Prelude.{ℕ, List, [], ◌∷◌, ◌++◌, ◌==◌, ◌≡◌, ◌&&◌, Bool, true, false, cond, Option, None, Some}
-use Rattle.std.specs.Prelude.{MatchOption, All, IsSomeAnd, ◌<◌, ◌⊎◌, AllPairs}
+use Rattle.std.specs.Prelude.{MatchOption, option_map, All, IsSomeAnd, ◌<◌, ◌⊎◌, AllPairs}
 use Rattle.std.proofs.Common.{refl, sym, ap, ap₂, ◌∙◌, subst, inr, append-nil, inl, arith, append_assoc}
 use Rattle.std.proofs.lemmas.Grind.{flat_map-append}
 use Rattle.std.proofs.lemmas.List.Elements.{All-nil, All-cons, All-append, All-head, All-tail, All-contains, All-weaker}
@@ -10,24 +10,28 @@ use Rattle.djq_model.specs.Listed.{Listed, listed_name}
 use Rattle.djq_protocol.specs.declared.answer.EndLine.TheVariants.{Long as long_line, Slow as slow_line}
 use Rattle.djq_protocol.specs.declared.answer.EndLine.TheVariants.{Memory as memory_line}
 use Rattle.djq_protocol.specs.declared.command.Command.{Command}
-use Rattle.djq_protocol.specs.declared.held.HeldRow.{HeldRow}
-use Rattle.djq_protocol.specs.declared.command.Command.TheVariants.{Add, Del, Done, Open, Next, Explain}
+use Rattle.djq_protocol.specs.declared.held.Verb.{Verb}
+use Rattle.djq_protocol.specs.declared.held.Verb.TheVariants.{Add as Adds, Delete as Deletes}
+use Rattle.djq_protocol.specs.declared.command.Command.TheVariants.{Add, Del, Done, Open, Next, Explain, Quit, Stop}
 use Rattle.djq_protocol.specs.declared.answer.EndCause.{EndCause}
-use Rattle.djq_protocol.specs.Grammar.{Reading, outside, past_limit, says_command, reading_of}
-use Rattle.djq_protocol.specs.Reply.{end_long, end_slow, end_memory}
+use Rattle.djq_protocol.specs.declared.answer.EndCause.TheVariants.{Quit as SaidQuit, Stop as SaidStop}
+use Rattle.djq_protocol.specs.declared.answer.Refusal.TheVariants.{NoMemory, Misplaced}
+use Rattle.djq_protocol.specs.Grammar.{Reading, outside, past_limit, says_command, reading_of, takes_memory_to_read}
+use Rattle.djq_protocol.specs.Reply.{end_long, end_slow, end_memory, bye as bye_line}
 use Rattle.djq_mirror.specs.Replies.{Reply, ended as is_ended}
 use Rattle.djq_mirror.specs.Mirror.{Held, at_first}
 use Rattle.djq_mirror.specs.Inputs.{HoldsAtEnd}
 use Rattle.djq_store_spec.specs.Store.{Store}
 use Rattle.djq_store_spec.specs.Changes.{RowsOutcome, is_made, row_in, row_out, add_outcome, delete_outcome}
 use Rattle.djq_store_spec.specs.DeltaCost.{Delta}
-use Rattle.djq_store_spec.specs.Batch.{batch_outcome}
+use Rattle.djq_store_spec.specs.Held.{HeldTransaction}
+use Rattle.djq_store_spec.specs.Transaction.{lines_outcome}
 use Rattle.djq_answer_laws.proofs.Lists.{some_there}
-use Rattle.djq_machine.specs.State.{State, Session, session_of, with_session}
-use Rattle.djq_machine.specs.Effect.{Effect}
+use Rattle.djq_machine.specs.State.{State, Session, session_of, with_session, ended_by}
+use Rattle.djq_machine.specs.Effect.{Effect, lost_line, RefusedStep}
 use Rattle.djq_machine.specs.Watch.{ChangeStep}
 use Rattle.djq_machine.specs.LineStep.{LineOutcome, long, blank, slow, no_room, run, ReadStep, FrontStep, behind_line}
-use Rattle.djq_machine.specs.Command.{without_batch, AddStep, HoldStep, DoneStep, CommandStep}
+use Rattle.djq_machine.specs.Command.{without_batch, AddStep, DeleteStep, HoldStep, DoneStep, is_misplaced, CommandStep}
 use Rattle.djq_machine.specs.Step.{Event, opened, fed, stepped, took, ended, closed, FedStep, TookStep, EndedStep, Acts}
 use Rattle.djq_machine.specs.Step.{Step}
 use Rattle.djq_machine.specs.Gives.{CursorsGive}
@@ -44,7 +48,7 @@ use Rattle.djq_run_laws.proofs.Deltas.{change_store, some_of}
 use Rattle.djq_run_laws.proofs.Forms.{Reads as LineReads, turned_down, carried_out, line_reads}
 use Rattle.djq_run_laws.proofs.Cursors.{step_gives, runs_give}
 use Rattle.djq_run_laws.proofs.CursorListings.{nothing_given}
-use Rattle.djq_run_laws.proofs.Lists.{stepped_cause, stepped_open, found_there, found_passes}
+use Rattle.djq_run_laws.proofs.Lists.{session_changed, stepped_cause, stepped_open, found_there, found_passes}
 use Rattle.djq_run_laws.proofs.SoundStates.{step_sound, states_are_sound, runs_keep_sound, start_sound}
 use Rattle.djq_run_laws.proofs.Courses.{ended_facts, walk_then}
 use Rattle.djq_run_laws.proofs.EndedSessions.{closed_is_over, over_is_silent, all_above, all_apart, behind}
@@ -54,7 +58,7 @@ use Rattle.djq_mirror_laws.specs.Sayable.{IsSayableStore, IsSayableState}
 use Rattle.djq_mirror_laws.specs.Told.{replies_text}
 use Rattle.djq_mirror_laws.specs.Mirrored.{RepliesPass, IsMirrored, SessionReads, ReadersAreReadBack, AsksNoListing}
 use Rattle.djq_mirror_laws.specs.Mirrored.{SaysNoListing, WaitsAlong, ReadersAreMirrored, StartsAreMirrored, EndsNow}
-use Rattle.djq_mirror_laws.specs.Mirrored.{EndsAreMirrored, WaitsStep, IsReadBack}
+use Rattle.djq_mirror_laws.specs.Mirrored.{EndsAreMirrored, WaitsStep, IsReadBack, SaysItLeaves}
 use Rattle.djq_mirror_laws.specs.Whole.{LeavesOff, SessionsAreReadBack, GoesOnBehind, ReadsSinceOpened, OpensOnceOnly}
 use Rattle.djq_mirror_laws.specs.Whole.{OpenedAreReadBack}
 use Rattle.djq_mirror_laws.proofs.Deltas.{all_heard, own_replies, text_append, change_heard}
@@ -63,12 +67,13 @@ use Rattle.djq_mirror_laws.proofs.MirrorSteps.{IsWell, watchers_are_well}
 use Rattle.djq_mirror_laws.proofs.MirrorReplies.{passes_then, passes_told}
 use Rattle.djq_mirror_laws.proofs.StoredNames.{IsFine}
 use Rattle.djq_mirror_laws.proofs.Replies.{ExplainsNone, IsPlain, IsHarmless, Fits, OfForm, of_form, any_talk, talks}
-use Rattle.djq_mirror_laws.proofs.Replies.{held_replies, command_replies, refused_replies, none_of}
+use Rattle.djq_mirror_laws.proofs.Replies.{held_replies, command_replies, refused_replies, none_of, still_lines}
+use Rattle.djq_mirror_laws.proofs.Replies.{leaves_still}
 use Rattle.djq_mirror_laws.proofs.SayableStates.{step_sayable, states_are_sayable}
 use Rattle.djq_mirror_laws.proofs.WatcherRuns.{ExplainsNothing, own_fine, Tame, tame_fits, reading_talks, event_talks}
-use Rattle.djq_mirror_laws.proofs.WatcherRuns.{IsQuiet, Plain, quiet_to, ends_quiet, nothing_quiet, fed_quiet}
+use Rattle.djq_mirror_laws.proofs.WatcherRuns.{IsQuiet, Plain, quietly, quiet_to, ends_quiet, nothing_quiet, fed_quiet}
 use Rattle.djq_mirror_laws.proofs.WatcherRuns.{ended_quiet, changed_session, changed_rising, few_held, added_form}
-use Rattle.djq_mirror_laws.proofs.WatcherRuns.{deleted_form, batched_form, seq_small}
+use Rattle.djq_mirror_laws.proofs.WatcherRuns.{deleted_form, lines_form, seq_small}
 
 -- ---- What a session is sent before it watches a query, and as it ends.
 
@@ -110,8 +115,15 @@ module _ (s : ℕ) (old : State) (x : Session) (is : session_of old s ≡ Some x
   abbrev PlainOf : Reading → Type 0
   PlainOf r = Plain s e.queued ((t == s) && reading_talks r) (Fits s t old.store y r e mid.store)
 
-  add_plain : (name : Bytes) (row : Tuple) (batch : Option (List HeldRow))
-      → MatchOption batch (AddStep old t name row e mid) (λ held. HoldStep old t held l name row e mid)
+  held_plain : (r : Reading) (held : HeldTransaction) (verb : Verb) (name : Bytes) (row : Tuple)
+      → reading_talks r ≡ false
+      → HoldStep old t held l verb name row e mid → PlainOf r
+  held_plain r held verb name row none h =
+      quiet_to s e.queued ((t == s) && reading_talks r)
+      (inr (t, false, held_replies old t held l verb name row e mid h, ap (λ (b : Bool). (t == s) && b) none))
+
+  add_plain : (name : Bytes) (row : Tuple) (batch : Option HeldTransaction)
+      → MatchOption batch (AddStep old t name row e mid) (λ held. HoldStep old t held l Adds name row e mid)
       → PlainOf (says_command (Add name row))
   add_plain name row None h =
       let left = change_store old t _ h.store _ e mid h.change in
@@ -119,27 +131,12 @@ module _ (s : ℕ) (old : State) (x : Session) (is : session_of old s ≡ Some x
       (Fits s t old.store y (says_command (Add name row)) e mid.store)
       (added_form old.store name row h.result h.store h.done (λ u. seq_small h.store mid left u.behind))
       h.change running ((t == s) && false)
-  add_plain name row (Some held) h =
-      quiet_to s e.queued ((t == s) && false)
-      (inr (t, false, held_replies old t (Some held) l name row e mid refl h, refl))
+  add_plain name row (Some held) h = held_plain (says_command (Add name row)) held Adds name row refl h
 
-  done_plain : (batch : Option (List HeldRow)) → y.batch ≡ batch
-      → MatchOption batch ⊥ (λ held. DoneStep old t held e mid)
-      → PlainOf (says_command Done)
-  done_plain None at h = absurd h
-  done_plain (Some held) at h =
-      let begun = with_session old t without_batch in
-      let z = changed_session old t without_batch (λ k. refl) (λ k. refl) s x is in
-      let left = change_store begun t _ h.store _ e mid h.change in
-      change_plain s begun z.0 z.1 (changed_rising old t without_batch (λ k. refl) rising) (z.2 ∙ none) t
-      (batch_outcome old.store held h.result) h.store _ e mid (Fits s t old.store y (says_command Done) e mid.store)
-      (batched_form old.store held h.result h.store h.done (λ u. few_held y.batch held at u.few)
-      (λ u. seq_small h.store mid left u.behind)) h.change running ((t == s) && false)
-
-  command_plain : (c : Command) → CommandStep old t y l c e mid → PlainOf (says_command c)
-  command_plain (Add name row) h = add_plain name row y.batch h
-  command_plain Done h = done_plain y.batch refl h
-  command_plain (Del name row) h =
+  delete_plain : (name : Bytes) (row : Tuple) (batch : Option HeldTransaction)
+      → MatchOption batch (DeleteStep old t name row e mid) (λ held. HoldStep old t held l Deletes name row e mid)
+      → PlainOf (says_command (Del name row))
+  delete_plain name row None h =
       let left = change_store old t _ h.store _ e mid h.change in
       change_plain s old x is rising none t (delete_outcome (row_out old.store.relations name row) h.result) h.store _ e
       mid
@@ -147,6 +144,26 @@ module _ (s : ℕ) (old : State) (x : Session) (is : session_of old s ≡ Some x
       (deleted_form old.store name row h.result h.store h.done (λ u. u.sound)
       (λ u. seq_small h.store mid left u.behind))
       h.change running ((t == s) && false)
+  delete_plain name row (Some held) h = held_plain (says_command (Del name row)) held Deletes name row refl h
+
+  done_plain : (given : Option ℕ) (batch : Option HeldTransaction) → y.batch ≡ batch
+      → MatchOption batch ⊥ (λ held. DoneStep old t held given e mid)
+      → PlainOf (says_command (Done given))
+  done_plain given None at h = absurd h
+  done_plain given (Some held) at h =
+      let begun = with_session old t without_batch in
+      let z = changed_session old t without_batch (λ k. refl) (λ k. refl) s x is in
+      let left = change_store begun t _ h.store _ e mid h.change in
+      change_plain s begun z.0 z.1 (changed_rising old t without_batch (λ k. refl) rising) (z.2 ∙ none) t
+      (lines_outcome old.store.relations held.lines h.result) h.store _ e mid
+      (Fits s t old.store y (says_command (Done given)) e mid.store)
+      (lines_form old.store held given h.result h.store h.done (λ u. few_held y.batch held at u.few)
+      (λ u. seq_small h.store mid left u.behind)) h.change running ((t == s) && false)
+
+  command_plain : (c : Command) → CommandStep old t y l c e mid → PlainOf (says_command c)
+  command_plain (Add name row) h = add_plain name row y.batch h
+  command_plain (Del name row) h = delete_plain name row y.batch h
+  command_plain (Done given) h = done_plain given y.batch refl h
   command_plain c h =
       quiet_to s e.queued ((t == s) && talks c) (inr (t, talks c, command_replies s old t y l c e mid tt h, refl))
 
@@ -349,15 +366,82 @@ starts_are_mirrored start h said q s earlier first walk fore old done new reads 
 
 -- ---- as it ends
 
+-- `quit` and `stop`: the lines of a batch are dropped, and the session has a cause
+record SaidGoodbye (old : State) (t : ℕ) (x : Session) (e : Effect) (new : State) : Type 0 where
+  queued : e.queued ≡ (t, lost_line x.batch ++ bye_line) ∷ []
+  cause : EndCause
+  from : State
+  there : session_of from t ≡ session_of old t
+  state : new ≡ with_session from t (ended_by cause)
+
+-- what a command comes to, by whether it is misplaced
+abbrev IfRead : State → ℕ → Session → Bytes → Command → Effect → State → Bool → Type 0
+IfRead old t x l c e new true = CommandStep old t x l c e new
+IfRead old t x l c e new false = (takes_memory_to_read c ≡ true) × RefusedStep old t NoMemory e new
+
+abbrev IsDone : State → ℕ → Session → Bytes → Command → Effect → State → Bool → Type 0
+IsDone old t x l c e new true = RefusedStep old t Misplaced e new
+IsDone old t x l c e new false = (is_read : Bool) × IfRead old t x l c e new is_read
+
+never_refused : (old : State) (t : ℕ) (x : Session) (l : Bytes) (c : Command) (e : Effect) (new : State)
+    → is_misplaced x.batch c ≡ false → takes_memory_to_read c ≡ false
+    → ReadStep old t x l (says_command c) e new → CommandStep old t x l c e new
+never_refused old t x l c e new placed reads h = by (is_misplaced x.batch c) placed h
+  where
+    by : (b : Bool) → b ≡ false → IsDone old t x l c e new b → CommandStep old t x l c e new
+    by true k h = absurd cc
+    by false k (true, h) = h
+    by false k (false, h) = let both : true ≡ false = sym h.0 ∙ reads in absurd cc
+
+quit_placed : (o : Option HeldTransaction) → is_misplaced o Quit ≡ false
+quit_placed None = refl
+quit_placed (Some held) = refl
+
+stop_placed : (o : Option HeldTransaction) → is_misplaced o Stop ≡ false
+stop_placed None = refl
+stop_placed (Some held) = refl
+
+says_goodbye : (old : State) (t : ℕ) (x : Session) (l : Bytes) (r : Reading) (e : Effect) (new : State) → SaysItLeaves r
+    → ReadStep old t x l r e new → SaidGoodbye old t x e new
+says_goodbye old t x l (says_command Quit) e new says h =
+    let k = never_refused old t x l Quit e new (quit_placed x.batch) refl h in record {
+      queued = ap (λ (y : Effect). y.queued) k.0;
+      cause = SaidQuit;
+      from = old;
+      there = refl;
+      state = k.1;
+    }
+says_goodbye old t x l (says_command Stop) e new says h =
+    let k = never_refused old t x l Stop e new (stop_placed x.batch) refl h in record {
+      queued = ap (λ (y : Effect). y.queued) k.0;
+      cause = SaidStop;
+      from = record old { stopped = true };
+      there = refl;
+      state = k.1;
+    }
+says_goodbye old t x l (says_command c) e new says h = absurd says
+says_goodbye old t x l outside e new says h = absurd says
+says_goodbye old t x l (past_limit c) e new says h = absurd says
+
 end_quiet : {U : Type 0} (s : ℕ) (old : State) (event : Event) (e : Effect) (mid : State) → EndsNow s event
     → Acts old event e mid
     → IsQuiet s e.queued false U
 end_quiet s old (ended t) e mid now h =
     let f = some_there (session_of old t) (λ z. EndedStep old t z e mid) h in ended_quiet s old t f.0 e mid f.2
 end_quiet s old (closed t bytes) e mid now h = nothing_quiet s e h.0
+end_quiet s old (stepped t (run l)) e mid now h =
+    let f = some_there (session_of old t) (λ z. (z.cause ≡ None) × FrontStep old t z (run l) e mid) h in
+    let rest = f.2.1.2.rest in
+    let k = says_goodbye (with_session old t (behind_line rest)) t (behind_line rest f.0) l (reading_of l) e mid now.1
+    f.2.1.2.then in
+    quietly s t e.queued
+    (still_lines t (lost_line (f.0).batch ++ bye_line) e.queued (leaves_still (f.0).batch) k.queued)
+end_quiet s old (stepped t long) e mid now h = absurd now
+end_quiet s old (stepped t (blank l)) e mid now h = absurd now
+end_quiet s old (stepped t (slow l)) e mid now h = absurd now
+end_quiet s old (stepped t (no_room l)) e mid now h = absurd now
 end_quiet s old (opened t) e mid now h = absurd now
 end_quiet s old (fed t bytes) e mid now h = absurd now
-end_quiet s old (stepped t outcome) e mid now h = absurd now
 end_quiet s old (took t bytes) e mid now h = absurd now
 
 module _ (q : Listed) (s : ℕ) (done : List Did) (new : State) (m : IsMirrored q s done new) (d : Did) (last : State)
@@ -427,9 +511,24 @@ ends_over s old (ended t) e new h now =
     by (had_ended there c was cause held pending) = caused_over new t c cause
 ends_over s old (closed t bytes) e new h now =
     subst (λ (i : ℕ). SessionIsOver new i) now (closed_is_over old t bytes e new h)
+ends_over s old (stepped t (run l)) e new h now =
+    let f = some_there (session_of old t) (λ z. (z.cause ≡ None) × FrontStep old t z (run l) e (h.mid)) h.acts in
+    let rest = f.2.1.2.rest in
+    let k = says_goodbye (with_session old t (behind_line rest)) t (behind_line rest f.0) l (reading_of l) e (h.mid)
+    now.1 f.2.1.2.then in
+    let here : session_of k.from t ≡ Some (behind_line rest f.0) =
+    k.there ∙ session_changed old t (behind_line rest) (λ y. refl) ∙ ap (λ o. option_map (behind_line rest) o) f.1 in
+    let caused : cause_of (h.mid) t ≡ Some k.cause =
+    ap (λ st. cause_of st t) k.state ∙ ap cause_in (session_changed k.from t (ended_by k.cause) (λ y. refl))
+    ∙ ap (λ o. cause_in (option_map (ended_by k.cause) o)) here in
+    subst (λ (i : ℕ). SessionIsOver new i) now.0
+    (caused_over new t k.cause (stepped_cause old (stepped t (run l)) e new h t ∙ caused))
+ends_over s old (stepped t long) e new h now = absurd now
+ends_over s old (stepped t (blank l)) e new h now = absurd now
+ends_over s old (stepped t (slow l)) e new h now = absurd now
+ends_over s old (stepped t (no_room l)) e new h now = absurd now
 ends_over s old (opened t) e new h now = absurd now
 ends_over s old (fed t bytes) e new h now = absurd now
-ends_over s old (stepped t outcome) e new h now = absurd now
 ends_over s old (took t bytes) e new h now = absurd now
 
 -- the same bytes
@@ -579,9 +678,14 @@ ends_open s old (ended t) e new h now =
     let f = some_there (session_of old t) _ h.acts in subst (λ (i : ℕ). IsOpen old i) now (rw f.1 refl)
 ends_open s old (closed t bytes) e new h now =
     let f = some_there (session_of old t) _ h.acts.1 in subst (λ (i : ℕ). IsOpen old i) now (rw f.1 refl)
+ends_open s old (stepped t (run l)) e new h now =
+    let f = some_there (session_of old t) _ h.acts in subst (λ (i : ℕ). IsOpen old i) now.0 (rw f.1 refl)
+ends_open s old (stepped t long) e new h now = absurd now
+ends_open s old (stepped t (blank l)) e new h now = absurd now
+ends_open s old (stepped t (slow l)) e new h now = absurd now
+ends_open s old (stepped t (no_room l)) e new h now = absurd now
 ends_open s old (opened t) e new h now = absurd now
 ends_open s old (fed t bytes) e new h now = absurd now
-ends_open s old (stepped t outcome) e new h now = absurd now
 ends_open s old (took t bytes) e new h now = absurd now
 
 -- ---- once

@@ -14,7 +14,6 @@ use Rattle.djq_protocol.specs.declared.limits.TheConstants.{CURSORS}
 use Rattle.djq_protocol.specs.declared.answer.EndCause.TheVariants.{Memory}
 use Rattle.djq_protocol.specs.declared.answer.Refusal.{Refusal}
 use Rattle.djq_protocol.specs.declared.answer.Refusal.TheVariants.{Taken, NoQuery, NoCursor, Limit}
-use Rattle.djq_protocol.specs.declared.held.HeldRow.{HeldRow}
 use Rattle.djq_protocol.specs.declared.command.Command.{Command}
 use Rattle.djq_protocol.specs.declared.command.Command.TheVariants.{Open, Next, Explain}
 use Rattle.djq_protocol.specs.Conditions.{first_refusal, Answers, OutOfMemoryWhere}
@@ -25,6 +24,7 @@ use Rattle.djq_mirror.specs.Replies.{Reply, opened as cursor_opened, answer, mor
 use Rattle.djq_mirror.specs.Replies.{stale as gone_stale, refused, reply_text}
 use Rattle.djq_mirror.specs.Mirror.{Held, at_first, keep, turn_of}
 use Rattle.djq_store_spec.specs.Store.{Position, open_at, stale}
+use Rattle.djq_store_spec.specs.Held.{HeldTransaction}
 use Rattle.djq_answer_laws.proofs.Decisions.{answers_are_decided}
 use Rattle.djq_answer_laws.proofs.Lists.{some_there, nothing_of}
 use Rattle.djq_machine.specs.State.{State, Session, Cursor, session_of, with_session, cursor_of, with_position}
@@ -650,7 +650,7 @@ module _ (q : Listed) (s : ℕ) (old : State) (e : Effect) (new : State) (held :
         (subst (λ (p : Listed). NextStepAt now s c p count k.position e (step.mid)) one f.2)
 
   -- a line that opens or reads a cursor changes no rows
-  talk_changes : (batch : Option (List HeldRow)) (c : Command) → talks c ≡ true
+  talk_changes : (batch : Option HeldTransaction) (c : Command) → talks c ≡ true
       → is_some (line_outdater old.store batch (says_command c) q) ≡ false
   talk_changes batch (Open c p) k = refl
   talk_changes batch (Next c count) k = refl

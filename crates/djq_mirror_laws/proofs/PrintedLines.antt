@@ -23,10 +23,11 @@ use Rattle.djq_protocol.specs.declared.answer.Sign.TheVariants.{Came, Went}
 use Rattle.djq_protocol.specs.declared.answer.Refusal.TheVariants.{Syntax, Taken, NoRelation, NoQuery, NoCursor, Arity}
 use Rattle.djq_protocol.specs.declared.answer.Refusal.TheVariants.{WrongType, HeadUnbound, HeadRepeated, VariableType}
 use Rattle.djq_protocol.specs.declared.answer.Refusal.TheVariants.{Limit, NoMemory, InUse, Unbound, Member, Misplaced}
+use Rattle.djq_protocol.specs.declared.answer.Refusal.TheVariants.{NoCopy, OtherCount}
 use Rattle.djq_protocol.specs.Reply.{line, cells_text, sign_text}
 use Rattle.djq_mirror.specs.declared.mode.TheConstants.{REPLY_LINE_BYTES}
 use Rattle.djq_mirror.specs.Inputs.{HasNoLf, lines_text, FollowsAll}
-use Rattle.djq_mirror.specs.Replies.{Reply, done, opened, added, removed, absent, batch_opened, row_held, batch_done}
+use Rattle.djq_mirror.specs.Replies.{Reply, done, opened, added, removed, absent, batch_opened, lines_held, batch_done}
 use Rattle.djq_mirror.specs.Replies.{registered, cyclic, not_connex, answer, more, last, stale, united, member, had}
 use Rattle.djq_mirror.specs.Replies.{shaped, watched, changed, counted, explained, refused, ended, cut, bye, joined}
 use Rattle.djq_mirror.specs.Replies.{reply_text, IsNumber, is_cell, are_cells, is_printed_variable, is_label, is_edge}
@@ -239,8 +240,8 @@ printed_are_lines (removed n m) p few =
 printed_are_lines (absent n) p few =
     words_number (absent n) (codes "ok absent ") n refl (plain_bytes (codes "ok absent ") refl) (omega arith) p
 printed_are_lines batch_opened p few = fixed batch_opened (codes "ok batch") refl refl (omega arith)
-printed_are_lines (row_held n) p few =
-    words_number (row_held n) (codes "ok held ") n refl (plain_bytes (codes "ok held ") refl) (omega arith) p
+printed_are_lines (lines_held n) p few =
+    words_number (lines_held n) (codes "ok held ") n refl (plain_bytes (codes "ok held ") refl) (omega arith) p
 printed_are_lines (batch_done n rows) p few =
     words_numbers (batch_done n rows) (codes "ok done ") n rows refl (plain_bytes (codes "ok done ") refl) (omega arith)
     p.0 p.1
@@ -321,6 +322,8 @@ printed_are_lines (refused InUse) p few = fixed (refused InUse) (codes "err 14 i
 printed_are_lines (refused Unbound) p few = fixed (refused Unbound) (codes "err 16 unbound") refl refl (omega arith)
 printed_are_lines (refused Member) p few = fixed (refused Member) (codes "err 17 member") refl refl (omega arith)
 printed_are_lines (refused Misplaced) p few = fixed (refused Misplaced) (codes "err 18 batch") refl refl (omega arith)
+printed_are_lines (refused NoCopy) p few = fixed (refused NoCopy) (codes "err 19 absent") refl refl (omega arith)
+printed_are_lines (refused OtherCount) p few = fixed (refused OtherCount) (codes "err 20 held") refl refl (omega arith)
 printed_are_lines (ended Long) p few = fixed (ended Long) (codes "end long") refl refl (omega arith)
 printed_are_lines (ended Slow) p few = fixed (ended Slow) (codes "end slow") refl refl (omega arith)
 printed_are_lines (ended Memory) p few = fixed (ended Memory) (codes "end memory") refl refl (omega arith)

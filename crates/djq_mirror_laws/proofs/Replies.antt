@@ -1,11 +1,11 @@
 -- What each command that changes no rows is answered, by the forms of replies.
-use Rattle.std.specs.Prelude.{ℕ, List, [], ◌∷◌, ◌++◌, ◌==◌, ◌≡◌, ◌≤◌, ◌+◌, nat_le, ⊤, Bool, true, false, cond, Option}
+use Rattle.std.specs.Prelude.{ℕ, List, [], ◌∷◌, ◌++◌, ◌==◌, ◌≡◌, ◌≤◌, ◌+◌, ⊤, Bool, true, false, not, cond, Option}
 use Rattle.std.specs.Prelude.{None, Some, IsSome, IfSome, IsSomeAnd, MatchOption, Result, Ok, Err, map, codes, filter}
 use Rattle.std.specs.Prelude.{length, All}
 use Rattle.std.specs.List.{flat_map}
 use Rattle.std.specs.Fmt.{decimal}
 use Rattle.std.proofs.Common.{refl, sym, ap, ap₂, ◌∙◌, subst, inl, inr, arith, append_assoc, append-nil}
-use Rattle.std.proofs.lemmas.Bool.{leb-false}
+use Rattle.std.proofs.lemmas.Bool.{and_parts, ltb-true, not-false}
 use Rattle.std.proofs.lemmas.List.Elements.{All-nil, All-cons, All-head, All-tail, All-append}
 use Rattle.djq_hypergraph.specs.Hypergraph.{numbers_below}
 use Rattle.djq_hypergraph.specs.Naming.{name_at, edge_text, comma_listed}
@@ -19,7 +19,7 @@ use Rattle.djq_tree.specs.Tree.{Tree, node_at, is_out}
 use Rattle.djq_tree.specs.Explaining.{label_text, node_text, line_text, end_text}
 use Rattle.djq_protocol.specs.declared.answer.EndLine.TheVariants.{Memory}
 use Rattle.djq_protocol.specs.declared.answer.Refusal.{Refusal}
-use Rattle.djq_protocol.specs.declared.answer.Refusal.TheVariants.{NoCursor, NoQuery, Limit}
+use Rattle.djq_protocol.specs.declared.answer.Refusal.TheVariants.{NoCursor, NoQuery, Limit, Misplaced}
 use Rattle.djq_protocol.specs.declared.answer.AddOutcome.{AddOutcome}
 use Rattle.djq_protocol.specs.declared.answer.AddOutcome.TheVariants.{First, More}
 use Rattle.djq_protocol.specs.declared.answer.DeleteOutcome.{DeleteOutcome}
@@ -32,7 +32,9 @@ use Rattle.djq_protocol.specs.declared.command.Command.{Command}
 use Rattle.djq_protocol.specs.declared.command.Command.TheVariants.{Rel, Add, Del, Query as Register, Union, Drop, Open}
 use Rattle.djq_protocol.specs.declared.command.Command.TheVariants.{Next, Close, Has, Watch, Unwatch, Explain}
 use Rattle.djq_protocol.specs.declared.command.Command.TheVariants.{Shape as AskShape, Batch, Done, Abandon, Quit, Stop}
-use Rattle.djq_protocol.specs.declared.held.HeldRow.{HeldRow}
+use Rattle.djq_protocol.specs.declared.held.DoneRefusal.{DoneRefusal}
+use Rattle.djq_protocol.specs.declared.held.Verb.{Verb}
+use Rattle.djq_protocol.specs.declared.held.Verb.TheVariants.{Add as Adds, Delete as Deletes}
 use Rattle.djq_protocol.specs.declared.limits.TheConstants.{LINE_BYTES, HELD}
 use Rattle.djq_protocol.specs.Grammar.{Reading, says_command}
 use Rattle.djq_protocol.specs.Conditions.{Answers, OutOfMemoryWhere}
@@ -40,24 +42,26 @@ use Rattle.djq_protocol.specs.Hypergraph.{edges_of, head_of, variable_names}
 use Rattle.djq_protocol.specs.Reply.{cells_text, line, text_of, answer_line, last_line, listing_lines, ok_reply}
 use Rattle.djq_protocol.specs.Reply.{add_reply, delete_reply, query_reply, union_reply, member_line, has_reply}
 use Rattle.djq_protocol.specs.Reply.{shape_reply, watch_reply, held_reply, done_reply, edges_text, rest_line}
-use Rattle.djq_protocol.specs.Reply.{end_memory}
+use Rattle.djq_protocol.specs.Reply.{end_memory, done_word, bye as bye_line}
 use Rattle.djq_mirror.specs.declared.mode.Mode.{Mode}
 use Rattle.djq_mirror.specs.declared.mode.Mode.TheVariants.{Idle, Listing, Live}
 use Rattle.djq_mirror.specs.Replies.{Reply, Node, leaf, trim, meet, done, opened as cursor_opened, added, removed}
-use Rattle.djq_mirror.specs.Replies.{absent, batch_opened, row_held, batch_done, registered, cyclic, not_connex, answer}
+use Rattle.djq_mirror.specs.Replies.{absent, batch_opened, lines_held, batch_done, registered, cyclic, not_connex}
+use Rattle.djq_mirror.specs.Replies.{answer}
 use Rattle.djq_mirror.specs.Replies.{more, last, stale as gone_stale, united, member, had, shaped, watched, changed}
 use Rattle.djq_mirror.specs.Replies.{counted, explained, refused, ended as is_ended, bye, joined, edges_line}
 use Rattle.djq_mirror.specs.Replies.{reply_text, IsNumber, label_of, node_of}
 use Rattle.djq_mirror.specs.Mirror.{Act, keep, turn_of, turn_of_change, turn_of_count}
 use Rattle.djq_store_spec.specs.Store.{Store, Position, open_at, stale}
-use Rattle.djq_store_spec.specs.Batch.{hold_refusal, AddsBatch}
+use Rattle.djq_store_spec.specs.Held.{HeldLine, HeldTransaction, has_room}
+use Rattle.djq_store_spec.specs.Transaction.{hold_refusal, DoesAll}
 use Rattle.djq_store_spec.specs.Rows.{row_refusals}
 use Rattle.djq_store_spec.specs.Registering.{RegistersQuery, RegistersAs, RefusedLate, query_refusal}
 use Rattle.djq_answer_laws.proofs.Lists.{some_there}
 use Rattle.djq_machine.specs.State.{State, Session, Cursor, cursor_of}
-use Rattle.djq_machine.specs.Effect.{Effect, RefusedStep}
-use Rattle.djq_machine.specs.Command.{AddStep, HoldStep, QueryStep, NextStepAt, CloseStep, ExplainStepOf, TellsLines}
-use Rattle.djq_machine.specs.Command.{explain_lines, union_lines, CommandStep}
+use Rattle.djq_machine.specs.Effect.{Effect, lost_line, RefusedStep}
+use Rattle.djq_machine.specs.Command.{AddStep, DeleteStep, HoldStep, QueryStep, NextStepAt, CloseStep, ExplainStepOf}
+use Rattle.djq_machine.specs.Command.{TellsLines, explain_lines, union_lines, CommandStep}
 use Rattle.djq_run_laws.specs.Sound.{IsSoundStore}
 use Rattle.djq_run_laws.proofs.Lists.{all_found}
 use Rattle.djq_run_laws.proofs.Forms.{done_of, none_holds, all_fail}
@@ -65,7 +69,7 @@ use Rattle.djq_mirror_laws.specs.Sayable.{IsSayableQuery, IsSayableListed, IsSay
 use Rattle.djq_mirror_laws.specs.Sayable.{IsSayableCursor, IsSayableSession}
 use Rattle.djq_mirror_laws.specs.Told.{replies_text, is_told_of}
 use Rattle.djq_mirror_laws.proofs.Deltas.{text_append}
-use Rattle.djq_mirror_laws.proofs.StoredNames.{IsFine, number_small, answers_fine, came_few, query_few}
+use Rattle.djq_mirror_laws.proofs.StoredNames.{IsFine, number_small, answers_fine, changed_few, query_few}
 use Rattle.djq_mirror_laws.proofs.StoredNames.{union_small}
 use Rattle.djq_mirror_laws.proofs.LineLengths.{query_weight, rest_short, cyclic_light, connex_light, cyclic_below}
 use Rattle.djq_mirror_laws.proofs.LineLengths.{connex_below}
@@ -160,33 +164,36 @@ delete_form (Err r) n small few = of_form _ (refused r) refl (λ name. refl) (λ
 
 held_form : {A : Type 0} {U : Type 0} (result : Result A Refusal) (n : ℕ) → ((a : A) → result ≡ Ok a → IsNumber n)
     → OfForm (held_reply result n) false U
-held_form (Ok a) n few = of_form _ (row_held n) refl (λ name. refl) (λ u. (few a refl, tt))
+held_form (Ok a) n few = of_form _ (lines_held n) refl (λ name. refl) (λ u. (few a refl, tt))
 held_form (Err r) n few = of_form _ (refused r) refl (λ name. refl) (λ u. (tt, tt))
 
-pub done_form : {U : Type 0} (result : Result ℕ Refusal) (n : ℕ) → (U → IsNumber n)
+pub done_form : {U : Type 0} (result : Result ℕ DoneRefusal) (n : ℕ) → (U → IsNumber n)
     → ((rows : ℕ) → result ≡ Ok rows → U → IsNumber rows) → OfForm (done_reply result n) false U
 done_form (Ok rows) n small few =
     of_form _ (batch_done n rows) refl (λ name. refl) (λ u. ((small u, few rows refl u), tt))
-done_form (Err r) n small few = of_form _ (refused r) refl (λ name. refl) (λ u. (tt, tt))
+done_form (Err r) n small few = of_form _ (refused (done_word r)) refl (λ name. refl) (λ u. (tt, tt))
 
--- a batch that isn't too long: the rows that come of it, and one more that it holds
-pub rows_small : (old : Store) (held : List HeldRow) (r : Result ℕ Refusal) (new : Store) → AddsBatch old held r new
-    → length held ≤ HELD → (rows : ℕ) → r ≡ Ok rows → IsNumber rows
-rows_small old held r new h few rows e =
-    let k = subst (λ (z : Result ℕ Refusal). AddsBatch old held z new) e h in
-    let is = k.1 in
-    let most = came_few old held in
+-- a batch that isn't too long: the rows that come and go with it, and one more line that it holds
+pub rows_small : (old : Store) (lines : List HeldLine) (given : Option ℕ) (r : Result ℕ DoneRefusal) (new : Store)
+    → DoesAll old lines given r new
+    → length lines ≤ HELD → (rows : ℕ) → r ≡ Ok rows → IsNumber rows
+rows_small old lines given r new h few rows e =
+    let k = subst (λ (z : Result ℕ DoneRefusal). DoesAll old lines given z new) e h in
+    let is = k.does.0 in
+    let most = changed_few old.relations lines in
     omega (arith, is, most, few)
 
-held_small : (old : Store) (held : List HeldRow) (name : Bytes) (row : Tuple) (r : Result ⊤ Refusal)
-    → Answers (hold_refusal old held name row) r (λ _. ⊤) (OutOfMemoryWhere ⊤) → (a : ⊤) → r ≡ Ok a
-    → IsNumber (length held + 1)
-held_small old held name row r answered a e =
-    let k = subst (λ (z : Result ⊤ Refusal). Answers (hold_refusal old held name row) z (λ _. ⊤) (OutOfMemoryWhere ⊤)) e
+held_small : (old : Store) (held : HeldTransaction) (l name : Bytes) (row : Tuple) (r : Result ⊤ Refusal)
+    → Answers (hold_refusal old held l name row) r (λ _. ⊤) (OutOfMemoryWhere ⊤) → (a : ⊤) → r ≡ Ok a
+    → IsNumber (length held.lines + 1)
+held_small old held l name row r answered a e =
+    let k = subst
+    (λ (z : Result ⊤ Refusal). Answers (hold_refusal old held l name row) z (λ _. ⊤) (OutOfMemoryWhere ⊤)) e
     answered in
-    let none = none_holds (hold_refusal old held name row) a (λ _. ⊤) (OutOfMemoryWhere ⊤) k in
-    let fails = all_fail (row_refusals old name row ++ (nat_le HELD (length held), Limit) ∷ []) none in
-    let below = leb-false HELD (length held) fails.1.1.1.0 in
+    let none = none_holds (hold_refusal old held l name row) a (λ _. ⊤) (OutOfMemoryWhere ⊤) k in
+    let fails = all_fail (row_refusals old name row ++ (not (has_room held (length l)), Limit) ∷ []) none in
+    let room = and_parts _ _ (not-false (has_room held (length l)) fails.1.1.1.0) in
+    let below = ltb-true (length held.lines) HELD room.0 in
     omega (arith, below)
 
 -- edges by the names of their variables
@@ -278,6 +285,65 @@ any_talk s queued talk r = record {
   harmless = λ k. r.harmless refl;
   fine = r.fine;
 }
+
+-- Lines that tell of no query and no listing, and of which nothing need be said to print them.
+pub record AreStill (text : Bytes) : Type 0 where
+  pub replies : List Reply
+  pub is : text ≡ replies_text replies
+  pub plain : All IsPlain replies
+  pub harmless : All IsHarmless replies
+  pub fine : All IsFine replies
+
+pub still_none : AreStill []
+still_none = record {
+  replies = [];
+  is = refl;
+  plain = All-nil IsPlain;
+  harmless = All-nil IsHarmless;
+  fine = All-nil IsFine;
+}
+
+pub still_one : (r : Reply) → is_talk r ≡ false → IsPlain r → IsFine r → AreStill (reply_text r)
+still_one r talk plain fine = record {
+  replies = r ∷ [];
+  is = sym (append-nil (reply_text r));
+  plain = All-cons IsPlain r [] plain (All-nil IsPlain);
+  harmless = All-cons IsHarmless r [] (harmless_form r talk) (All-nil IsHarmless);
+  fine = All-cons IsFine r [] fine (All-nil IsFine);
+}
+
+pub still_both : (xs ys : Bytes) → AreStill xs → AreStill ys → AreStill (xs ++ ys)
+still_both xs ys a b = record {
+  replies = a.replies ++ b.replies;
+  is = ap₂ (λ (us vs : Bytes). us ++ vs) a.is b.is ∙ sym (text_append a.replies b.replies);
+  plain = All-append IsPlain a.replies b.replies a.plain b.plain;
+  harmless = All-append IsHarmless a.replies b.replies a.harmless b.harmless;
+  fine = All-append IsFine a.replies b.replies a.fine b.fine;
+}
+
+pub still_lines : {U : Type 0} (s : ℕ) (text : Bytes) (queued : List (ℕ × Bytes)) → AreStill text
+    → queued ≡ (s, text) ∷ []
+    → Replies s queued false U
+still_lines s text queued a e = record {
+  replies = a.replies;
+  queued_are = e ∙ ap (λ (bytes : Bytes). (s, bytes) ∷ []) a.is;
+  plain = a.plain;
+  harmless = λ k. a.harmless;
+  fine = λ u. a.fine;
+}
+
+-- the line that reports that held lines are dropped, if a batch holds any
+pub lost_still : (o : Option HeldTransaction) → AreStill (lost_line o)
+lost_still None = still_none
+lost_still (Some held) = by held.lines refl
+  where
+    by : (lines : List HeldLine) → held.lines ≡ lines → AreStill (lost_line (Some held))
+    by [] e = rw e still_none
+    by (h ∷ hs) e = rw e (still_one (refused Misplaced) refl (λ name. refl) (tt, tt))
+
+-- the answer to `quit` and `stop`
+pub leaves_still : (o : Option HeldTransaction) → AreStill (lost_line o ++ bye_line)
+leaves_still o = still_both (lost_line o) bye_line (lost_still o) (still_one bye refl (λ name. refl) (tt, tt))
 
 -- the lines of answers
 pub answers_text : (ts : List Tuple) → text_of (map answer_line ts) ≡ replies_text (map (λ t. answer t) ts)
@@ -465,7 +531,7 @@ pub record Fits (s t : ℕ) (old : Store) (y : Session) (r : Reading) (e : Effec
   pub sound : IsSoundStore old
   pub before : IsSayableStore old
   pub session : IsSayableSession y
-  pub few : IfSome y.batch (λ held. length held ≤ HELD)
+  pub few : IfSome y.batch (λ held. length held.lines ≤ HELD)
   pub behind : IsSayableStore new
   pub said : IsSayableReading r
   pub no_tree : (t == s) ≡ true → ExplainsNone r
@@ -566,22 +632,28 @@ register_replies s old t x q e new h =
     (λ rest k u. connex_fine old.store q h.result h.store h.done u.0.said.0 u.0.said.1 rest k))
     (ap (λ (y : Effect). y.queued) h.effect)
 
--- A command changes no rows: none of rows, but an `add` in a batch.
-abbrev pub IsRowless : Option (List HeldRow) → Command → Type 0
+-- A command changes no rows: none of rows, but `add` and `del` in a batch.
+abbrev pub IsRowless : Option HeldTransaction → Command → Type 0
 IsRowless batch (Add name row) = IsSome batch
-IsRowless batch (Del name row) = ⊥
-IsRowless batch Done = ⊥
+IsRowless batch (Del name row) = IsSome batch
+IsRowless batch (Done given) = ⊥
 IsRowless batch c = Unit {0}
 
-pub held_replies : {U : Type 0} (old : State) (t : ℕ) (batch : Option (List HeldRow)) (l name : Bytes) (row : Tuple)
-    (e : Effect) (new : State) → IsSome batch
-    → MatchOption batch (AddStep old t name row e new) (λ held. HoldStep old t held l name row e new)
-    → Replies t e.queued false U
-held_replies old t None l name row e new some h = absurd cc
-held_replies old t (Some held) l name row e new some h =
+-- a line that a batch holds
+pub held_replies : {U : Type 0} (old : State) (t : ℕ) (held : HeldTransaction) (l : Bytes) (verb : Verb) (name : Bytes)
+    (row : Tuple) (e : Effect) (new : State)
+    → HoldStep old t held l verb name row e new → Replies t e.queued false U
+held_replies old t held l verb name row e new h =
     one_line t _ e.queued _
-    (held_form h.result (length held + 1) (held_small old.store held name row h.result h.answer))
+    (held_form h.result (length held.lines + 1) (held_small old.store held l name row h.result h.answer))
     (ap (λ (y : Effect). y.queued) h.effect)
+
+batch_replies : {U : Type 0} (old : State) (t : ℕ) (batch : Option HeldTransaction) (l : Bytes) (verb : Verb)
+    (name : Bytes)
+    (row : Tuple) (e : Effect) (new : State) (Alone : Type 0) → IsSome batch
+    → MatchOption batch Alone (λ held. HoldStep old t held l verb name row e new) → Replies t e.queued false U
+batch_replies old t None l verb name row e new Alone some h = absurd cc
+batch_replies old t (Some held) l verb name row e new Alone some h = held_replies old t held l verb name row e new h
 
 -- whether its replies are of a listing, or end as one
 abbrev pub talks : Command → Bool
@@ -596,8 +668,10 @@ pub command_replies : (s : ℕ) (old : State) (t : ℕ) (x : Session) (l : Bytes
 command_replies s old t x l (Rel name types) e new rowless h =
     one_line t _ e.queued _ (ok_form (codes "ok") done refl (λ name. refl) (tt, tt) h.result)
     (ap (λ (y : Effect). y.queued) h.effect)
-command_replies s old t x l (Add name row) e new rowless h = held_replies old t x.batch l name row e new rowless h
-command_replies s old t x l (Del name row) e new rowless h = absurd rowless
+command_replies s old t x l (Add name row) e new rowless h =
+    batch_replies old t x.batch l Adds name row e new (AddStep old t name row e new) rowless h
+command_replies s old t x l (Del name row) e new rowless h =
+    batch_replies old t x.batch l Deletes name row e new (DeleteStep old t name row e new) rowless h
 command_replies s old t x l (Register q) e new rowless (inl h) = register_replies s old t x q e new h
 command_replies s old t x l (Register q) e new rowless (inr h) =
     one_line t end_memory e.queued _ memory_form (ap (λ (y : Effect). y.queued) h.ends.0)
@@ -629,13 +703,13 @@ command_replies s old t x l (AskShape q) e new rowless h =
 command_replies s old t x l Batch e new rowless h =
     one_line t _ e.queued _ (ok_form (codes "ok batch") batch_opened refl (λ name. refl) (tt, tt) h.result)
     (ap (λ (y : Effect). y.queued) h.effect)
-command_replies s old t x l Done e new rowless h = absurd rowless
+command_replies s old t x l (Done given) e new rowless h = absurd rowless
 command_replies s old t x l Abandon e new rowless h =
     one_line t _ e.queued _ (of_form _ done refl (λ name. refl) (λ u. (tt, tt))) (ap (λ (y : Effect). y.queued) h.0)
 command_replies s old t x l Quit e new rowless h =
-    one_line t _ e.queued _ (of_form _ bye refl (λ name. refl) (λ u. (tt, tt))) (ap (λ (y : Effect). y.queued) h.0)
+    still_lines t _ e.queued (leaves_still x.batch) (ap (λ (y : Effect). y.queued) h.0)
 command_replies s old t x l Stop e new rowless h =
-    one_line t _ e.queued _ (of_form _ bye refl (λ name. refl) (λ u. (tt, tt))) (ap (λ (y : Effect). y.queued) h.0)
+    still_lines t _ e.queued (leaves_still x.batch) (ap (λ (y : Effect). y.queued) h.0)
 
 pub refused_replies : {U : Type 0} (old : State) (s : ℕ) (r : Refusal) (e : Effect) (new : State)
     → RefusedStep old s r e new

@@ -6,6 +6,7 @@ use Rattle.std.specs.List.{list_any}
 use Rattle.std.proofs.Common.{refl, sym, ap, ◌∙◌, subst, inl, inr, arith}
 use Rattle.std.proofs.lemmas.List.Elements.{All-nil, All-cons, All-head, All-tail, All-push, All-filter, All-append}
 use Rattle.std.proofs.lemmas.List.Elements.{All-weaker}
+use Rattle.djq_model.specs.declared.relation.Relation.{Relation}
 use Rattle.djq_model.specs.Data.{Bytes, Tuple, bytes_eq}
 use Rattle.djq_model.specs.Listed.{Listed, listed_name, AnswersOf, listed_of}
 use Rattle.djq_value.specs.Literal.{IsName}
@@ -22,13 +23,17 @@ use Rattle.djq_protocol.specs.declared.command.Command.{Command}
 use Rattle.djq_protocol.specs.declared.command.Command.TheVariants.{Rel, Add, Del, Query as Register, Union, Drop, Open}
 use Rattle.djq_protocol.specs.declared.command.Command.TheVariants.{Next, Close, Has, Watch, Unwatch, Explain, Shape}
 use Rattle.djq_protocol.specs.declared.command.Command.TheVariants.{Batch, Done, Abandon, Quit, Stop}
-use Rattle.djq_protocol.specs.declared.held.HeldRow.{HeldRow}
+use Rattle.djq_protocol.specs.declared.held.DoneRefusal.{DoneRefusal}
+use Rattle.djq_protocol.specs.declared.held.Verb.{Verb}
+use Rattle.djq_protocol.specs.declared.held.Verb.TheVariants.{Add as Adds, Delete as Deletes}
 use Rattle.djq_protocol.specs.Grammar.{says_command, reading_of, Reading, outside, past_limit}
-use Rattle.djq_protocol.specs.Reply.{end_memory}
+use Rattle.djq_protocol.specs.Reply.{end_memory, done_word}
 use Rattle.djq_store_spec.specs.Store.{Store, Position, open_at, stale}
 use Rattle.djq_store_spec.specs.Stale.{outdated, outdater_of, by_relation, listed_reads}
 use Rattle.djq_store_spec.specs.Changes.{RowsChange, RowsOutcome, tried, row_in, row_out, add_outcome, delete_outcome}
-use Rattle.djq_store_spec.specs.Batch.{has_come, first_read, batch_outcome}
+use Rattle.djq_store_spec.specs.Held.{HeldLine, HeldTransaction, nothing_held, holding}
+use Rattle.djq_store_spec.specs.Done.{has_changed}
+use Rattle.djq_store_spec.specs.Transaction.{first_read, lines_outcome}
 use Rattle.djq_answer_laws.proofs.Lists.{some_there}
 use Rattle.djq_machine.specs.declared.machine.Loaded.{Loaded}
 use Rattle.djq_machine.specs.declared.machine.Loaded.TheVariants.{Ran as ran}
@@ -38,7 +43,7 @@ use Rattle.djq_machine.specs.Outdating.{outdated_cursor, changed}
 use Rattle.djq_machine.specs.Watch.{is_watching, Telling, ChangeStep}
 use Rattle.djq_machine.specs.Effect.{Effect, nothing, EndsWith, queue, queue_all}
 use Rattle.djq_machine.specs.Command.{uses, with_cursor, with_watch, without_watch, with_batch, without_batch, AddStep}
-use Rattle.djq_machine.specs.Command.{HoldStep, DoneStep, CommandStep}
+use Rattle.djq_machine.specs.Command.{DeleteStep, HoldStep, DoneStep, CommandStep}
 use Rattle.djq_machine.specs.LineStep.{LineOutcome, long, blank, slow, no_room, run, ReadStep, FrontStep, behind_line}
 use Rattle.djq_machine.specs.Step.{Event, opened, fed, stepped, took, ended, closed, FedStep, TookStep, EndedStep, Acts}
 use Rattle.djq_machine.specs.Step.{with_relations, Step}
@@ -47,11 +52,12 @@ use Rattle.djq_machine.specs.Loading.{Loading, loading, StoreLoads, CommandLoads
 use Rattle.djq_machine.proofs.Relations.{walk_keeps}
 use Rattle.djq_run_laws.specs.Sound.{IsStart}
 use Rattle.djq_run_laws.specs.Form.{Turn, opens_cursor, moves_cursor, closes_cursor, starts_watching, stops_watching}
-use Rattle.djq_run_laws.specs.Form.{opens_batch, holds_row, closes_batch, Replied, is_whole, is_cut, without_cursor}
+use Rattle.djq_run_laws.specs.Form.{opens_batch, holds_line, closes_batch, Replied, is_whole, is_cut, without_cursor}
 use Rattle.djq_run_laws.specs.Form.{SessionTurned, DoesTurn, is_turned, is_refused}
-use Rattle.djq_run_laws.proofs.Forms.{add_does, command_does, Reads, turned_down, carried_out, line_reads}
+use Rattle.djq_run_laws.proofs.Forms.{line_held, command_does, Reads, turned_down, carried_out, line_reads}
 use Rattle.djq_run_laws.proofs.Lists.{session_changed, all_changed, all_found, all_dropped, all_mapped, change_keeps}
-use Rattle.djq_mirror_laws.specs.Sayable.{IsSayableRow, IsSayableRelation, IsSayableListed, IsSayableStore, IsSayableText}
+use Rattle.djq_mirror_laws.specs.Sayable.{IsSayableRow, IsSayableRelation, IsSayableListed, IsSayableStore}
+use Rattle.djq_mirror_laws.specs.Sayable.{IsSayableText}
 use Rattle.djq_mirror_laws.specs.Sayable.{IsSayablePosition, IsSayableCursor, IsSayableHeld, IsSayableSession}
 use Rattle.djq_mirror_laws.specs.Sayable.{IsSayableState, RunsKeepSayable, OpeningIsSayable, StatesAreSayable}
 use Rattle.djq_mirror_laws.specs.Loaded.{LoadedAreSayable}
@@ -82,6 +88,10 @@ ends_kept : (old : State) (s : ℕ) (cause : EndCause) (new : State) → new ≡
     → IsSayableState old → IsSayableState new
 ends_kept old s cause new after k = session_kept old new s (ended_by cause) after (λ x g. ended_session cause x) k
 
+-- the lines that a batch holds, if one is open
+abbrev HoldsSayable : Option HeldTransaction → Type 0
+HoldsSayable o = IfSome o (λ held. All IsSayableHeld held.lines)
+
 -- a change of one that leaves what is said of it
 others_stay : (old new : State) (s : ℕ) (f : Session → Session) → ((x : Session) → (f x).cursors ≡ x.cursors)
     → ((x : Session) → (f x).watches ≡ x.watches) → ((x : Session) → (f x).batch ≡ x.batch) → new ≡ with_session old s f
@@ -90,7 +100,7 @@ others_stay old new s f cursors watches batch after k =
     session_kept old new s f after (λ x g. record {
       cursors = subst (λ (cs : List Cursor). All IsSayableCursor cs) (sym (cursors x)) g.cursors;
       watches = subst (λ (ws : List Bytes). All IsName ws) (sym (watches x)) g.watches;
-      batch = subst (λ (o : Option (List HeldRow)). IfSome o (λ held. All IsSayableHeld held)) (sym (batch x)) g.batch;
+      batch = subst HoldsSayable (sym (batch x)) g.batch;
     }) k
 
 store_kept : (old : State) (store : Store) (new : State) → new ≡ record old { store = store } → IsSayableStore store
@@ -150,27 +160,32 @@ found_named p (n ∷ ns) h = by (p n) (found_named p ns (All-tail IsName n ns h)
     by true k = All-head IsName n ns h
     by false k = k
 
-relations_named : (held : List HeldRow) → All IsSayableHeld held → All IsName (map (λ (h : HeldRow). h.relation) held)
+relations_named : (lines : List HeldLine) → All IsSayableHeld lines
+    → All IsName (map (λ (h : HeldLine). h.relation) lines)
 relations_named [] h = All-nil IsName
 relations_named (k ∷ ks) h =
-    All-cons IsName k.relation (map (λ (r : HeldRow). r.relation) ks) (All-head IsSayableHeld k ks h).relation
+    All-cons IsName k.relation (map (λ (r : HeldLine). r.relation) ks) (All-head IsSayableHeld k ks h).relation
     (relations_named ks (All-tail IsSayableHeld k ks h))
 
-first_named : (held : List HeldRow) → All IsSayableHeld held → (test : Bytes → Bool) (qs : List Listed) (q : Bytes)
-    → IsNamed (outdater_of qs (first_read held test) q)
-first_named held said test qs q = by (listed_of qs q) refl
+first_named : (lines : List HeldLine) → All IsSayableHeld lines → (test : Bytes → Bool) (qs : List Listed) (q : Bytes)
+    → IsNamed (outdater_of qs (first_read lines test) q)
+first_named lines said test qs q = by (listed_of qs q) refl
   where
-    by : (o : Option Listed) → listed_of qs q ≡ o → IsNamed (outdater_of qs (first_read held test) q)
+    by : (o : Option Listed) → listed_of qs q ≡ o → IsNamed (outdater_of qs (first_read lines test) q)
     by None e = rw e tt
-    by (Some p) e = rw e (found_named (λ n. test n && listed_reads p n) (map (λ (h : HeldRow). h.relation) held)
-        (relations_named held said))
+    by (Some p) e = rw e (found_named (λ n. test n && listed_reads p n) (map (λ (h : HeldLine). h.relation) lines)
+        (relations_named lines said))
 
-done_named : (st : Store) (held : List HeldRow) → All IsSayableHeld held → (r : Result ℕ Refusal)
-    → NamesTried (tried (batch_outcome st held r))
-done_named st held said (Ok zero) = tt
-done_named st held said (Ok (suc n)) = λ qs q. first_named held said (has_come st held) qs q
-done_named st held said (Err NoMemory) = λ qs q. first_named held said (λ name. true) qs q
-done_named st held said (Err r) = tt
+outcome_named : (relations : List Relation) (lines : List HeldLine) → All IsSayableHeld lines
+    → (r : Result ℕ DoneRefusal)
+    → NamesTried (tried (lines_outcome relations lines r))
+outcome_named relations lines said (Ok zero) = tt
+outcome_named relations lines said (Ok (suc n)) = λ qs q. first_named lines said (has_changed relations lines) qs q
+outcome_named relations lines said (Err r) = by (done_word r) refl
+  where
+    by : (w : Refusal) → done_word r ≡ w → NamesTried (tried (lines_outcome relations lines (Err r)))
+    by NoMemory e = rw e (λ qs q. first_named lines said (λ name. true) qs q)
+    by w e = rw e tt
 
 position_outdated : (o : Option Bytes) (n : ℕ) (p : Position) → IsNamed o → n ≤ LAST_SEQ → IsSayablePosition p
     → IsSayablePosition (outdated o n p)
@@ -221,7 +236,7 @@ IsSayableTurn (closes_cursor c) = Unit {0}
 IsSayableTurn (starts_watching q) = IsName q
 IsSayableTurn (stops_watching q) = Unit {0}
 IsSayableTurn opens_batch = Unit {0}
-IsSayableTurn (holds_row l name row) = IsName name × IsSayableRow row
+IsSayableTurn (holds_line l verb name row) = IsName name × IsSayableRow row
 IsSayableTurn closes_batch = Unit {0}
 
 turned_kept : (old : State) (s : ℕ) (x : Session) (t : Turn) (new : State) → session_of old s ≡ Some x
@@ -275,18 +290,17 @@ turned_kept old s x (stops_watching q) new found said h k =
       batch = g.batch;
     }) k
 turned_kept old s x opens_batch new found said h k =
-    session_kept old new s (with_batch []) h
+    session_kept old new s (with_batch nothing_held) h
     (λ y g. record { cursors = g.cursors; watches = g.watches; batch = All-nil IsSayableHeld }) k
-turned_kept old s x (holds_row l name row) new found said h k =
-    let more : HeldRow = record { line = l; relation = name; row = row } in
+turned_kept old s x (holds_line l verb name row) new found said h k =
+    let more : HeldLine = record { verb = verb; relation = name; row = row } in
     let session = all_found IsSayableSession (λ (y : Session). y.id == s) old.sessions x k.sessions found in
-    let held : All IsSayableHeld h.held =
-    subst (λ (o : Option (List HeldRow)). IfSome o (λ hs. All IsSayableHeld hs)) h.is session.batch in
-    session_kept old new s (with_batch (h.held ++ more ∷ [])) h.state
+    let held : All IsSayableHeld (h.held).lines = subst HoldsSayable h.is session.batch in
+    session_kept old new s (with_batch (holding h.held verb name row l)) h.state
     (λ y g. record {
       cursors = g.cursors;
       watches = g.watches;
-      batch = All-push IsSayableHeld h.held more held (record { relation = said.0; row = said.1 });
+      batch = All-push IsSayableHeld (h.held).lines more held (record { relation = said.0; row = said.1 });
     }) k
 turned_kept old s x closes_batch new found said h k =
     session_kept old new s without_batch h (λ y g. record { cursors = g.cursors; watches = g.watches; batch = tt }) k
@@ -298,10 +312,10 @@ turn_kept old s x t new found said (is_refused r) k = replied_kept s old new r k
 
 -- ---- commands
 
--- `add`, and `done`, by the session's batch
+-- `add`, `del` and `done`, by the session's batch
 add_kept : (old : State) (s : ℕ) (x : Session) (l name : Bytes) (row : Tuple) (e : Effect) (new : State)
-    (batch : Option (List HeldRow)) → x.batch ≡ batch
-    → MatchOption batch (AddStep old s name row e new) (λ held. HoldStep old s held l name row e new)
+    (batch : Option HeldTransaction) → x.batch ≡ batch
+    → MatchOption batch (AddStep old s name row e new) (λ held. HoldStep old s held l Adds name row e new)
     → IsName name × IsSayableRow row → IsSayableState old → session_of old s ≡ Some x → IsSayableState new
 add_kept old s x l name row e new None is h said k found =
     let change = row_in old.store.relations name row in
@@ -311,21 +325,37 @@ add_kept old s x l name row e new None is h said k found =
     (add_named change (λ qs q. relation_named name said.0 qs q) h.result)
     (add_sayable old.store name row h.result h.store h.done said.1 k.store) k)
 add_kept old s x l name row e new (Some held) is h said k found =
-    turn_kept old s x (holds_row l name row) new found said (add_does old s x l name row e new (Some held) is h).1 k
+    turn_kept old s x (holds_line l Adds name row) new found said
+    (line_held old s x held l Adds name row e new is h).1 k
 
-done_kept : (old : State) (s : ℕ) (x : Session) (e : Effect) (new : State) (batch : Option (List HeldRow))
-    → x.batch ≡ batch → MatchOption batch ⊥ (λ held. DoneStep old s held e new) → IsSayableState old
+delete_kept : (old : State) (s : ℕ) (x : Session) (l name : Bytes) (row : Tuple) (e : Effect) (new : State)
+    (batch : Option HeldTransaction) → x.batch ≡ batch
+    → MatchOption batch (DeleteStep old s name row e new) (λ held. HoldStep old s held l Deletes name row e new)
+    → IsName name × IsSayableRow row → IsSayableState old → session_of old s ≡ Some x → IsSayableState new
+delete_kept old s x l name row e new None is h said k found =
+    let change = row_out old.store.relations name row in
+    let outcome = delete_outcome change h.result in
+    change_kept old s outcome h.store _ e new h.change
+    (changed_kept old (tried outcome) h.store
+    (del_named change (λ qs q. relation_named name said.0 qs q) h.result)
+    (del_sayable old.store name row h.result h.store h.done k.store) k)
+delete_kept old s x l name row e new (Some held) is h said k found =
+    turn_kept old s x (holds_line l Deletes name row) new found said
+    (line_held old s x held l Deletes name row e new is h).1 k
+
+done_kept : (old : State) (s : ℕ) (x : Session) (given : Option ℕ) (e : Effect) (new : State)
+    (batch : Option HeldTransaction)
+    → x.batch ≡ batch → MatchOption batch ⊥ (λ held. DoneStep old s held given e new) → IsSayableState old
     → session_of old s ≡ Some x → IsSayableState new
-done_kept old s x e new None is h k found = absurd h
-done_kept old s x e new (Some held) is h k found =
+done_kept old s x given e new None is h k found = absurd h
+done_kept old s x given e new (Some held) is h k found =
     let session = all_found IsSayableSession (λ (y : Session). y.id == s) old.sessions x k.sessions found in
-    let said : All IsSayableHeld held =
-    subst (λ (o : Option (List HeldRow)). IfSome o (λ hs. All IsSayableHeld hs)) is session.batch in
+    let said : All IsSayableHeld held.lines = subst HoldsSayable is session.batch in
     let begun = with_session old s without_batch in
-    let outcome = batch_outcome old.store held h.result in
+    let outcome = lines_outcome old.store.relations held.lines h.result in
     change_kept begun s outcome h.store _ e new h.change
-    (changed_kept begun (tried outcome) h.store (done_named old.store held said h.result)
-    (done_sayable old.store held h.result h.store h.done said k.store)
+    (changed_kept begun (tried outcome) h.store (outcome_named old.store.relations held.lines said h.result)
+    (done_sayable old.store held.lines given h.result h.store h.done said k.store)
     (session_kept old begun s without_batch refl
     (λ y g. record { cursors = g.cursors; watches = g.watches; batch = tt }) k))
 
@@ -349,12 +379,7 @@ command_kept old s x l (Drop q) e new is h said k found =
 command_kept old s x l (Add name row) e new is h said k found =
     add_kept old s x l name row e new x.batch refl h said k found
 command_kept old s x l (Del name row) e new is h said k found =
-    let change = row_out old.store.relations name row in
-    let outcome = delete_outcome change h.result in
-    change_kept old s outcome h.store _ e new h.change
-    (changed_kept old (tried outcome) h.store
-    (del_named change (λ qs q. relation_named name said.0 qs q) h.result)
-    (del_sayable old.store name row h.result h.store h.done k.store) k)
+    delete_kept old s x l name row e new x.batch refl h said k found
 command_kept old s x l (Open c q) e new is h said k found =
     turn_kept old s x (opens_cursor c q) new found said (command_does old s x l (Open c q) e new is h).1 k
 command_kept old s x l (Next c count) e new is h said k found =
@@ -373,7 +398,7 @@ command_kept old s x l (Shape q) e new is h said k found =
     replied_kept s old new (command_does old s x l (Shape q) e new is h).1 k
 command_kept old s x l Batch e new is h said k found =
     turn_kept old s x opens_batch new found tt (command_does old s x l Batch e new is h).1 k
-command_kept old s x l Done e new is h said k found = done_kept old s x e new x.batch refl h k found
+command_kept old s x l (Done given) e new is h said k found = done_kept old s x given e new x.batch refl h k found
 command_kept old s x l Abandon e new is h said k found =
     turn_kept old s x closes_batch new found tt (command_does old s x l Abandon e new is h).1 k
 command_kept old s x l Quit e new is h said k found = ends_kept old s _ new h.1 k
@@ -508,10 +533,10 @@ states_are_sayable start h said done new w = runs_keep_sayable start done new w 
 
 -- ---- Lines that are loaded keep to what lines can say, in batches too.
 
--- The store is such, and the rows that the batch holds.
+-- The store is such, and the lines that the batch holds.
 record IsSayableLoading (l : Loading) : Type 0 where
   store : IsSayableStore l.store
-  batch : IfSome l.batch (λ held. All IsSayableHeld held)
+  batch : HoldsSayable l.batch
 
 same_loading : (old new : Loading) → new ≡ old → IsSayableLoading old → IsSayableLoading new
 same_loading old new e k = subst IsSayableLoading (sym e) k
@@ -529,33 +554,35 @@ store_loads old c how new h said k = subst IsSayableStore (sym h.1) k
 unbatched : (new : Loading) → IsSayableStore new.store → new.batch ≡ None → IsSayableLoading new
 unbatched new k none = record {
   store = k;
-  batch = subst (λ (o : Option (List HeldRow)). IfSome o (λ held. All IsSayableHeld held)) (sym none) tt;
+  batch = subst HoldsSayable (sym none) tt;
 }
 
-row_loads : (old : Loading) (held : List HeldRow) (l name : Bytes) (row : Tuple) (r : Result ⊤ Refusal) (new : Loading)
-    → HoldsLoaded old held l name row r new → IsName name × IsSayableRow row → All IsSayableHeld held
+held_loads : (old : Loading) (held : HeldTransaction) (l : Bytes) (verb : Verb) (name : Bytes) (row : Tuple)
+    (r : Result ⊤ Refusal) (new : Loading)
+    → HoldsLoaded old held l verb name row r new → IsName name × IsSayableRow row → All IsSayableHeld held.lines
     → IsSayableLoading old → IsSayableLoading new
-row_loads old held l name row (Ok u) new h said all k =
-    same_loading (record old { batch = Some (held ++ record { line = l; relation = name; row = row } ∷ []) }) new h
-    (record {
+held_loads old held l verb name row (Ok u) new h said all k =
+    same_loading (record old { batch = Some (holding held verb name row l) }) new h (record {
       store = k.store;
-      batch = All-push IsSayableHeld held (record { line = l; relation = name; row = row }) all
+      batch = All-push IsSayableHeld held.lines (record { verb = verb; relation = name; row = row }) all
           (record { relation = said.0; row = said.1 });
     })
-row_loads old held l name row (Err r) new h said all k = same_loading old new h k
+held_loads old held l verb name row (Err r) new h said all k = same_loading old new h k
 
-command_loads : (st : Store) (batch : Option (List HeldRow)) (l : Bytes) (c : Command) (how : Loaded) (new : Loading)
+command_loads : (st : Store) (batch : Option HeldTransaction) (l : Bytes) (c : Command) (how : Loaded) (new : Loading)
     → CommandLoads (record { store = st; batch = batch }) l c how new → IsSayableCommand c
     → IsSayableLoading (record { store = st; batch = batch }) → IsSayableLoading new
 command_loads st None l Batch how new (inl h) said k =
-    same_loading (record { store = st; batch = Some [] }) new h.1
+    same_loading (record { store = st; batch = Some nothing_held }) new h.1
     (record { store = k.store; batch = All-nil IsSayableHeld })
 command_loads st None l Batch how new (inr h) said k = same_loading (record { store = st; batch = None }) new h.1 k
 command_loads st None l c how new h said k = unbatched new (store_loads st c how new.store h.0 said k.store) h.1
 command_loads st (Some held) l (Add name row) how new h said k =
-    row_loads (record { store = st; batch = Some held }) held l name row h.0 new h.3 said k.batch k
-command_loads st (Some held) l Done how new h said k =
-    unbatched new (done_sayable st held h.0 new.store h.1 k.batch k.store) h.3
+    held_loads (record { store = st; batch = Some held }) held l Adds name row h.0 new h.3 said k.batch k
+command_loads st (Some held) l (Del name row) how new h said k =
+    held_loads (record { store = st; batch = Some held }) held l Deletes name row h.0 new h.3 said k.batch k
+command_loads st (Some held) l (Done given) how new h said k =
+    unbatched new (done_sayable st held.lines given h.0 new.store h.1 k.batch k.store) h.3
 command_loads st (Some held) l Abandon how new h said k =
     same_loading (record { store = st; batch = None }) new h.1 (record { store = k.store; batch = tt })
 command_loads st (Some held) l c how new h said k = same_loading (record { store = st; batch = Some held }) new h.1 k

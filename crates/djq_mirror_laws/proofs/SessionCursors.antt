@@ -10,11 +10,11 @@ use Rattle.djq_protocol.specs.declared.limits.TheConstants.{SESSIONS}
 use Rattle.djq_protocol.specs.declared.answer.EndCause.{EndCause}
 use Rattle.djq_protocol.specs.declared.answer.EndCause.TheVariants.{Input, Memory}
 use Rattle.djq_protocol.specs.declared.command.Command.{Command}
-use Rattle.djq_protocol.specs.declared.command.Command.TheVariants.{Add, Done, Open, Next}
-use Rattle.djq_protocol.specs.declared.held.HeldRow.{HeldRow}
+use Rattle.djq_protocol.specs.declared.command.Command.TheVariants.{Add, Del, Done, Open, Next}
 use Rattle.djq_protocol.specs.Grammar.{Reading, says_command, reading_of}
 use Rattle.djq_protocol.specs.Reply.{end_memory}
 use Rattle.djq_store_spec.specs.Store.{Store, Position, open_at, stale}
+use Rattle.djq_store_spec.specs.Held.{HeldTransaction, nothing_held, holding}
 use Rattle.djq_store_spec.specs.Stale.{outdated, outdater_of}
 use Rattle.djq_store_spec.specs.Changes.{RowsChange, RowsOutcome, tried}
 use Rattle.djq_answer_laws.proofs.Lists.{some_there}
@@ -28,7 +28,7 @@ use Rattle.djq_machine.specs.Step.{Event, opened, fed, stepped, took, ended, clo
 use Rattle.djq_machine.specs.Step.{with_relations, Step}
 use Rattle.djq_run_laws.specs.Form.{form_of, Form, asking, storing, turning, changing, ending, Turn, opens_cursor}
 use Rattle.djq_run_laws.specs.Form.{moves_cursor, closes_cursor, starts_watching, stops_watching, opens_batch}
-use Rattle.djq_run_laws.specs.Form.{holds_row, closes_batch, Replied, is_whole, is_cut, without_cursor, SessionTurned}
+use Rattle.djq_run_laws.specs.Form.{holds_line, closes_batch, Replied, is_whole, is_cut, without_cursor, SessionTurned}
 use Rattle.djq_run_laws.specs.Form.{DoesTurn, is_turned, is_refused, FormDoes}
 use Rattle.djq_run_laws.proofs.Lists.{all_dropped, all_mapped, less_dropped, session_changed, session_other}
 use Rattle.djq_run_laws.proofs.Lists.{change_keeps}
@@ -149,10 +149,9 @@ module _ (s : ℕ) (name : Bytes) (P : List Tuple → Bool → Type 0) where
       (omega (arith, less, most), all_dropped (CursorHas name P) (λ (z : Cursor). bytes_eq z.name c) y.cursors l.1)) h k
   has_turned old t x (starts_watching q) new calm h k = has_kept old new t (with_watch q) (λ y. refl) (λ y. refl) h.1 k
   has_turned old t x (stops_watching q) new calm h k = has_kept old new t (without_watch q) (λ y. refl) (λ y. refl) h k
-  has_turned old t x opens_batch new calm h k = has_kept old new t (with_batch []) (λ y. refl) (λ y. refl) h k
-  has_turned old t x (holds_row l relation row) new calm h k =
-      has_kept old new t (with_batch (h.held ++ record { line = l; relation = relation; row = row } ∷ [])) (λ y. refl)
-      (λ y. refl) h.state k
+  has_turned old t x opens_batch new calm h k = has_kept old new t (with_batch nothing_held) (λ y. refl) (λ y. refl) h k
+  has_turned old t x (holds_line l verb relation row) new calm h k =
+      has_kept old new t (with_batch (holding h.held verb relation row l)) (λ y. refl) (λ y. refl) h.state k
   has_turned old t x closes_batch new calm h k = has_kept old new t without_batch (λ y. refl) (λ y. refl) h k
 
   has_turn : (old : State) (t : ℕ) (x : Session) (turn : Turn) (new : State) → ((t == s) ≡ true → IsCalm (turning turn))
@@ -185,13 +184,15 @@ module _ (s : ℕ) (name : Bytes) (P : List Tuple → Bool → Type 0) where
   ReadsCalm (says_command c) = CommandCalm c
   ReadsCalm r = Unit {0}
 
-  calm_form : (batch : Option (List HeldRow)) (l : Bytes) (c : Command) → CommandCalm c → IsCalm (form_of batch l c)
+  calm_form : (batch : Option HeldTransaction) (l : Bytes) (c : Command) → CommandCalm c → IsCalm (form_of batch l c)
   calm_form batch l (Open c q) calm = absurd calm
   calm_form batch l (Next c count) calm = absurd calm
   calm_form None l (Add relation row) calm = tt
   calm_form (Some held) l (Add relation row) calm = tt
-  calm_form None l Done calm = tt
-  calm_form (Some held) l Done calm = tt
+  calm_form None l (Del relation row) calm = tt
+  calm_form (Some held) l (Del relation row) calm = tt
+  calm_form None l (Done given) calm = tt
+  calm_form (Some held) l (Done given) calm = tt
   calm_form batch l c calm = tt
 
   pub has_read : (old : State) (t : ℕ) (x : Session) (l : Bytes) (e : Effect) (new : State)

@@ -1,13 +1,15 @@
 -- What commands make of the store has names and values that lines can say.
-use Rattle.std.specs.Prelude.{ℕ, zero, suc, ◌+◌, ◌-◌, ◌*◌, ◌^◌, ◌<◌, ◌≢◌, List, [], ◌∷◌, ◌==◌, ◌||◌, ◌≡◌, ◌≤◌}
-use Rattle.std.specs.Prelude.{◌++◌, ◌⊎◌, Bool, true, false, not, cond, nat_le, length, Option, None, Some}
-use Rattle.std.specs.Prelude.{Result, Ok, Err, map, All, Contains, ⊤}
+use Rattle.std.specs.Prelude.{ℕ, zero, suc, ◌+◌, ◌-◌, ◌*◌, ◌^◌, ◌<◌, List, [], ◌∷◌, ◌==◌, ◌||◌, ◌≡◌, ◌≤◌}
+use Rattle.std.specs.Prelude.{◌++◌, ◌⊎◌, ◌&&◌, Bool, true, false, not, cond, nat_le, nat_lt, length, filter, fold}
+use Rattle.std.specs.Prelude.{Option}
+use Rattle.std.specs.Prelude.{None, Some, Result, Ok, Err, map, All, Contains, ⊤}
 use Rattle.std.specs.List.{list_any}
+use Rattle.std.specs.Option.{option_or, option_map}
 use Rattle.std.proofs.Common.{refl, sym, ap, ◌∙◌, subst, inl, inr, arith}
 use Rattle.std.proofs.lemmas.Bool.{eq-eqb, leb-false, ltb-false, not-false}
 use Rattle.std.proofs.lemmas.List.Elements.{All-nil, All-cons, All-head, All-tail, All-push, All-contains, All-weaker}
 use Rattle.std.proofs.lemmas.List.Sorted.{All-permutation}
-use Rattle.std.proofs.lemmas.List.{length-map}
+use Rattle.std.proofs.lemmas.List.{length-map, length-append}
 use Rattle.std.proofs.lemmas.Nat.{mul-le}
 use Rattle.djq_model.specs.declared.value.Value.{Value}
 use Rattle.djq_model.specs.declared.relation.ColumnType.{ColumnType}
@@ -23,7 +25,7 @@ use Rattle.djq_model.specs.Data.{counted_in, counted_of, rows_of, has_row, with_
 use Rattle.djq_model.specs.Equality.{bytes_eq-decides}
 use Rattle.djq_model.specs.Answer.{Assignment, StandsFor, StandForAll, Satisfies, IsAnswer}
 use Rattle.djq_model.specs.Listed.{Listed, a_query, a_union, listed_name, AnswersOf, listed_of}
-use Rattle.djq_model.specs.Known.{texts_in, all_learned}
+use Rattle.djq_model.specs.Known.{texts_in}
 use Rattle.djq_model.proofs.Copies.{tuples_with_row, tuples_with_copies, tuples_without, tuples_moved, copies_hold}
 use Rattle.djq_value.specs.Literal.{IsName}
 use Rattle.djq_protocol.specs.declared.limits.TheConstants.{LAST_SEQ, COPIES, MEMBERS}
@@ -35,7 +37,8 @@ use Rattle.djq_protocol.specs.declared.answer.AddOutcome.{AddOutcome}
 use Rattle.djq_protocol.specs.declared.answer.AddOutcome.TheVariants.{First, More}
 use Rattle.djq_protocol.specs.declared.answer.DeleteOutcome.{DeleteOutcome}
 use Rattle.djq_protocol.specs.declared.answer.DeleteOutcome.TheVariants.{Last, Left, Absent}
-use Rattle.djq_protocol.specs.declared.held.HeldRow.{HeldRow}
+use Rattle.djq_protocol.specs.declared.held.DoneRefusal.{DoneRefusal}
+use Rattle.djq_protocol.specs.declared.held.DoneRefusal.TheVariants.{OtherNumber, Line, LastChange}
 use Rattle.djq_protocol.specs.declared.answer.Sign.{Sign}
 use Rattle.djq_protocol.specs.declared.answer.Sign.TheVariants.{Came, Went}
 use Rattle.djq_protocol.specs.Conditions.{OutOfMemoryWhere}
@@ -49,7 +52,12 @@ use Rattle.djq_store_spec.specs.Registering.{drop_refusal, answer_steps, most_st
 use Rattle.djq_store_spec.specs.Rows.{AddsRow, AddsAs, DeletesRow, DeletesAs, with_copies_of, copies_of}
 use Rattle.djq_store_spec.specs.Rows.{add_refusal, delete_refusal}
 use Rattle.djq_store_spec.specs.Union.{union_refusal, AreUnder, RegistersUnion}
-use Rattle.djq_store_spec.specs.Batch.{is_there, with_held, with_all, count_came, AddsBatch}
+use Rattle.djq_store_spec.specs.Held.{HeldLine}
+use Rattle.djq_store_spec.specs.Lines.{same_row, with_naming, first_lines, line_comes, line_goes, copies_after}
+use Rattle.djq_store_spec.specs.Lines.{with_so_many, with_copies_left, relations_after}
+use Rattle.djq_store_spec.specs.Judging.{lines_refusal}
+use Rattle.djq_store_spec.specs.Done.{rows_changed, is_other, refused_if, seq_refusal, done_refusal}
+use Rattle.djq_store_spec.specs.Transaction.{DoesAll}
 use Rattle.djq_store_spec.specs.Delta.{Change, HasChanged}
 use Rattle.djq_answer_laws.specs.Finite.{IsBound}
 use Rattle.djq_answer_laws.proofs.Lists.{nothing_there, first_or_later, first_there, later_there, hold_each, some_one}
@@ -59,14 +67,13 @@ use Rattle.djq_run_laws.specs.Form.{LearnsTexts}
 use Rattle.djq_run_laws.specs.Sound.{IsCopyCount, IsSoundStore}
 use Rattle.djq_run_laws.proofs.Forms.{done_of, none_holds, stays_learned, late_learned, refused_learned, all_fail}
 use Rattle.djq_run_laws.proofs.Forms.{second_fails, within_limits, query_conditions, union_conditions}
-use Rattle.djq_run_laws.proofs.Batches.{all_gain, is_behind, not_batched, came_below}
 use Rattle.djq_run_laws.proofs.Lists.{all_changed, all_found, all_dropped, without_dropped, mapped_from}
 use Rattle.djq_run_laws.proofs.RegisteredQueries.{under_names, under_registered}
 use Rattle.djq_run_laws.proofs.RowCommands.{counted_sound, add_conditions, delete_conditions}
 use Rattle.djq_mirror_laws.specs.Sayable.{IsSayableValue, IsSayableRow, IsSayableRelation, IsSayableQuery, IsAskable}
 use Rattle.djq_mirror_laws.specs.Sayable.{IsSayableListed, IsSayableHeld, IsSayableStore, IsSayableText}
 use Rattle.djq_mirror_laws.proofs.KnownTexts.{all_learned_said, row_texts, refused_said, late_said, constants_said}
-use Rattle.djq_mirror_laws.proofs.KnownTexts.{all_held_texts, refused_texts}
+use Rattle.djq_mirror_laws.proofs.KnownTexts.{texts_after_said, refused_texts}
 use Rattle.djq_mirror_laws.specs.Lines.{IsShort}
 use Rattle.djq_mirror_laws.specs.Told.{delta_replies}
 
@@ -224,70 +231,136 @@ del_sayable old name row (Ok Absent) new h s =
     subst IsSayableStore (sym d.1) s
 del_sayable old name row (Err r) new h s = subst IsSayableStore (sym h.stays) s
 
--- ---- batches
+-- ---- lines that a batch holds
 
--- the store with a held row more, by whether it is there
-abbrev behind_one : Store → HeldRow → Bool → Store
-behind_one st h b = cond b (record st {
-  relations = with_copies_of st.relations h.relation h.row (copies_of st h.relation h.row + 1);
-}) (record st {
-  relations = with_rows st.relations h.relation (with_row (counted_of st.relations h.relation) h.row);
-  texts = all_learned st.texts (texts_in h.row);
-})
-
-held_sayable : (st : Store) (h : HeldRow) → IsSayableHeld h → All IsSayableRelation st.relations
-    → All IsSayableRelation (with_held st h).relations
-held_sayable st h said all = by (is_there st h)
+-- what the first lines of rows are, all lines are
+first_lines_said : (firsts lines : List HeldLine) → All IsSayableHeld firsts → All IsSayableHeld lines
+    → All IsSayableHeld (fold with_naming firsts lines)
+first_lines_said firsts [] before said = before
+first_lines_said firsts (h ∷ hs) before said =
+    first_lines_said (with_naming firsts h) hs (by (list_any (λ g. same_row g h) firsts))
+    (All-tail IsSayableHeld h hs said)
   where
-    by : (b : Bool) → All IsSayableRelation (behind_one st h b).relations
-    by true = other_copies st.relations h.relation h.row (copies_of st h.relation h.row + 1) all
+    by : (b : Bool) → All IsSayableHeld (cond b firsts (firsts ++ h ∷ []))
+    by true = before
+    by false = All-push IsSayableHeld firsts h before (All-head IsSayableHeld h hs said)
+
+-- a row with so many copies among rows
+pushed_plain : (rows : List CountedRow) (c : CountedRow) → plain_of (rows ++ c ∷ []) ≡ plain_of rows ++ c.row ∷ []
+pushed_plain [] c = refl
+pushed_plain (r ∷ rows) c = ap (λ (ts : List Tuple). r.row ∷ ts) (pushed_plain rows c)
+
+without_sayable : (rows : List CountedRow) (row : Tuple) → All IsSayableRow (plain_of rows)
+    → All IsSayableRow (plain_of (without_copies rows row))
+without_sayable rows row all =
+    subst (λ (ts : List Tuple). All IsSayableRow ts)
+    (sym (tuples_without rows row ∙ without_dropped (plain_of rows) row))
+    (all_dropped IsSayableRow (λ t. tuple_eq t row) (plain_of rows) all)
+
+so_many_sayable : (rows : List CountedRow) (row : Tuple) (n : ℕ) → All IsSayableRow (plain_of rows)
+    → IsSayableRow row
+    → All IsSayableRow (plain_of (with_so_many rows row n))
+so_many_sayable rows row zero all said = without_sayable rows row all
+so_many_sayable rows row (suc n) all said = by (has_row (plain_of rows) row)
+  where
+    more : CountedRow
+    more = record { row = row; copies = suc n }
+
+    by : (b : Bool) → All IsSayableRow (plain_of (cond b (with_copies rows row (suc n)) (rows ++ more ∷ [])))
+    by true = subst (λ (ts : List Tuple). All IsSayableRow ts) (sym (tuples_with_copies rows row (suc n))) all
     by false =
-        let before = counted_of st.relations h.relation in
-        other_rows st.relations h.relation (with_row before h.row) all
-        (subst (λ (ts : List Tuple). All IsSayableRow ts) (sym (tuples_with_row before h.row))
-        (All-push IsSayableRow (plain_of before) h.row (rows_sayable st.relations h.relation all) said.row))
+        subst (λ (ts : List Tuple). All IsSayableRow ts) (sym (pushed_plain rows more))
+        (All-push IsSayableRow (plain_of rows) row all said)
 
-all_held_sayable : (st : Store) (held : List HeldRow) → All IsSayableHeld held → All IsSayableRelation st.relations
-    → All IsSayableRelation (with_all st held).relations
-all_held_sayable st [] said all = all
-all_held_sayable st (h ∷ hs) said all =
-    all_held_sayable (with_held st h) hs (All-tail IsSayableHeld h hs said)
-    (held_sayable st h (All-head IsSayableHeld h hs said) all)
+left_sayable : (relations : List Relation) (lines : List HeldLine) (now : List Relation) (firsts : List HeldLine)
+    → All IsSayableHeld firsts → All IsSayableRelation now
+    → All IsSayableRelation (fold (with_copies_left relations lines) now firsts)
+left_sayable relations lines now [] said all = all
+left_sayable relations lines now (h ∷ hs) said all =
+    let n = copies_after relations lines h in
+    left_sayable relations lines (with_copies_left relations lines now h) hs (All-tail IsSayableHeld h hs said)
+    (other_rows now h.relation (with_so_many (counted_of now h.relation) h.row n) all
+    (so_many_sayable (counted_of now h.relation) h.row n (rows_sayable now h.relation all)
+    (All-head IsSayableHeld h hs said).row))
 
-pub done_sayable : (old : Store) (held : List HeldRow) (r : Result ℕ Refusal) (new : Store) → AddsBatch old held r new
-    → All IsSayableHeld held → IsSayableStore old → IsSayableStore new
-done_sayable old held (Ok zero) new h said s =
-    subst IsSayableStore (sym (h.2 ∙ is_behind old held zero h.1 ∙ (all_gain old held h.0).store)) (record {
-      relations = all_held_sayable old held said s.relations;
-      texts = subst (λ (st : Store). All IsSayableText st.texts) (all_gain old held h.0).store
-          (all_held_texts old held said s.texts);
+after_sayable : (relations : List Relation) (lines : List HeldLine) → All IsSayableHeld lines
+    → All IsSayableRelation relations
+    → All IsSayableRelation (relations_after relations lines)
+after_sayable relations lines said all =
+    left_sayable relations lines relations (first_lines lines)
+    (first_lines_said [] lines (All-nil IsSayableHeld) said) all
+
+-- a further change may be counted, if rows come or go
+none_after : {A : Type 0} (o p : Option A) → option_or o p ≡ None → p ≡ None
+none_after None p e = e
+none_after (Some a) p e = absurd cc
+
+refused_if_none : (b : Bool) (r : DoneRefusal) → refused_if b r ≡ None → b ≡ false
+refused_if_none true r e = absurd cc
+refused_if_none false r e = refl
+
+below_last_seq : (relations : List Relation) (texts : List Bytes) (seq : ℕ) (lines : List HeldLine) (given : Option ℕ)
+    → done_refusal relations texts seq lines given ≡ None → nat_lt 0 (rows_changed relations lines) ≡ true
+    → seq < LAST_SEQ
+below_last_seq relations texts seq lines given none some =
+    let change = nat_lt 0 (rows_changed relations lines) in
+    let line = option_map (λ r. Line r) (lines_refusal relations texts lines) in
+    let behind = none_after (refused_if (is_other given (length lines)) OtherNumber)
+    (option_or line (seq_refusal relations seq lines)) none in
+    let last = none_after line (seq_refusal relations seq lines) behind in
+    leb-false LAST_SEQ seq
+    (second_fails change (nat_le LAST_SEQ seq) some (refused_if_none (change && nat_le LAST_SEQ seq) LastChange last))
+
+pub done_sayable : (old : Store) (lines : List HeldLine) (given : Option ℕ) (r : Result ℕ DoneRefusal) (new : Store)
+    → DoesAll old lines given r new → All IsSayableHeld lines → IsSayableStore old → IsSayableStore new
+done_sayable old lines given (Ok n) new h said s =
+    subst IsSayableStore (sym h.does.1) (record {
+      relations = after_sayable old.relations lines said s.relations;
+      texts = texts_after_said old.texts lines said s.texts;
+      queries = s.queries;
+      seq = by (nat_lt 0 (rows_changed old.relations lines)) refl;
+    })
+  where
+    by : (b : Bool) → nat_lt 0 (rows_changed old.relations lines) ≡ b → cond b (old.seq + 1) old.seq ≤ LAST_SEQ
+    by true e =
+        let below = below_last_seq old.relations old.texts old.seq lines given h.answer e in omega (arith, below)
+    by false e = s.seq
+done_sayable old lines given (Err r) new h said s =
+    subst IsSayableStore (sym h.does.1) (record {
+      relations = s.relations;
+      texts = refused_texts old.relations old.texts lines new.texts r h.does.0 said s.texts;
       queries = s.queries;
       seq = s.seq;
     })
-done_sayable old held (Ok (suc n)) new h said s =
-    let some : count_came old held ≢ 0 = λ none. let is = h.1 in omega (arith, is, none) in
-    let below = came_below old held h.0 some in
-    subst IsSayableStore
-    (sym (h.2 ∙ is_behind old held (suc n) h.1
-    ∙ ap (λ (st : Store). record st { seq = old.seq + 1 }) (all_gain old held h.0).store)) (record {
-      relations = all_held_sayable old held said s.relations;
-      texts = subst (λ (st : Store). All IsSayableText st.texts) (all_gain old held h.0).store
-          (all_held_texts old held said s.texts);
-      queries = s.queries;
-      seq = omega (arith, below);
-    })
-done_sayable old held (Err r) new h said s =
-    learned_sayable old new (not_batched old held r new h) (refused_texts old held r new h said s.texts) s
 
--- no more rows come than are held
-pub came_few : (st : Store) (held : List HeldRow) → count_came st held ≤ length held
-came_few st [] = omega arith
-came_few st (h ∷ hs) = by (is_there st h) (came_few (with_held st h) hs)
+-- no more rows come, and no more go, than lines are held
+filtered_few : {A : Type 0} (p : A → Bool) (xs : List A) → length (filter p xs) ≤ length xs
+filtered_few p [] = omega arith
+filtered_few p (x ∷ xs) = by (p x) (filtered_few p xs)
   where
-    by : (b : Bool) → count_came (with_held st h) hs ≤ length hs
-        → cond b 0 1 + count_came (with_held st h) hs ≤ length (h ∷ hs)
+    by : (b : Bool) → length (filter p xs) ≤ length xs
+        → length (cond b (x ∷ filter p xs) (filter p xs)) ≤ suc (length xs)
     by true k = omega (arith, k)
     by false k = omega (arith, k)
+
+named_few : (firsts lines : List HeldLine) → length (fold with_naming firsts lines) ≤ length firsts + length lines
+named_few firsts [] = omega arith
+named_few firsts (h ∷ hs) =
+    let more = by (list_any (λ g. same_row g h) firsts) in
+    let rest = named_few (with_naming firsts h) hs in
+    omega (arith, more, rest)
+  where
+    by : (b : Bool) → length (cond b firsts (firsts ++ h ∷ [])) ≤ length firsts + 1
+    by true = omega arith
+    by false = omega (arith, length-append firsts (h ∷ []))
+
+pub changed_few : (relations : List Relation) (lines : List HeldLine)
+    → rows_changed relations lines ≤ length lines + length lines
+changed_few relations lines =
+    let came = filtered_few (line_comes relations lines) (first_lines lines) in
+    let went = filtered_few (line_goes relations lines) (first_lines lines) in
+    let first = named_few [] lines in
+    omega (arith, came, went, first)
 
 -- ---- unions
 

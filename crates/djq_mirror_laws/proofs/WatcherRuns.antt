@@ -19,34 +19,37 @@ use Rattle.djq_protocol.specs.declared.answer.EndCause.{EndCause}
 use Rattle.djq_protocol.specs.declared.answer.EndCause.TheVariants.{Input, Memory}
 use Rattle.djq_protocol.specs.declared.answer.EndLine.TheVariants.{Long as long_line, Slow as slow_line}
 use Rattle.djq_protocol.specs.declared.answer.EndLine.TheVariants.{Memory as memory_line}
-use Rattle.djq_protocol.specs.declared.held.HeldRow.{HeldRow}
+use Rattle.djq_protocol.specs.declared.held.DoneRefusal.{DoneRefusal}
+use Rattle.djq_protocol.specs.declared.held.Verb.{Verb}
+use Rattle.djq_protocol.specs.declared.held.Verb.TheVariants.{Add as Adds, Delete as Deletes}
 use Rattle.djq_protocol.specs.declared.command.Command.{Command}
 use Rattle.djq_protocol.specs.declared.command.Command.TheVariants.{Add, Del, Done}
 use Rattle.djq_protocol.specs.Grammar.{Reading, outside, past_limit, says_command, reading_of}
-use Rattle.djq_protocol.specs.Reply.{add_reply, delete_reply, done_reply, end_long, end_slow, end_memory, input_cut}
+use Rattle.djq_protocol.specs.Reply.{add_reply, delete_reply, done_reply, end_long, end_slow, end_memory}
 use Rattle.djq_mirror.specs.Replies.{Reply, changed as changes_answer, counted, ended as is_ended, cut, IsNumber}
 use Rattle.djq_store_spec.specs.Store.{Store}
 use Rattle.djq_store_spec.specs.Rows.{AddsRow, DeletesRow}
 use Rattle.djq_store_spec.specs.Delta.{Change, HasChanged, IsDelta}
 use Rattle.djq_store_spec.specs.Changes.{RowsOutcome, accepted, out_of_memory, unchanged, is_made, is_outdated, row_in}
 use Rattle.djq_store_spec.specs.Changes.{row_out, add_outcome, delete_outcome}
-use Rattle.djq_store_spec.specs.Batch.{AddsBatch, batch_outcome}
+use Rattle.djq_store_spec.specs.Held.{HeldTransaction}
+use Rattle.djq_store_spec.specs.Transaction.{DoesAll, lines_outcome}
 use Rattle.djq_store_spec.specs.DeltaCost.{Delta}
 use Rattle.djq_answer_laws.proofs.Lists.{some_there}
 use Rattle.djq_machine.specs.State.{State, Session, session_of, with_session, ended_by}
-use Rattle.djq_machine.specs.Effect.{Effect, nothing, says, EndsWith}
-use Rattle.djq_machine.specs.Command.{without_batch, AddStep, HoldStep, DoneStep, CommandStep}
+use Rattle.djq_machine.specs.Effect.{Effect, nothing, says_any, lost_line, EndsWith}
+use Rattle.djq_machine.specs.Command.{without_batch, AddStep, DeleteStep, HoldStep, DoneStep, CommandStep}
 use Rattle.djq_machine.specs.LineStep.{LineOutcome, long, blank, slow, no_room, run, ReadStep, FrontStep, behind_line}
 use Rattle.djq_machine.specs.Step.{Event, opened, fed, stepped, took, ended, closed, FedStep, TookStep, EndedStep, Acts}
-use Rattle.djq_machine.specs.Step.{with_relations, Step}
+use Rattle.djq_machine.specs.Step.{cut_line, with_relations, Step}
 use Rattle.djq_machine.specs.Run.{Did, to_session, out}
 use Rattle.djq_machine.specs.Call.{cause_of, cause_in}
 use Rattle.djq_machine.specs.Watch.{is_watching, ChangeStep}
 use Rattle.djq_run_laws.specs.Added.{added_up}
 use Rattle.djq_run_laws.specs.Rising.{AreRising}
-use Rattle.djq_run_laws.specs.Form.{RowCommand, row_comes, row_goes, rows_come}
+use Rattle.djq_run_laws.specs.Form.{RowCommand, row_comes, row_goes, carries_out}
 use Rattle.djq_run_laws.specs.Sound.{AreApart, IsSoundBatch, IsSoundStore, IsSoundSession, IsSoundState}
-use Rattle.djq_run_laws.specs.Watched.{IsWatcher, WatchesAlong, batch_in, add_outdater, done_outdater, line_outdater}
+use Rattle.djq_run_laws.specs.Watched.{IsWatcher, WatchesAlong, batch_in, row_outdater, done_outdater, line_outdater}
 use Rattle.djq_run_laws.specs.Watched.{event_changes, numbers_along, Told, all_added_up}
 use Rattle.djq_run_laws.proofs.DeltaSums.{deltas_add_up, watchers_have_answers, number_none, number_one, listing_stays}
 use Rattle.djq_run_laws.proofs.RegisteredQueries.{SameAnswers, reordered_same}
@@ -57,7 +60,6 @@ use Rattle.djq_run_laws.proofs.RowCommands.{RowsMade, outdater_by, added, delete
 use Rattle.djq_run_laws.proofs.SoundStates.{step_sound}
 use Rattle.djq_run_laws.proofs.Deltas.{StepTells, is_quiet, is_told, change_store, queued_store, step_tells, changed_to}
 use Rattle.djq_run_laws.proofs.Sessions.{changed_ids}
-use Rattle.djq_run_laws.proofs.Events.{cut_of}
 use Rattle.djq_mirror_laws.specs.Told.{replies_text, is_told_of, delta_replies, WatchersAreToldExactly}
 use Rattle.djq_mirror_laws.specs.Sayable.{IsSayableRelation, IsSayableListed, IsSayableStore, IsSayableSession}
 use Rattle.djq_mirror_laws.specs.Sayable.{IsSayableState}
@@ -70,7 +72,8 @@ use Rattle.djq_mirror_laws.proofs.Deltas.{own_replies, text_append, change_heard
 use Rattle.djq_mirror_laws.proofs.Replies.{IsPlain, IsHarmless, harmless_form, ExplainsNone, IsSayableReading, Fits}
 use Rattle.djq_mirror_laws.proofs.Replies.{Replies, OfForm, of_form, any_talk, add_form, delete_form, done_form}
 use Rattle.djq_mirror_laws.proofs.Replies.{rows_small, one_line, talks, held_replies, command_replies, refused_replies}
-use Rattle.djq_mirror_laws.proofs.Replies.{none_of}
+use Rattle.djq_mirror_laws.proofs.Replies.{none_of, AreStill, still_none, still_one, still_both, still_lines}
+use Rattle.djq_mirror_laws.proofs.Replies.{lost_still}
 
 -- ---- answers over rows in another order
 
@@ -125,7 +128,7 @@ no_talk : (b : Bool) → false ≡ (b && false)
 no_talk true = refl
 no_talk false = refl
 
-quietly : {U : Type 0} (s t : ℕ) (queued : List (ℕ × Bytes)) → Replies t queued false (U × ((t == s) ≡ true))
+pub quietly : {U : Type 0} (s t : ℕ) (queued : List (ℕ × Bytes)) → Replies t queued false (U × ((t == s) ≡ true))
     → IsQuiet s queued false U
 quietly s t queued r = inr (t, false, r, no_talk (t == s))
 
@@ -380,10 +383,11 @@ changed_rising old t f id rising =
     subst (λ (js : List ℕ). AllPairs (λ i j. i < j) js)
     (sym (changed_ids (λ (k : Session). k.id == t) f id old.sessions)) rising
 
--- the rows that came, of a batch that isn't too long
-pub few_held : (o : Option (List HeldRow)) (held : List HeldRow) → o ≡ Some held → IfSome o (λ hs. length hs ≤ HELD)
-    → length held ≤ HELD
-few_held o held e h = subst (λ (p : Option (List HeldRow)). IfSome p (λ hs. length hs ≤ HELD)) e h
+-- the lines of a batch that isn't too long
+pub few_held : (o : Option HeldTransaction) (held : HeldTransaction) → o ≡ Some held
+    → IfSome o (λ t. length t.lines ≤ HELD)
+    → length held.lines ≤ HELD
+few_held o held e h = subst (λ (p : Option HeldTransaction). IfSome p (λ t. length t.lines ≤ HELD)) e h
 
 -- what each command of rows is answered
 pub added_form : {U : Type 0} (old : Store) (name : Bytes) (row : Tuple) (r : Result AddOutcome Refusal) (store : Store)
@@ -400,11 +404,12 @@ deleted_form old name row r store h sound small =
     delete_form r store.seq small (λ copies k u. left_copies old (sound u) name row copies store
     (subst (λ (z : Result DeleteOutcome Refusal). DeletesRow old name row z store) k h))
 
-pub batched_form : {U : Type 0} (old : Store) (held : List HeldRow) (r : Result ℕ Refusal) (store : Store)
-    → AddsBatch old held r store → (U → length held ≤ HELD) → (U → IsNumber store.seq)
+pub lines_form : {U : Type 0} (old : Store) (held : HeldTransaction) (given : Option ℕ) (r : Result ℕ DoneRefusal)
+    (store : Store)
+    → DoesAll old held.lines given r store → (U → length held.lines ≤ HELD) → (U → IsNumber store.seq)
     → OfForm (done_reply r store.seq) false U
-batched_form old held r store h few small =
-    done_form r store.seq small (λ rows k u. rows_small old held r store h (few u) rows k)
+lines_form old held given r store h few small =
+    done_form r store.seq small (λ rows k u. rows_small old held.lines given r store h (few u) rows k)
 
 -- the number of changes behind one, where the store that it left can be said
 pub seq_small : (store : Store) (mid : State) → mid.store ≡ store → IsSayableStore mid.store → IsNumber store.seq
@@ -423,9 +428,20 @@ module _ (q : Listed) (s : ℕ) (old : State) (x : Session) (is : session_of old
       → StepSays q s old.store new e.queued (is_some o) ((t == s) && reading_talks r)
       (Fits s t old.store y r e mid.store)
 
-  add_says : (name : Bytes) (row : Tuple) (batch : Option (List HeldRow))
-      → MatchOption batch (AddStep old t name row e mid) (λ held. HoldStep old t held l name row e mid)
-      → Speaks (add_outdater batch name q) (says_command (Add name row))
+  -- `add` and `del`, by the batch of the session that says it
+  held_says : (r : Reading) (held : HeldTransaction) (verb : Verb) (name : Bytes) (row : Tuple)
+      → reading_talks r ≡ false
+      → HoldStep old t held l verb name row e mid → Speaks None r
+  held_says r held verb name row none h tells =
+      subst
+      (λ (b : Bool). StepSays q s old.store new e.queued false ((t == s) && b) (Fits s t old.store y r e mid.store))
+      (sym none)
+      (quiet_says q s old.store new e.queued false ((t == s) && false)
+      (inr (t, false, held_replies old t held l verb name row e mid h, refl)) tells (inl refl))
+
+  add_says : (name : Bytes) (row : Tuple) (batch : Option HeldTransaction)
+      → MatchOption batch (AddStep old t name row e mid) (λ held. HoldStep old t held l Adds name row e mid)
+      → Speaks (row_outdater batch name q) (says_command (Add name row))
   add_says name row None h tells =
       let left = change_store old t _ h.store _ e mid h.change in
       change_says q s old x is names rising registered watching t y (says_command (Add name row))
@@ -434,32 +450,12 @@ module _ (q : Listed) (s : ℕ) (old : State) (x : Session) (is : session_of old
       (row_comes name row) (added old.store name row h.result h.store h.done)
       (subst (λ (st : Store). SameAnswers st.relations new.relations q) left same)
       (seq ∙ ap (λ (st : Store). st.seq) left) h.change running tells ((t == s) && false)
-  add_says name row (Some held) h tells =
-      quiet_says q s old.store new e.queued false ((t == s) && false)
-      (inr (t, false, held_replies old t (Some held) l name row e mid refl h, refl)) tells (inl refl)
+  add_says name row (Some held) h tells = held_says (says_command (Add name row)) held Adds name row refl h tells
 
-  done_says : (batch : Option (List HeldRow)) → y.batch ≡ batch
-      → MatchOption batch ⊥ (λ held. DoneStep old t held e mid)
-      → Speaks (done_outdater old.store batch q) (says_command Done)
-  done_says None at h tells = absurd h
-  done_says (Some held) at h tells =
-      let begun = with_session old t without_batch in
-      let z = changed_session old t without_batch (λ k. refl) (λ k. refl) s x is in
-      let left = change_store begun t _ h.store _ e mid h.change in
-      change_says q s begun z.0 z.1 names (changed_rising old t without_batch (λ k. refl) rising) registered
-      (ap (λ (ws : List Bytes). list_any (λ w. bytes_eq w (listed_name q)) ws) z.2 ∙ watching) t y (says_command Done)
-      (batch_outcome old.store held h.result) h.store _ e mid
-      (batched_form old.store held h.result h.store h.done (λ u. few_held y.batch held at u.few)
-      (λ u. seq_small h.store mid left u.behind)) left new
-      (rows_come held) (batched old.store held h.result h.store h.done)
-      (subst (λ (st : Store). SameAnswers st.relations new.relations q) left same)
-      (seq ∙ ap (λ (st : Store). st.seq) left) h.change running tells ((t == s) && false)
-
-  command_says : (c : Command) → CommandStep old t y l c e mid
-      → Speaks (line_outdater old.store y.batch (says_command c) q) (says_command c)
-  command_says (Add name row) h tells = add_says name row y.batch h tells
-  command_says Done h tells = done_says y.batch refl h tells
-  command_says (Del name row) h tells =
+  delete_says : (name : Bytes) (row : Tuple) (batch : Option HeldTransaction)
+      → MatchOption batch (DeleteStep old t name row e mid) (λ held. HoldStep old t held l Deletes name row e mid)
+      → Speaks (row_outdater batch name q) (says_command (Del name row))
+  delete_says name row None h tells =
       let left = change_store old t _ h.store _ e mid h.change in
       change_says q s old x is names rising registered watching t y (says_command (Del name row))
       (delete_outcome (row_out old.store.relations name row) h.result) h.store _ e mid
@@ -468,6 +464,32 @@ module _ (q : Listed) (s : ℕ) (old : State) (x : Session) (is : session_of old
       left new (row_goes name row) (deleted old.store name row h.result h.store h.done)
       (subst (λ (st : Store). SameAnswers st.relations new.relations q) left same)
       (seq ∙ ap (λ (st : Store). st.seq) left) h.change running tells ((t == s) && false)
+  delete_says name row (Some held) h tells =
+      held_says (says_command (Del name row)) held Deletes name row refl h tells
+
+  done_says : (given : Option ℕ) (batch : Option HeldTransaction) → y.batch ≡ batch
+      → MatchOption batch ⊥ (λ held. DoneStep old t held given e mid)
+      → Speaks (done_outdater old.store batch q) (says_command (Done given))
+  done_says given None at h tells = absurd h
+  done_says given (Some held) at h tells =
+      let begun = with_session old t without_batch in
+      let z = changed_session old t without_batch (λ k. refl) (λ k. refl) s x is in
+      let left = change_store begun t _ h.store _ e mid h.change in
+      change_says q s begun z.0 z.1 names (changed_rising old t without_batch (λ k. refl) rising) registered
+      (ap (λ (ws : List Bytes). list_any (λ w. bytes_eq w (listed_name q)) ws) z.2 ∙ watching) t y
+      (says_command (Done given))
+      (lines_outcome old.store.relations held.lines h.result) h.store _ e mid
+      (lines_form old.store held given h.result h.store h.done (λ u. few_held y.batch held at u.few)
+      (λ u. seq_small h.store mid left u.behind)) left new
+      (carries_out held given) (batched old.store held given h.store h.result h.done)
+      (subst (λ (st : Store). SameAnswers st.relations new.relations q) left same)
+      (seq ∙ ap (λ (st : Store). st.seq) left) h.change running tells ((t == s) && false)
+
+  command_says : (c : Command) → CommandStep old t y l c e mid
+      → Speaks (line_outdater old.store y.batch (says_command c) q) (says_command c)
+  command_says (Add name row) h tells = add_says name row y.batch h tells
+  command_says (Del name row) h tells = delete_says name row y.batch h tells
+  command_says (Done given) h tells = done_says given y.batch refl h tells
   command_says c h tells =
       quiet_says q s old.store new e.queued false ((t == s) && talks c)
       (inr (t, talks c, command_replies s old t y l c e mid tt h, refl)) tells (inl refl)
@@ -512,25 +534,30 @@ fed_quiet s old t bytes e mid None (inr h) = ends_quiet s t end_memory Memory ol
     (of_form end_memory (is_ended memory_line) refl (λ name. refl) (λ u. (tt, tt))) h
 fed_quiet s old t bytes e mid (Some c) h = nothing_quiet s e h.0
 
-cut_quiet : {U : Type 0} (s t : ℕ) (held : Bytes) (e : Effect) → e ≡ cut_of t held → IsQuiet s e.queued false U
-unfolding cut_of
-cut_quiet s t [] e h = nothing_quiet s e h
-cut_quiet s t (b ∷ bs) e h =
-    quietly s t e.queued (one_line t input_cut e.queued false
-    (of_form input_cut cut refl (λ name. refl) (λ u. (tt, tt))) (ap (λ (y : Effect). y.queued) h))
+any_quiet : {U : Type 0} (s t : ℕ) (text : Bytes) (e : Effect) → AreStill text → e ≡ says_any t text
+    → IsQuiet s e.queued false U
+any_quiet s t [] e still h = nothing_quiet s e h
+any_quiet s t (b ∷ bs) e still h =
+    quietly s t e.queued (still_lines t (b ∷ bs) e.queued still (ap (λ (y : Effect). y.queued) h))
 
-input_quiet : {U : Type 0} (s : ℕ) (old : State) (t : ℕ) (held : Bytes) (e : Effect) (mid : State) (P : Type 0)
-    (c : Option EndCause)
-    → MatchOption c (P × (e ≡ cut_of t held) × (mid ≡ with_session old t (ended_by Input)))
+-- the line that reports that input ended within a line, if it did
+cut_still : (held : Bytes) → AreStill (cut_line held)
+cut_still [] = still_none
+cut_still (b ∷ bs) = still_one cut refl (λ name. refl) (tt, tt)
+
+input_quiet : {U : Type 0} (s : ℕ) (old : State) (t : ℕ) (text : Bytes) (e : Effect) (mid : State) (P : Type 0)
+    → AreStill text → (c : Option EndCause)
+    → MatchOption c (P × (e ≡ says_any t text) × (mid ≡ with_session old t (ended_by Input)))
     (λ _. (e ≡ nothing) × (mid ≡ old))
     → IsQuiet s e.queued false U
-input_quiet s old t held e mid P None h = cut_quiet s t held e h.1
-input_quiet s old t held e mid P (Some c) h = nothing_quiet s e h.0
+input_quiet s old t text e mid P still None h = any_quiet s t text e still h.1
+input_quiet s old t text e mid P still (Some c) h = nothing_quiet s e h.0
 
 pub ended_quiet : {U : Type 0} (s : ℕ) (old : State) (t : ℕ) (x : Session) (e : Effect) (mid : State)
     → EndedStep old t x e mid → IsQuiet s e.queued false U
-unfolding cut_of
-ended_quiet s old t x e mid h = input_quiet s old t x.held e mid _ x.cause h
+ended_quiet s old t x e mid h =
+    input_quiet s old t (cut_line x.held ++ lost_line x.batch) e mid _
+    (still_both (cut_line x.held) (lost_line x.batch) (cut_still x.held) (lost_still x.batch)) x.cause h
 
 -- So it is of the line that an event runs, where it is the session's own.
 abbrev pub ExplainsNothing : ℕ → Event → Type 0
@@ -543,8 +570,8 @@ pub record Tame (s : ℕ) (old : State) (event : Event) (e : Effect) : Type 0 wh
   pub fine : IsSayableState old
   pub no_tree : ExplainsNothing s event
 
-batch_few : (st : Store) (o : Option (List HeldRow)) → IfSome o (IsSoundBatch st)
-    → IfSome o (λ held. length held ≤ HELD)
+batch_few : (st : Store) (o : Option HeldTransaction) → IfSome o (IsSoundBatch st)
+    → IfSome o (λ held. length held.lines ≤ HELD)
 batch_few st None h = tt
 batch_few st (Some held) h = h.few
 

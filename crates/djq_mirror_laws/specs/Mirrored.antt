@@ -17,6 +17,8 @@ use Rattle.djq_protocol.specs.declared.command.Command.TheVariants.{
   Batch,
   Done,
   Abandon,
+  Quit,
+  Stop,
 }
 use Rattle.djq_protocol.specs.Grammar.{Reading, says_command, reading_of}
 use Rattle.djq_mirror.specs.declared.mode.Mode.TheVariants.{Live}
@@ -61,7 +63,7 @@ MayBeSaid name x (Open c q) = (q ≡ name) × All (λ k. k.name ≡ c) x.cursors
 MayBeSaid name x (Next c count) = Unit {0}
 MayBeSaid name x (Close c) = Unit {0}
 MayBeSaid name x Batch = Unit {0}
-MayBeSaid name x Done = Unit {0}
+MayBeSaid name x (Done given) = Unit {0}
 MayBeSaid name x Abandon = Unit {0}
 MayBeSaid name x _ = ⊥
 
@@ -151,14 +153,21 @@ StartsAreMirrored = (start : State) → IsStart start → IsSayableStore start.s
     (done : List Did) (new : State) → SessionReads q s first fore old done new
     → IsMirrored q s (fore ++ done) new
 
--- The input of a session ends, or it is gone.
+-- A line says `quit` or `stop`.
+abbrev pub SaysItLeaves : Reading → Type 0
+SaysItLeaves (says_command Quit) = Unit {0}
+SaysItLeaves (says_command Stop) = Unit {0}
+SaysItLeaves r = ⊥
+
+-- A session says `quit` or `stop`, or its input ends, or it is gone.
 abbrev pub EndsNow : ℕ → Event → Type 0
+EndsNow s (stepped t (run l)) = (t ≡ s) × SaysItLeaves (reading_of l)
 EndsNow s (ended t) = t ≡ s
 EndsNow s (closed t bytes) = t ≡ s
 EndsNow s event = ⊥
 
--- And where it ends so behind that, the mirror takes its last line too, and holds the answers over the
--- rows as they were when it ended.
+-- And if it ends so after that, the mirror takes its last lines too: that a line was cut, that lines of a batch are
+-- dropped, and `bye`. It holds the answers over the rows as they were when it ended.
 abbrev pub EndsAreMirrored : Type 0
 EndsAreMirrored = (q : Listed) (s : ℕ) (done : List Did) (new : State) → IsMirrored q s done new
     → (d : Did) (last : State) → Step new d.event d.effect last → EndsNow s d.event
@@ -177,8 +186,8 @@ pub record IsReadBack (q : Listed) (s : ℕ) (done : List Did) (at : State) : Ty
   pub input : HoldsAtEnd (listed_name q) (out s done) held
   pub live : held.mode ≡ Live → HoldsTextsOf held (AnswersOf at.store.relations q)
 
--- So it is in every run from a state to start from whose names and values lines can say; and behind the
--- end of the session's input, or as it is closed, of the rows as they were then.
+-- So it is in every run from a state to start from whose names and values lines can say; and after the session's
+-- `quit` or `stop`, or the end of its input, or as it is closed, of the rows as they were then.
 abbrev pub ReadersAreReadBack : Type 0
 ReadersAreReadBack = (start : State) → IsStart start → IsSayableStore start.store → (q : Listed) (s : ℕ)
     (earlier : List Did) (first : State) → Run start earlier first → (fore : List Did) (old : State)

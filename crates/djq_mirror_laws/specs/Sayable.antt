@@ -13,9 +13,9 @@ use Rattle.djq_model.specs.Data.{Bytes, Tuple, tuples_in}
 use Rattle.djq_model.specs.Listed.{Listed, a_query, a_union}
 use Rattle.djq_value.specs.Literal.{IsName, is_small_value}
 use Rattle.djq_protocol.specs.declared.limits.TheConstants.{LAST_SEQ}
-use Rattle.djq_protocol.specs.declared.held.HeldRow.{HeldRow}
 use Rattle.djq_answer_laws.specs.Finite.{IsBound}
 use Rattle.djq_store_spec.specs.Store.{Store, Position, open_at, stale}
+use Rattle.djq_store_spec.specs.Held.{HeldLine}
 use Rattle.djq_machine.specs.State.{State, Session, Cursor, opening}
 use Rattle.djq_machine.specs.Run.{Did, Run}
 use Rattle.djq_run_laws.specs.Sound.{IsWithinLimits, IsStart}
@@ -94,16 +94,16 @@ pub record IsSayableCursor (c : Cursor) : Type 0 where
   pub query : IsName c.query
   pub position : IsSayablePosition c.position
 
--- A row that is held is of such values, for a relation of a name.
-pub record IsSayableHeld (h : HeldRow) : Type 0 where
+-- The row of a line that is held is of such values, and its relation has a name.
+pub record IsSayableHeld (h : HeldLine) : Type 0 where
   pub relation : IsName h.relation
   pub row : IsSayableRow h.row
 
--- A session's cursors are such, it watches queries by their names, and its batch holds such rows.
+-- A session's cursors are such, it watches queries by their names, and its batch holds such lines.
 pub record IsSayableSession (x : Session) : Type 0 where
   pub cursors : All IsSayableCursor x.cursors
   pub watches : All IsName x.watches
-  pub batch : IfSome x.batch (λ held. All IsSayableHeld held)
+  pub batch : IfSome x.batch (λ held. All IsSayableHeld held.lines)
 
 -- The store and each session are such.
 pub record IsSayableState (st : State) : Type 0 where

@@ -15,8 +15,8 @@ use Rattle.djq_run_laws.specs.Silent.{OpensNone}
 use Rattle.djq_mirror_laws.specs.Sayable.{IsSayableStore}
 use Rattle.djq_mirror_laws.specs.Mirrored.{HoldsTextsOf, SessionReads, EndsNow, IsReadBack}
 
--- What comes behind a session that reads a query: nothing; or its input ends, or it is closed, and
--- then whatever comes, but for a session of its id.
+-- What comes after a session that reads a query: nothing; or it says `quit` or `stop`, or its input ends, or it is
+-- closed, and then whatever comes, but for a session of its id.
 abbrev pub LeavesOff : ℕ → State → List Did → State → Type 0
 LeavesOff s old [] new = new ≡ old
 LeavesOff s old (d ∷ later) new = (mid : State) × Step old d.event d.effect mid × EndsNow s d.event
@@ -29,8 +29,8 @@ GoesOnBehind s old (d ∷ later) new =
     (mid : State) × Step old d.event d.effect mid × EndsNow s d.event × Run mid later new
 
 -- A whole run of a session: nothing is queued to it, until it waits, begins to watch a query, and reads
--- it through one cursor at a time. It does so up to a state, the last one, or the one in which its
--- input ends or it is closed.
+-- it through one cursor at a time. It does so up to a state, the last one, or the one in which it says `quit` or
+-- `stop`, its input ends, or it is closed.
 pub record ReadsWhole (q : Listed) (s : ℕ) (start : State) (whole : List Did) (at new : State) : Type 0
   where
     pub earlier : List Did
@@ -52,8 +52,8 @@ abbrev pub SessionsAreReadBack : Type 0
 SessionsAreReadBack = (start : State) → IsStart start → IsSayableStore start.store → (q : Listed) (s : ℕ)
     (whole : List Did) (at new : State) → ReadsWhole q s start whole at new → IsReadBack q s whole at
 
--- Such a run of a session, from the step on in which it opens; and then its input ends or it is closed, and
--- whatever comes behind that.
+-- Such a run of a session, from the step on in which it opens; and then it says `quit` or `stop`, its input ends, or
+-- it is closed, and whatever comes after that.
 pub record ReadsSinceOpened (q : Listed) (s : ℕ) (start : State) (whole : List Did) (at new : State) : Type 0
   where
     pub earlier : List Did

@@ -8,7 +8,10 @@
 //! 1 sends open c q          ok open            it lists, and has nothing
 //! 1 sends next c 9          = 2, = 1, end      it is live, and has 1 and 2
 //! 2 sends add r 3 5         + q 3, at q 3      it has 1, 2 and 3
-//! 2 sends del r 1 5         - q 1, at q 4      it has 2 and 3, the answers of q
+//! 2 sends del r 1 5         - q 1, at q 4      it has 2 and 3
+//! 2 sends batch, del r 2 5,
+//! add r 4 5, done           - q 2, + q 4, at q 5
+//!                                              it has 3 and 4, the answers of q
 //! ```
 //!
 //! What this crate is not: it reads no bytes. djq_mirror defines what a reply line is, and what each form of
@@ -56,10 +59,11 @@ pub fn watchers_are_told_exactly()
 
 /// A session begins to watch a query or a union and then reads it through one cursor at a time. A mirror of
 /// it, of what that session was sent, refuses nothing. If it is live, it holds the answers over
-/// the present rows, or over those that were present as the session's input ended or it was closed. This is
-/// stated of replies by their forms. From a start whose names and values a line can express it is also
-/// stated of the whole of the bytes that the session was sent. And it is stated after the session's end: to
-/// the last step of the run, whatever follows that end.
+/// the present rows, or over those that were present as the session said `quit` or `stop`, its input ended,
+/// or it was closed. What it is sent then is covered too: that a line was cut, that lines which its batch held
+/// are dropped, and `bye`. This is stated of replies by their forms. From a start whose names and values a line
+/// can express it is also stated of the whole of the bytes that the session was sent. And it is stated after
+/// the session's end: to the last step of the run, whatever follows that end.
 pub fn readers_are_mirrored()
     ensures watching { WatchersAreMirrored }
     ensures reading { ReadersAreMirrored }

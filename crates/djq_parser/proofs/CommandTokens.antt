@@ -1,8 +1,9 @@
 -- Tokens are read as a command exactly if they say it.
 use Rattle.std.proofs.Common.{◌≡◌, ℕ, zero, suc, ◌<◌, ◌≤◌, true, ◌&&◌, List, [], ◌∷◌, ◌++◌, length, Option, Some, None}
-use Rattle.std.proofs.Common.{option_map, refl, sym, ap, ap₂, subst, ◌∙◌, arith, leb, ◌↔◌, codes, append-nil}
+use Rattle.std.proofs.Common.{min, option_map, refl, sym, ap, ap₂, subst, ◌∙◌, arith, leb, ◌↔◌, codes, append-nil}
 use Rattle.std.specs.List.{AllZip}
 use Rattle.std.proofs.lemmas.Bool.{cond-true, and_parts, and_from, leb-true, le-leb}
+use Rattle.std.proofs.lemmas.Bool.Decides.{nat_tests}
 use Rattle.djq_model.specs.declared.relation.ColumnType.{ColumnType}
 use Rattle.djq_model.specs.declared.value.Value.{Value}
 use Rattle.djq_model.specs.declared.query.Atom.{Atom}
@@ -33,7 +34,7 @@ use Rattle.djq_protocol.specs.Grammar.{command_behind, command_in, command_with,
 use Rattle.djq_protocol.specs.Grammar.{is_count, item_in, items_in, items_within, past_item, put_item, with_atoms}
 use Rattle.djq_protocol.specs.Grammar.{keyword_of, list_in, name_and_count, name_and_members, name_of, named_any}
 use Rattle.djq_protocol.specs.Grammar.{named_some, at_line_end, one_name, query_of_tokens, query_of, term_of, two_names}
-use Rattle.djq_protocol.specs.Grammar.{type_of}
+use Rattle.djq_protocol.specs.Grammar.{type_of, number_or_last, number_if_any}
 use Rattle.djq_parser.specs.Saying.{SaysCommand, SaysAtom, SaysBody, SaysItem, SaysItems, SaysName, SaysOne, SaysQuery}
 use Rattle.djq_parser.specs.Saying.{SaysRow, SaysTerm, SaysType, SaysValue, atoms_among, comparisons_among, list_tokens}
 use Rattle.djq_parser.proofs.Bodies.{items_in-step}
@@ -453,6 +454,22 @@ next_said (word c ∷ word w ∷ []) p e =
     (w, guarded.0, numeral_said w found.0 count.0, leb-true 1 found.0 bounds.0, leb-true found.0 1000 bounds.1, refl)
 next_said _ p e = absurd cc
 
+-- the last number stands for each larger one
+last-min : (n : ℕ) → number_or_last n ≡ min n 4294967295
+last-min n = grind (arith, nat_tests)
+
+done_said : (ts : List Token) (given : Option ℕ) → number_if_any ts ≡ Some given
+    → SaysCommand (Done given) (word (codes "done") ∷ ts)
+done_said [] given e =
+    let same : None ≡ given = cc in
+    subst (λ (o : Option ℕ). SaysCommand (Done o) (word (codes "done") ∷ [])) same refl
+done_said (word w ∷ []) given e =
+    let make : ℕ → Option ℕ = λ n. Some (number_or_last n) in
+    let found = map_some make (natural_of w) given e in
+    subst (λ (o : Option ℕ). SaysCommand (Done o) (word (codes "done") ∷ word w ∷ [])) found.2
+    (w, found.0, numeral_said w found.0 found.1, last-min found.0, refl)
+done_said _ given e = absurd cc
+
 nothing_said : (command c : Command) (ts : List Token) → at_line_end command ts ≡ Some c → (ts ≡ []) × (command ≡ c)
 nothing_said command c [] e = (refl, cc)
 nothing_said command c (t ∷ ts) e = absurd (cc)
@@ -581,7 +598,9 @@ behind_said UnwatchWord ts c e = named_one (codes "unwatch") (λ q. Unwatch q) t
 behind_said ExplainWord ts c e = named_one (codes "explain") (λ q. Explain q) ts c (λ n us s. s) e
 behind_said ShapeWord ts c e = named_one (codes "shape") (λ q. Shape q) ts c (λ n us s. s) e
 behind_said BatchWord ts c e = alone_said (codes "batch") Batch ts c (λ us s. s) e
-behind_said DoneWord ts c e = alone_said (codes "done") Done ts c (λ us s. s) e
+behind_said DoneWord ts c e =
+    let found = map_some (λ (n : Option ℕ). Done n) (number_if_any ts) c e in
+    subst (λ (d : Command). SaysCommand d (word (codes "done") ∷ ts)) found.2 (done_said ts found.0 found.1)
 behind_said AbandonWord ts c e = alone_said (codes "abandon") Abandon ts c (λ us s. s) e
 behind_said QuitWord ts c e = alone_said (codes "quit") Quit ts c (λ us s. s) e
 behind_said StopWord ts c e = alone_said (codes "stop") Stop ts c (λ us s. s) e
@@ -634,7 +653,12 @@ said_read (Unwatch q) ts s = ap command_in s.1 ∙ ap (option_map (λ n. Unwatch
 said_read (Explain q) ts s = ap command_in s.1 ∙ ap (option_map (λ n. Explain n)) (cond-true _ _ _ s.0)
 said_read (Shape q) ts s = ap command_in s.1 ∙ ap (option_map (λ n. Shape n)) (cond-true _ _ _ s.0)
 said_read Batch ts s = ap command_in s
-said_read Done ts s = ap command_in s
+said_read (Done None) ts s = ap command_in s
+said_read (Done (Some k)) ts s =
+    ap command_in s.4
+    ∙ ap (option_map (λ (n : Option ℕ). Done n))
+    (ap (option_map (λ (n : ℕ). Some (number_or_last n))) (numeral_from s.0 s.1 s.2)
+    ∙ ap {B = Option (Option ℕ)} (λ (n : ℕ). Some (Some n)) (last-min s.1 ∙ sym s.3))
 said_read Abandon ts s = ap command_in s
 said_read Quit ts s = ap command_in s
 said_read Stop ts s = ap command_in s

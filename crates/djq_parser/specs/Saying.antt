@@ -1,25 +1,5 @@
 -- What tokens say a command: the grammar as a relation, told without reading.
-use Rattle.std.specs.Prelude.{
-  ◌≡◌,
-  ℕ,
-  ℤ,
-  pos,
-  ◌-◌,
-  ◌+◌,
-  ◌*◌,
-  ◌^◌,
-  ◌<◌,
-  ◌≤◌,
-  ◌⊎◌,
-  neg_ℤ,
-  List,
-  [],
-  ◌∷◌,
-  ◌++◌,
-  true,
-  codes,
-  length,
-}
+use Rattle.std.specs.Prelude.{◌≡◌, ℕ, ℤ, pos, ◌-◌, ◌+◌, ◌*◌, ◌^◌, ◌<◌, ◌≤◌, ◌⊎◌, neg_ℤ, List, [], ◌∷◌, ◌++◌, true, codes, length, min, None, Some}
 use Rattle.std.specs.List.{AllZip, list_all}
 use Rattle.djq_model.specs.Data.{Bytes, Tuple}
 use Rattle.djq_model.specs.declared.value.Value.{Value}
@@ -31,7 +11,7 @@ use Rattle.djq_model.specs.declared.query.Term.TheVariants.{Variable, Hole, Cons
 use Rattle.djq_model.specs.declared.query.Atom.{Atom}
 use Rattle.djq_model.specs.declared.query.Comparison.{Comparison}
 use Rattle.djq_model.specs.declared.query.Query.{Query}
-use Rattle.djq_protocol.specs.declared.limits.TheConstants.{NEXT_COUNT}
+use Rattle.djq_protocol.specs.declared.limits.TheConstants.{NEXT_COUNT, LAST_COUNT}
 use Rattle.djq_protocol.specs.declared.command.Command.{Command}
 use Rattle.djq_protocol.specs.declared.command.Command.TheVariants.{
   Rel,
@@ -182,7 +162,9 @@ SaysCommand (Unwatch q) ts = SaysOne (codes "unwatch") q ts
 SaysCommand (Explain q) ts = SaysOne (codes "explain") q ts
 SaysCommand (Shape q) ts = SaysOne (codes "shape") q ts
 SaysCommand Batch ts = ts ≡ word (codes "batch") ∷ []
-SaysCommand Done ts = ts ≡ word (codes "done") ∷ []
+SaysCommand (Done None) ts = ts ≡ word (codes "done") ∷ []
+SaysCommand (Done (Some k)) ts = (ds : Bytes) × (n : ℕ) × IsNumeral ds n × (k ≡ min n LAST_COUNT)
+    × (ts ≡ word (codes "done") ∷ word ds ∷ [])
 SaysCommand Abandon ts = ts ≡ word (codes "abandon") ∷ []
 SaysCommand Quit ts = ts ≡ word (codes "quit") ∷ []
 SaysCommand Stop ts = ts ≡ word (codes "stop") ∷ []

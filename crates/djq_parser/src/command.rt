@@ -5,8 +5,8 @@ ghost use Rattle.djq_parser.specs.Reading.{GivesCommand, LineReadsAs};
 
 use crate::keyword::read_keyword;
 use crate::parts::{
-    read_count, read_members, read_named_any, read_named_some, read_nothing, read_one_name,
-    read_two_names,
+    read_count, read_members, read_named_any, read_named_some, read_nothing, read_number_if_any,
+    read_one_name, read_two_names,
 };
 use crate::query::read_query;
 use crate::refusal::LineRefusal;
@@ -103,7 +103,10 @@ fn read_arguments(
             Ok(Command::Has { query, row })
         }
         Keyword::Batch => read_nothing(lexer, Command::Batch),
-        Keyword::Done => read_nothing(lexer, Command::Done),
+        Keyword::Done => {
+            let count = read_number_if_any(lexer)?;
+            Ok(Command::Done { count })
+        }
         Keyword::Abandon => read_nothing(lexer, Command::Abandon),
         Keyword::Quit => read_nothing(lexer, Command::Quit),
         Keyword::Stop => read_nothing(lexer, Command::Stop),

@@ -1,10 +1,10 @@
 //! The arguments after a keyword, to the line's end.
-ghost use Rattle.std.specs.Prelude.{◌≡◌, true, Err, Ok};
+ghost use Rattle.std.specs.Prelude.{◌≡◌, true, Err, Ok, option_map};
 ghost use Rattle.std.specs.List.{list_all};
 ghost use Rattle.std.specs.Option.{ok_or};
 ghost use Rattle.djq_value.specs.Literal.{natural_of};
 ghost use Rattle.djq_protocol.specs.Grammar.{answer_count, name_and_count, named_any, named_some, at_line_end};
-ghost use Rattle.djq_protocol.specs.Grammar.{name_and_members, one_name, two_names};
+ghost use Rattle.djq_protocol.specs.Grammar.{number_or_last, name_and_members, number_if_any, one_name, two_names};
 ghost use Rattle.djq_parser.specs.Reading.{has_three as has_three_of, ReadsAs};
 ghost use Rattle.djq_parser.specs.declared.refusal.LineRefusal.TheVariants.{Syntax};
 
@@ -13,7 +13,7 @@ use crate::items::read_all;
 use crate::refusal::LineRefusal;
 use djq_model::{Name, Names, Sequence};
 use djq_protocol::Command;
-use djq_protocol::limits::NEXT_COUNT;
+use djq_protocol::limits::{LAST_COUNT, NEXT_COUNT};
 use djq_value::{Lexer, next_name, next_word, read_natural};
 use std::alloc::Global;
 
@@ -117,6 +117,33 @@ fn count_in(word: &[u8]) -> Option<u32>
     match read_natural(word) {
         Some(count) if count >= 1 && count <= NEXT_COUNT as u64 => Some(count as u32),
         _ => None,
+    }
+}
+
+/// One number, or nothing.
+pub(crate) fn read_number_if_any(lexer: &mut Lexer<'_>) -> Result<Option<u32>, LineRefusal>
+    ensures { result ≡ ok_or (number_if_any lexer.old) Syntax }
+{
+    if lexer.is_done() {
+        return Ok(None);
+    }
+    let Some(word) = next_word(lexer) else {
+        return Err(LineRefusal::Syntax);
+    };
+    match number_in(word) {
+        Some(number) if lexer.is_done() => Ok(Some(number)),
+        _ => Err(LineRefusal::Syntax),
+    }
+}
+
+/// The number that a word is: digits alone. The last number stands for each larger one.
+fn number_in(word: &[u8]) -> Option<u32>
+    ensures { result ≡ option_map number_or_last (natural_of word.now) }
+{
+    match read_natural(word) {
+        Some(number) if number <= LAST_COUNT as u64 => Some(number as u32),
+        Some(_) => Some(LAST_COUNT),
+        None => None,
     }
 }
 

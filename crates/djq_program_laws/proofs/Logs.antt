@@ -23,7 +23,7 @@ use Rattle.djq_log.specs.declared.log.Kept.TheVariants.{All as Stored, Failed as
 use Rattle.djq_log.specs.declared.source.LogSource.{LogSource}
 use Rattle.djq_log.specs.declared.opening.LogFound.TheVariants.{Made, Ready, Unknown, Failed as Unopened}
 use Rattle.djq_log.proofs.Keeps.{keeps_on}
-use Rattle.djq_protocol.specs.declared.held.HeldRow.{HeldRow}
+use Rattle.djq_store_spec.specs.Held.{HeldTransaction}
 use Rattle.djq_store_spec.specs.Store.{Store}
 use Rattle.djq_machine.specs.declared.machine.Loaded.{Loaded}
 use Rattle.djq_machine.specs.declared.machine.Loaded.TheVariants.{Ran}
@@ -51,7 +51,7 @@ use Rattle.djq_serve.specs.Server.{Move, all_done, all_logged}
 use Rattle.djq_serve.specs.Ends.{IsCommitted}
 use Rattle.djq_serve.proofs.Commits.{commits_first}
 use Rattle.djq_program_laws.specs.Logged.{LogIsMade, IsOlder, FindsLines, LeavesUnloaded, DiskSeen, abandoning}
-use Rattle.djq_program_laws.specs.Logged.{first_kept, LogSeen, log_seen_at, log_seen, SinceOpened, KeptAs, Logs}
+use Rattle.djq_program_laws.specs.Logged.{first_kept, log_seen_at, log_seen, SinceOpened, KeptAs, Logs}
 use Rattle.djq_serve.specs.Goes.{log_place, LogsMove}
 use Rattle.djq_program_laws.specs.Logged.{IsStored}
 use Rattle.djq_program_laws.specs.Logged.{FoundIn, Begins, IsOnlyRead, UnloadedFor, Unloaded, NeverBegins}
@@ -75,16 +75,16 @@ batch_ended ends (Some after) old new how before now is_open step some faults ap
     ran : (how ≡ Ran) × (new.batch ≡ None)
     ran = abandon_runs old how new step is_open
 
-    by : (o : Option (List HeldRow)) → old.batch ≡ o → IsSome o → EndsBatch ends (Some after) old new before now
+    by : (o : Option HeldTransaction) → old.batch ≡ o → IsSome o → EndsBatch ends (Some after) old new before now
     by None e some = absurd cc
     by (Some held) e some = record {
-      loads = subst (λ (b : Option (List HeldRow)). Loads old (lines_in (first_kept b)) new) (sym e)
+      loads = subst (λ (b : Option HeldTransaction). Loads old (lines_in (first_kept b)) new) (sym e)
           (new, subst (λ (h : Loaded). LoadStep old (codes "abandon") h new) ran.0 step, refl);
       closed = ran.1;
       after = after;
       at = refl;
       kept = λ found. subst
-          (λ (b : Option (List HeldRow)). WhereHistoryTold before.told now.told (λ o n. (start : History)
+          (λ (b : Option HeldTransaction). WhereHistoryTold before.told now.told (λ o n. (start : History)
           → IsKeeping found [] ends start o → IsKeeping found (first_kept b) after start n)) (sym e)
           (told_so before.told now.told (Keeps Stored (Some ends) (Some after) abandoning)
           (λ o n. (start : History) → IsKeeping found [] ends start o
@@ -373,7 +373,7 @@ ended_begins path before mid now ends log end new state start counted loaded lis
 )
   where
     closed : new ≡ loading start.store
-    closed = ap (λ (b : Option (List HeldRow)). record { store = new.store; batch = b }) e.closed
+    closed = ap (λ (b : Option HeldTransaction). record { store = new.store; batch = b }) e.closed
         ∙ ap (λ (st : Store). loading st) same
 
     begun : (o m : History) → LogIsMade path r.found o m ⊎ ReadsOlder path r.found o m

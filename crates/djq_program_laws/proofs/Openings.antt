@@ -1,5 +1,5 @@
 -- How a log is opened and its lines are read, and what is left of its file if nothing begins.
-use Rattle.std.specs.Prelude.{ℕ, List, [], ◌∷◌, ◌++◌, ◌≡◌, ◌⊎◌, Option, None, Some, IfSome, take}
+use Rattle.std.specs.Prelude.{ℕ, List, [], ◌∷◌, ◌++◌, ◌≡◌, Option, None, Some, IfSome, take}
 use Rattle.std.proofs.Common.{refl, sym, ap, ◌∙◌, subst, inl, inr}
 use Rattle.djq_model.specs.Data.{Bytes}
 use Rattle.djq_disk.specs.File.{File}
@@ -19,7 +19,7 @@ use Rattle.djq_run.specs.declared.status.Status.{Status}
 use Rattle.djq_run.specs.declared.status.Status.TheVariants.{Done, Usage, ReadFault, WriteFault, HubFault, TurnsUsed}
 use Rattle.djq_run.specs.declared.status.Status.TheVariants.{NoMemory, Schedule, SessionEnded, DiskFault, LogFull}
 use Rattle.djq_run.specs.declared.status.Status.TheVariants.{BadLog, Mirror}
-use Rattle.djq_program_laws.specs.Logged.{asked_for, IsOnlyRead, LeavesUnloaded, IsNoLogFrom}
+use Rattle.djq_program_laws.specs.Logged.{IsOnlyRead, LeavesUnloaded, IsNoLogFrom}
 use Rattle.djq_program_laws.specs.Parts.{FindsAll}
 
 -- ---- How a log is opened.

@@ -10,7 +10,7 @@ use Rattle.djq_log.specs.Keeping.{IsKeeping, WasKeeping}
 use Rattle.djq_log.specs.Logging.{Overfull}
 use Rattle.djq_log.specs.declared.end.LogEnd.{LogEnd}
 use Rattle.djq_model.specs.Data.{Bytes}
-use Rattle.djq_protocol.specs.declared.held.HeldRow.{HeldRow}
+use Rattle.djq_store_spec.specs.Held.{HeldTransaction}
 use Rattle.djq_machine.specs.State.{State, opening}
 use Rattle.djq_machine.specs.Run.{Walk, Group, lines_in}
 use Rattle.djq_machine.specs.Call.{Counts}
@@ -95,7 +95,7 @@ abandoning = codes "abandon" ∷ []
 
 -- what is appended before anything is served: nothing, if the lines found leave no batch open; and
 -- `abandon`, if they leave one open
-abbrev pub first_kept : Option (List HeldRow) → List Group
+abbrev pub first_kept : Option HeldTransaction → List Group
 first_kept None = []
 first_kept (Some held) = abandoning ∷ []
 

@@ -1,10 +1,6 @@
 -- The columns of relations, and what fits them.
-use Rattle.std.specs.Prelude.{List, [], Bool, true, false, Option, None, Some}
+use Rattle.std.specs.Prelude.{List, [], Option, None, Some}
 use Rattle.djq_model.specs.declared.relation.ColumnType.{ColumnType}
-use Rattle.djq_model.specs.declared.relation.ColumnType.TheVariants.{
-  Int as IntColumn,
-  Text as TextColumn,
-}
 use Rattle.djq_model.specs.declared.relation.Relation.{Relation}
 use Rattle.djq_model.specs.Data.{Bytes, relation_of}
 pub use Rattle.djq_model.specs.Typed.{is_of, same_type}

@@ -8,15 +8,16 @@
 --           | "close" name                    | "has" name *literal
 --           | "watch" name                    | "unwatch" name
 --           | "explain" name                  | "shape" name
---           | "batch" | "done" | "abandon"    | "quit" | "stop"
+--           | "batch" | "done" [number]       | "abandon" | "quit" | "stop"
 --     query = name "(" [name *("," name)] ")" "<-" item *("," item)     one atom at least
 --     item  = atom | name sign literal        sign = "<" | "<=" | ">" | ">=" | "=" | "!="
 --     atom  = name "(" [term *("," term)] ")"
 --     term  = name | "_" | literal
 --
--- A literal is an integer or a text; a count is an integer of digits alone, from 1 to 1000. Keywords
--- and types may be names too: the place tells them apart. Signs are taken as long as they can be, so
--- `x<-5` isn't a comparison, and `x < -5` is one. The bytes of a line are UTF-8.
+-- A literal is an integer or a text; a count is an integer of digits alone, from 1 to 1000, and a
+-- number one of any size. Keywords and types may be names too: the place tells them apart. Signs are
+-- taken as long as they can be, so `x<-5` isn't a comparison, and `x < -5` is one. The bytes of a line
+-- are UTF-8.
 use Rattle.std.specs.Prelude.{
   ℕ,
   zero,
@@ -63,7 +64,7 @@ use Rattle.djq_value.specs.Token.{
   tokens,
 }
 use Rattle.djq_value.specs.Literal.{is_name, is_small_value, literal_of, natural_of}
-use Rattle.djq_protocol.specs.declared.limits.TheConstants.{NEXT_COUNT}
+use Rattle.djq_protocol.specs.declared.limits.TheConstants.{NEXT_COUNT, LAST_COUNT}
 use Rattle.djq_protocol.specs.declared.keyword.Keyword.{Keyword}
 use Rattle.djq_protocol.specs.declared.keyword.Keyword.TheVariants.{
   Rel as RelWord,
@@ -301,6 +302,16 @@ abbrev pub at_line_end : Command → List Token → Option Command
 at_line_end command [] = Some command
 at_line_end command (t ∷ ts) = None
 
+-- a number, where each one past the last stands for the last
+abbrev pub number_or_last : ℕ → ℕ
+number_or_last n = if nat_le n LAST_COUNT then n else LAST_COUNT
+
+-- nothing, or one number
+abbrev pub number_if_any : List Token → Option (Option ℕ)
+number_if_any [] = Some None
+number_if_any (word k ∷ []) = option_map (λ n. Some (number_or_last n)) (natural_of k)
+number_if_any _ = None
+
 -- Commands.
 
 -- the keyword that a word is
@@ -344,7 +355,7 @@ command_behind UnwatchWord ts = option_map (λ q. Unwatch q) (one_name ts)
 command_behind ExplainWord ts = option_map (λ q. Explain q) (one_name ts)
 command_behind ShapeWord ts = option_map (λ q. Shape q) (one_name ts)
 command_behind BatchWord ts = at_line_end Batch ts
-command_behind DoneWord ts = at_line_end Done ts
+command_behind DoneWord ts = option_map (λ n. Done n) (number_if_any ts)
 command_behind AbandonWord ts = at_line_end Abandon ts
 command_behind QuitWord ts = at_line_end Quit ts
 command_behind StopWord ts = at_line_end Stop ts

@@ -38,6 +38,21 @@ use Rattle.djq_protocol.specs.declared.answer.Refusal.TheVariants.{
   Unbound,
   Member,
   Misplaced,
+  NoCopy,
+  OtherCount,
+}
+use Rattle.djq_protocol.specs.declared.held.LineRefusal.{LineRefusal}
+use Rattle.djq_protocol.specs.declared.held.LineRefusal.TheVariants.{
+  Limit as OverLimit,
+  Absent,
+  NoMemory as OutOfMemory,
+}
+use Rattle.djq_protocol.specs.declared.held.DoneRefusal.{DoneRefusal}
+use Rattle.djq_protocol.specs.declared.held.DoneRefusal.TheVariants.{
+  OtherNumber,
+  Line,
+  LastChange,
+  NoMemory as NoneLeft,
 }
 use Rattle.djq_protocol.specs.declared.answer.EndLine.{EndLine}
 use Rattle.djq_protocol.specs.declared.answer.EndLine.TheVariants.{Long, Slow, Memory, Full}
@@ -49,7 +64,7 @@ use Rattle.djq_protocol.specs.declared.rest.QueryOutcome.TheVariants.{Registered
 use Rattle.djq_protocol.specs.declared.answer.AddOutcome.{AddOutcome}
 use Rattle.djq_protocol.specs.declared.answer.AddOutcome.TheVariants.{First, More}
 use Rattle.djq_protocol.specs.declared.answer.DeleteOutcome.{DeleteOutcome}
-use Rattle.djq_protocol.specs.declared.answer.DeleteOutcome.TheVariants.{Last, Left, Absent}
+use Rattle.djq_protocol.specs.declared.answer.DeleteOutcome.TheVariants.{Last, Left, Absent as WasAbsent}
 use Rattle.djq_protocol.specs.declared.answer.Shape.{Shape}
 use Rattle.djq_protocol.specs.declared.answer.Shape.TheVariants.{Flat, Linear, Union}
 
@@ -79,6 +94,8 @@ refusal_line InUse = line (codes "err 14 in use")
 refusal_line Unbound = line (codes "err 16 unbound")
 refusal_line Member = line (codes "err 17 member")
 refusal_line Misplaced = line (codes "err 18 batch")
+refusal_line NoCopy = line (codes "err 19 absent")
+refusal_line OtherCount = line (codes "err 20 held")
 
 -- the line that ends a session after a line that was too long
 abbrev pub end_long : Bytes
@@ -99,6 +116,11 @@ end_full = line (codes "end full")
 -- the line that says that input ended within a line
 abbrev pub input_cut : Bytes
 input_cut = line (codes "err 13 cut")
+
+-- that line, if bytes are held, which no line end follows
+abbrev pub cut_line : Bytes → Bytes
+cut_line [] = []
+cut_line (b ∷ bs) = input_cut
 
 -- what `quit` and `stop` are answered
 abbrev pub bye : Bytes
@@ -156,7 +178,7 @@ add_reply (Err r) n = refusal_line r
 abbrev pub delete_reply : Result DeleteOutcome Refusal → ℕ → Bytes
 delete_reply (Ok Last) n = numbered_twice (codes "ok removed ") n 0
 delete_reply (Ok (Left copies)) n = numbered_twice (codes "ok removed ") n copies
-delete_reply (Ok Absent) n = numbered_line (codes "ok absent ") n
+delete_reply (Ok WasAbsent) n = numbered_line (codes "ok absent ") n
 delete_reply (Err r) n = refusal_line r
 
 -- edges, each behind a space
@@ -202,15 +224,27 @@ abbrev pub watch_reply : {A : Type 0} → Result A Refusal → ℕ → Bytes
 watch_reply (Ok a) n = numbered_line (codes "ok watch ") n
 watch_reply (Err r) n = refusal_line r
 
--- what `add` in a batch answers: how many rows are held then
+-- what `add` and `del` in a batch answer: how many lines are held then
 abbrev pub held_reply : {A : Type 0} → Result A Refusal → ℕ → Bytes
 held_reply (Ok a) n = numbered_line (codes "ok held ") n
 held_reply (Err r) n = refusal_line r
 
--- what `done` answers, at a number of changes: it, then how many rows came
-abbrev pub done_reply : Result ℕ Refusal → ℕ → Bytes
+-- the refusal of a held line, and of `done`
+abbrev pub line_word : LineRefusal → Refusal
+line_word OverLimit = Limit
+line_word Absent = NoCopy
+line_word OutOfMemory = NoMemory
+
+abbrev pub done_word : DoneRefusal → Refusal
+done_word OtherNumber = OtherCount
+done_word (Line r) = line_word r.refusal
+done_word LastChange = Limit
+done_word NoneLeft = NoMemory
+
+-- what `done` answers, at a number of changes: it, then how many rows came and went
+abbrev pub done_reply : Result ℕ DoneRefusal → ℕ → Bytes
 done_reply (Ok rows) n = numbered_twice (codes "ok done ") n rows
-done_reply (Err r) n = refusal_line r
+done_reply (Err r) n = refusal_line (done_word r)
 
 -- the sign of an answer that came, and of one that went
 abbrev pub sign_text : Sign → Bytes

@@ -34,6 +34,10 @@ pub enum Refusal {
     Member,
     /// 18: a batch is open, and the command isn't one for a batch; or none is open, and it is one.
     Misplaced,
+    /// 19: a held line deletes a row that has no copy then.
+    NoCopy,
+    /// 20: the number that `done` names isn't that of the held lines.
+    OtherCount,
 }
 
 /// What `add` did to a row that suits its relation.

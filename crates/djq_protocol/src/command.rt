@@ -87,10 +87,14 @@ pub enum Command {
         /// The query.
         query: Name,
     },
-    /// `batch`: rows that are added are held from now on.
+    /// `batch`: lines that insert and delete rows are held from now on.
     Batch,
-    /// `done`: the rows that are held are inserted, all at once.
-    Done,
+    /// `done [COUNT]`: the lines that are held are carried out as one change.
+    Done {
+        /// The number of lines that it says are held, where it says one; at most
+        /// [`LAST_COUNT`](crate::limits::LAST_COUNT), which stands for each larger one.
+        count: Option<u32>,
+    },
     /// `abandon`: they are dropped.
     Abandon,
     /// `quit`: the session ends.

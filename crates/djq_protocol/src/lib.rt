@@ -18,14 +18,14 @@
 //! their types in djq_model. A refusal's number isn't its place in [`Refusal`]: 13 belongs to a
 //! line that the end of the input cut, which is no command's refusal.
 //!
-//! Inside, `command` and `keyword` are what a session sends, `held` what a batch stores of it,
+//! Inside, `command` and `keyword` are what a session sends, `held` what a held line does and why it is refused,
 //! `answer` and `rest` the answers. To read first: `specs/Grammar.antt` and `specs/Reply.antt`, a
 //! case for each form.
 #![tactic(auto)]
 
 pub use answer::{AddOutcome, DeleteOutcome, EndCause, EndLine, Refusal, Shape, Sign};
 pub use command::Command;
-pub use held::HeldRow;
+pub use held::{DoneRefusal, LineRefusal, RefusedLine, Verb};
 pub use keyword::Keyword;
 pub use rest::{NamedRest, QueryOutcome};
 

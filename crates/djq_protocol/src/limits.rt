@@ -45,8 +45,14 @@ pub const LAST_SEQ: u64 = 18_446_744_073_709_551_615;
 /// The most cursors of a session.
 pub const CURSORS: usize = 16;
 
-/// The most rows that a batch holds.
-pub const HELD: usize = 1000;
+/// The most lines that a batch holds.
+pub const HELD: usize = 65_536;
+
+/// The most bytes of the lines that a batch holds.
+pub const HELD_BYTES: usize = 16_777_216;
+
+/// The number that `done` with a larger number stands for. No batch holds as many lines.
+pub const LAST_COUNT: u32 = 4_294_967_295;
 
 /// The most sessions that are open at once.
 pub const SESSIONS: usize = 64;

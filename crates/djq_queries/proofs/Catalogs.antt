@@ -20,6 +20,7 @@ use Rattle.djq_database.specs.Catalog.{Catalog, IsCatalog, relation_at, rows_at}
 use Rattle.djq_query.specs.declared.numbered.Variable.{Variable}
 use Rattle.djq_query.specs.declared.numbered.NumberedAtom.{NumberedAtom}
 use Rattle.djq_answer_laws.specs.Growing.{HaveRows}
+use Rattle.djq_store_spec.specs.Changes.{one_change}
 use Rattle.djq_answer_laws.proofs.Choices.{answer_stays, answers_rest}
 use Rattle.djq_answer_laws.proofs.Lists.{first_or_later, first_there, later_there}
 use Rattle.djq_binder.specs.Asked.{AreAtomsOf}
@@ -179,8 +180,7 @@ module _ (c d : Catalog) (at : ℕ) (cells : List (List ℕ)) (rows : List Tuple
   pub went_rests : (q : Query) → reads q (relation_at c.relations at).name ≡ false
       → Grows (IsAnswer c.relations q) (IsAnswer d.relations q)
   went_rests q none t is = (answers_rest c.relations
-      (record { after = d.relations; outdater = λ x. None; touches = λ n. bytes_eq n (relation_at c.relations at).name })
-      q spared none t).0 is
+      (one_change (relation_at c.relations at).name d.relations) q spared none t).0 is
 
 -- ---- a query that doesn't read the relation is kept
 

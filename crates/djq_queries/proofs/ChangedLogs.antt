@@ -25,7 +25,7 @@ use Rattle.djq_reach.proofs.Logs.{all_none}
 use Rattle.djq_reach.proofs.PlacedQueries.{reader_both, same_refl}
 use Rattle.djq_reach.proofs.RowChanges.{delta_none}
 use Rattle.djq_queries.specs.Going.{GroupsGo}
-use Rattle.djq_queries.specs.Changing.{EmptiesWatched, GroupsChange, LogTellsChange, TellsChangeAt, TellsChangeWhere, touched}
+use Rattle.djq_queries.specs.Changing.{EmptiesWatched, GroupsChange, LogTellsHalves, touched}
 use Rattle.djq_queries.proofs.Chains.{falls_by, names_gone, rows_rise}
 use Rattle.djq_queries.proofs.Logs.{not_lost}
 use Rattle.djq_queries.proofs.Changes.{mid_goes, past_came, rests_came, rests_gone, unread_going}
@@ -33,6 +33,15 @@ use Rattle.djq_queries.proofs.Changes.{mid_goes, past_came, rests_came, rests_go
 and_false : (a b : Bool) → b ≡ false → (a && b) ≡ false
 and_false true b e = e
 and_false false b e = refl
+
+-- If the query is watched a log tells of both halves, and it is as before if it isn't.
+abbrev pub TellsHalvesWhere : Bool → Catalog → Catalog → Catalog → Live → Log → Log → Type 0
+TellsHalvesWhere true c e d l old new = LogTellsHalves c e d l new
+TellsHalvesWhere false c e d l old new = new ≡ old
+
+-- the same of the query in a place
+abbrev pub TellsHalvesAt : List ℕ → Catalog → Catalog → Catalog → ℕ → Live → Log → Log → Type 0
+TellsHalvesAt watchers c e d i = TellsHalvesWhere (watched_at watchers i) c e d
 
 -- A log that isn't lost tells of what came, alone.
 record CameTold (c e : Catalog) (l : Live) (log : Log) : Type 0 where
@@ -79,7 +88,7 @@ module _ (readers : List (List ℕ)) (come gone : List Group) (gs mid : List (Op
 
   -- groups that go, of a relation that the query reads
   told_both : (l m : Live) (old new : Log) → SameQuery l m → IsKept e m → CameTold c e l old
-      → LogsDelta (λ x y (w : ⊤). GroupsGo readers gone mid x y) m old new → LogTellsChange c e d l new
+      → LogsDelta (λ x y (w : ⊤). GroupsGo readers gone mid x y) m old new → LogTellsHalves c e d l new
   told_both l m old new same k x y = record {
     came = old.lines;
     went = y.lines;
@@ -96,7 +105,7 @@ module _ (readers : List (List ℕ)) (come gone : List Group) (gs mid : List (Op
 
   -- and of relations that it doesn't read
   told_first : (i : ℕ) (l : Live) (log : Log) → place_at gs i ≡ Some l → is_reader (reached readers gone) i ≡ false
-      → CameTold c e l log → LogTellsChange c e d l log
+      → CameTold c e l log → LogTellsHalves c e d l log
   told_first i l log there out x = record {
     came = log.lines;
     went = [];
@@ -108,14 +117,14 @@ module _ (readers : List (List ℕ)) (come gone : List Group) (gs mid : List (Op
     shown = came_shown l log x;
   }
 
-  pub tends_change : (ws : List ℕ) (first empty some new : List Log)
+  pub tends_halves : (ws : List ℕ) (first empty some new : List Log)
       → Clears (λ i. is_reader (reached readers gone) i && watched_at ws i) first empty
       → Tends (reached readers come) (LogTellsAt ws (λ x y (w : ⊤). GroupsLead readers come gs x y)) gs empty some
       → Tends (reached readers gone) (LogsAt ws (λ x y (w : ⊤). GroupsGo readers gone mid x y)) mid some new
-      → Tends (touched readers come gone) (TellsChangeAt ws c e d) gs first new
-  tends_change ws first empty some new clear a b = record {
+      → Tends (touched readers come gone) (TellsHalvesAt ws c e d) gs first new
+  tends_halves ws first empty some new clear a b = record {
     long = b.long ∙ a.long ∙ clear.long;
-    each = λ i. subst (λ (f : Bool). TendedAt (TellsChangeWhere (watched_at ws i) c e d) f (place_at gs i)
+    each = λ i. subst (λ (f : Bool). TendedAt (TellsHalvesWhere (watched_at ws i) c e d) f (place_at gs i)
         (log_at first i) (log_at new i)) (sym (reader_both (reached readers come) (reached readers gone) i))
         (by i (is_reader (reached readers come) i) refl (is_reader (reached readers gone) i) refl (watched_at ws i) refl
         (place_at gs i) refl (place_at mid i)
@@ -138,7 +147,7 @@ module _ (readers : List (List ℕ)) (come gone : List Group) (gs mid : List (Op
           → TendedAt (TellsWhere v (λ x y (w : ⊤). GroupsLead readers come gs x y)) f p (log_at empty i)
           (log_at some i)
           → TendedAt (LogsWhere v (λ x y (w : ⊤). GroupsGo readers gone mid x y)) g q (log_at some i) (log_at new i)
-          → TendedAt (TellsChangeWhere v c e d) (f || g) p (log_at first i) (log_at new i)
+          → TendedAt (TellsHalvesWhere v c e d) (f || g) p (log_at first i) (log_at new i)
       by i false ef false eg v ev p ep q k t x y =
           y ∙ x ∙ clear.others i (ap (λ (s : Bool). s && watched_at ws i) eg)
       by i false ef true eg v ev None ep q k t x y = tt
@@ -149,7 +158,7 @@ module _ (readers : List (List ℕ)) (come gone : List Group) (gs mid : List (Op
       by i true ef true eg true ev (Some l) ep (Some m) k t x y =
           told_both l m (log_at some i) (log_at new i) t.same t.kept (told_came l (log_at some i) (k refl) x) y
       by i true ef false eg true ev (Some l) ep (Some m) k t x y =
-          subst (λ (z : Log). LogTellsChange c e d l z) (sym y)
+          subst (λ (z : Log). LogTellsHalves c e d l z) (sym y)
           (told_first i l (log_at some i) ep eg (told_came l (log_at some i) (k refl) x))
       by i false ef true eg false ev (Some l) ep q k t x y =
           subst (λ (o : Option Live). TendedAt (LogsWhere false (λ x y (w : ⊤). GroupsGo readers gone mid x y)) true o

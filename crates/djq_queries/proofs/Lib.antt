@@ -7,3 +7,5 @@ pub mod Costs
 pub mod Changes
 pub mod ChangedLogs
 pub mod ChangeCosts
+mod Settles
+pub mod NetLogs

@@ -39,9 +39,9 @@ pub record CanChangeBy (readers : List (List ℕ)) (come gone : List Group) (gs 
   pub leads : GroupsChange readers come gone gs before between after
   pub kept : AllAt (touched readers come gone) gs (λ l. IsKept before l)
 
--- Unless it is lost, a log tells which answers came up to the catalog between, and behind that which
--- went from there.
-pub record LogTellsChange (c e d : Catalog) (l : Live) (log : Log) : Type 0 where
+-- Unless it is lost, a log tells which answers the insertions added, up to the catalog between, and after them which
+-- the deletions removed from there.
+pub record LogTellsHalves (c e d : Catalog) (l : Live) (log : Log) : Type 0 where
   pub came : List Line
   pub went : List Line
   pub lines : log.lost ≡ false → log.lines ≡ came ++ went
@@ -49,9 +49,19 @@ pub record LogTellsChange (c e d : Catalog) (l : Live) (log : Log) : Type 0 wher
   pub goes : log.lost ≡ false → IsDeltaOf l e d (map (change_of d.texts l) went)
   pub shown : log.lost ≡ false → All (λ k. IsShowable d.texts l k.answer) log.lines
 
--- It tells so where the query is watched, and is as before where it isn't.
+-- Unless it is lost, a log tells the net delta of the whole change, in lines that can be shown. Lost or not, there are
+-- the answers that the insertions added, up to the catalog between, and those that the deletions removed from there.
+pub record LogTellsNet (c e d : Catalog) (l : Live) (log : Log) : Type 0 where
+  pub tells : log.lost ≡ false → IsDeltaOf l c d (map (change_of d.texts l) log.lines)
+  pub shown : log.lost ≡ false → All (λ k. IsShowable d.texts l k.answer) log.lines
+  pub came : List Change
+  pub went : List Change
+  pub inserts : IsDeltaOf l c e came
+  pub deletes : IsDeltaOf l e d went
+
+-- It tells so if the query is watched, and is as before if it isn't.
 abbrev pub TellsChangeWhere : Bool → Catalog → Catalog → Catalog → Live → Log → Log → Type 0
-TellsChangeWhere true c e d l old new = LogTellsChange c e d l new
+TellsChangeWhere true c e d l old new = LogTellsNet c e d l new
 TellsChangeWhere false c e d l old new = new ≡ old
 
 -- the same of the query in a place
@@ -102,8 +112,8 @@ WorksChange readers come gone gs before now = (c e d : Catalog) (n m : ℕ) (fla
     → now ≤ before + sum_by (group_work readers gs (n + rows_of_groups come) (λ g. 1)) come
     + sum_by (gone_group_work readers gs m flat) gone
 
--- What a log tells of a change, once opposites cancel out, is the query's delta.
+-- What a log tells of both halves of a change, once opposites cancel out, is the query's delta.
 abbrev pub ChangedLogsSettle : Type 0
 ChangedLogsSettle = (readers : List (List ℕ)) (come gone : List Group) (gs : List (Option Live)) (c e d : Catalog)
-    (l : Live) (log : Log) (new : List Change) → GroupsChange readers come gone gs c e d → LogTellsChange c e d l log
+    (l : Live) (log : Log) (new : List Change) → GroupsChange readers come gone gs c e d → LogTellsHalves c e d l log
     → log.lost ≡ false → CancelsOut (map (change_of d.texts l) log.lines) new → IsDeltaOf l c d new

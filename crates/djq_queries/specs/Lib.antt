@@ -1,3 +1,4 @@
 pub mod Going
 pub mod Netting
 pub mod Changing
+pub mod Settling

@@ -5,11 +5,12 @@ ghost use Rattle.djq_live_query.specs.Live.{IsKept};
 ghost use Rattle.djq_reach.specs.Places.{readers_at, AreOnce};
 ghost use Rattle.djq_reach.specs.Reaching.{Reach, AllAt, Renews};
 ghost use Rattle.djq_reach.specs.Tending.{Tends, AreUnwatched};
-ghost use Rattle.djq_reach.specs.Grouping.{group_relations, rows_of_groups, times_back, WorksBy};
+ghost use Rattle.djq_reach.specs.Grouping.{group_relations, rows_of_groups, times_back, CostsBy, WorksBy};
 ghost use Rattle.djq_queries.specs.Changing.{touched, CanChangeBy, GroupsChange, TellsChangeAt};
 ghost use Rattle.djq_queries.specs.Changing.{EmptiesWatched, CostsChange, WorksChange};
 
 use crate::gone::delete_batch_from_readers;
+use crate::settling::settle_logs;
 use djq_counters::{Ledgers, Steps};
 use djq_enumeration::DeltaLog;
 use djq_live_query::LiveQuery;
@@ -17,14 +18,15 @@ use djq_model::NoMem;
 use djq_reach::{Group, QueryPlaces, clear_logs, insert_batch_into_readers};
 
 /// Inserts groups of rows into the queries that read one of their relations, and then deletes others from
-/// them. The readers list in which places the queries are that read a relation. Each watched one of these
-/// queries has a log of the answers that all insertions added, and after them those that all deletions
-/// removed, or its log is lost. An answer that the change adds and removes is one neither before nor after.
+/// them. The readers list in which places the queries are that read a relation. The log of each watched one of
+/// these queries has the answers that are new after the whole change, and those that are no answers any more, each
+/// once, or it is lost. An answer that insertions add and deletions remove again isn't in it.
 ///
 /// # Errors
 ///
 /// `NoMem` out of memory, before any row is deleted; answers are as before, and the logs of all these queries
-/// that are watched are empty. Updates count what a refused insertion of the groups does.
+/// that are watched are empty. Listing counts for the insertions alone, and updates count what a refused insertion of
+/// the groups does.
 pub fn change_readers<L: Ledgers>(
     queries: &mut Vec<Option<LiveQuery>>,
     watchers: &[u32],
@@ -59,6 +61,8 @@ pub fn change_readers<L: Ledgers>(
         logs.old.items logs.new.items) }
     ensures counted { CostsChange readers.now come.now gone.now watchers.now queries.old.items
         steps.old.listing steps.new.listing }
+    ensures refused { OnErr result (CostsBy readers.now come.now watchers.now queries.old.items
+        steps.old.listing steps.new.listing) }
     ensures unlisted { AreUnwatched watchers.now (touched readers.now come.now gone.now)
         → steps.new.listing ≡ steps.old.listing }
     ensures updates { OnOk result (WorksChange readers.now come.now gone.now queries.old.items
@@ -69,5 +73,6 @@ pub fn change_readers<L: Ledgers>(
     clear_logs(logs, watchers, readers, gone);
     insert_batch_into_readers(queries, watchers, logs, readers, come, steps)?;
     delete_batch_from_readers(queries, watchers, logs, readers, gone, steps);
+    settle_logs(logs, watchers, readers, gone);
     Ok(())
 }

@@ -21,7 +21,7 @@ use djq_reach::{Group, QueryPlaces, is_watched};
 use djq_reduct::Cells;
 
 /// The places of the queries that read a group's relation.
-fn places_of<'a>(readers: &'a [QueryPlaces], group: &Group) -> &'a [usize]
+pub fn places_of<'a>(readers: &'a [QueryPlaces], group: &Group) -> &'a [usize]
     requires { group.now.relation.at < length readers.now }
     ensures { result.now ≡ readers_at readers.now group.now.relation.at }
 {

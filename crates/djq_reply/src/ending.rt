@@ -1,6 +1,8 @@
-//! The lines that end a session, in the room that is reserved for its last line.
-ghost use Rattle.std.specs.Prelude.{◌≡◌, ◌≤◌};
-ghost use Rattle.djq_protocol.specs.Reply.{end_line, input_cut};
+//! The lines that end a session, in the room that is reserved for its last line. Two may follow one another: that the
+//! input was cut, and that held lines are dropped.
+ghost use Rattle.std.specs.Prelude.{◌≡◌, ◌≤◌, length};
+ghost use Rattle.djq_protocol.specs.Reply.{end_line, input_cut, refusal_line};
+ghost use Rattle.djq_protocol.specs.declared.answer.Refusal.TheVariants.{Misplaced};
 ghost use Rattle.djq_protocol.specs.declared.limits.TheConstants.{LAST_LINE_BYTES};
 ghost use Rattle.djq_value.specs.Output.{Says};
 
@@ -14,6 +16,14 @@ pub fn say_cut(out: &mut BytesMut)
     ensures { Says out.old out.new input_cut }
 {
     say(out, b"err 13 cut");
+}
+
+/// Reports that lines which a batch holds are dropped. There is room for this after [`say_cut`].
+pub fn say_lost(out: &mut BytesMut)
+    requires { length (refusal_line Misplaced) ≤ out.old.spare }
+    ensures { Says out.old out.new (refusal_line Misplaced) }
+{
+    say(out, b"err 18 batch");
 }
 
 /// Reports why the session is ended.

@@ -9,8 +9,9 @@
 //! say_added      Ok(More(2)), at 7 changes    ok added 7 2
 //! say_deleted    Ok(Last), at 8 changes       ok removed 8 0
 //! put_registered Registered(5)                ok query 5
-//! say_held       Ok(()), with 3 rows held     ok held 3
+//! say_held       Ok(()), with 3 lines held    ok held 3
 //! say_batch_done Ok(2), at 9 changes          ok done 9 2
+//! say_batch_done Err(OtherNumber)             err 20 held
 //! say_union      Ok(20)                       ok union 20
 //! put_answer     the answer (1, "a")          = 1 "a"
 //! put_change     Came, q, the same            + q 1 "a"
@@ -23,15 +24,15 @@
 //! reply a command gets, and nothing sends: the caller owns the buffer.
 //!
 //! What surprises: room is required in the contract of a call. A `say_` call can't fail, and its
-//! caller has to provide 256 bytes and 32 after them, or for a last line those 32 alone. A `put_`
-//! call allocates if its room is too small.
+//! caller has to provide 256 bytes and 32 after them, or for a last line those 32 alone: in these
+//! `say_lost` has room after `say_cut`. A `put_` call allocates if its room is too small.
 //!
 //! Inside, `short` and `refusal` are the replies of fixed room, `registered` that of `query`,
 //! `growing` those of any length, and `ending` the last lines. Values are printed by djq_value, and
 //! an answer is read in place, by the trait [`Answered`](djq_model::Answered), without being built.
 #![tactic(auto)]
 
-pub use ending::{end_bytes, say_cut, say_end};
+pub use ending::{end_bytes, say_cut, say_end, say_lost};
 pub use growing::{put_answer, put_at, put_change, put_explained, put_last, put_member};
 pub use registered::put_registered;
 pub use short::{

@@ -1,7 +1,7 @@
 ghost use Rattle.std.specs.Prelude.{◌≡◌, ◌<◌, length};
-ghost use Rattle.djq_protocol.specs.Reply.{line, refusal_line};
+ghost use Rattle.djq_protocol.specs.Reply.{done_word, line, line_word, refusal_line};
 
-use djq_protocol::Refusal;
+use djq_protocol::{DoneRefusal, LineRefusal, Refusal};
 
 /// The words of the line that answers a refusal.
 pub(crate) fn refusal_words(refusal: Refusal) -> &'static [u8]
@@ -25,5 +25,30 @@ pub(crate) fn refusal_words(refusal: Refusal) -> &'static [u8]
         Refusal::Unbound => b"err 16 unbound",
         Refusal::Member => b"err 17 member",
         Refusal::Misplaced => b"err 18 batch",
+        Refusal::NoCopy => b"err 19 absent",
+        Refusal::OtherCount => b"err 20 held",
+    }
+}
+
+/// The refusal that a refused `done` is answered by.
+pub(crate) fn refusal_of_done(refusal: DoneRefusal) -> Refusal
+    ensures { result ≡ done_word refusal }
+{
+    match refusal {
+        DoneRefusal::OtherNumber => Refusal::OtherCount,
+        DoneRefusal::Line(line) => refusal_of_line(line.refusal),
+        DoneRefusal::LastChange => Refusal::Limit,
+        DoneRefusal::NoMemory => Refusal::NoMemory,
+    }
+}
+
+/// The refusal that a refused line of a batch is answered by.
+fn refusal_of_line(refusal: LineRefusal) -> Refusal
+    ensures { result ≡ line_word refusal }
+{
+    match refusal {
+        LineRefusal::Limit => Refusal::Limit,
+        LineRefusal::Absent => Refusal::NoCopy,
+        LineRefusal::NoMemory => Refusal::NoMemory,
     }
 }

@@ -8,10 +8,10 @@ ghost use Rattle.djq_protocol.specs.Reply.{watch_reply};
 ghost use Rattle.djq_protocol.specs.declared.limits.TheConstants.{LAST_LINE_BYTES, REPLY_BYTES};
 ghost use Rattle.djq_value.specs.Output.{Says};
 
-use crate::refusal::refusal_words;
+use crate::refusal::{refusal_of_done, refusal_words};
 use bytes::BytesMut;
 use djq_model::Name;
-use djq_protocol::{AddOutcome, DeleteOutcome, Refusal, Shape};
+use djq_protocol::{AddOutcome, DeleteOutcome, DoneRefusal, Refusal, Shape};
 use djq_value::{digit_count, extend_digits};
 
 /// A line of words.
@@ -206,7 +206,7 @@ pub fn say_batch(out: &mut BytesMut, outcome: Result<(), Refusal>)
     }
 }
 
-/// Answers `add` in a batch, at a number of rows that it holds.
+/// Answers `add` and `del` in a batch, at a number of lines that it holds.
 pub fn say_held(out: &mut BytesMut, outcome: Result<(), Refusal>, held: usize)
     requires room { REPLY_BYTES + LAST_LINE_BYTES ≤ out.old.spare }
     ensures kept { LAST_LINE_BYTES ≤ out.new.spare }
@@ -218,15 +218,15 @@ pub fn say_held(out: &mut BytesMut, outcome: Result<(), Refusal>, held: usize)
     }
 }
 
-/// Answers `done` with how many rows were inserted, at a number of changes.
-pub fn say_batch_done(out: &mut BytesMut, outcome: Result<usize, Refusal>, seq: u64)
+/// Answers `done` with how many rows came and went, at a number of changes.
+pub fn say_batch_done(out: &mut BytesMut, outcome: Result<usize, DoneRefusal>, seq: u64)
     requires room { REPLY_BYTES + LAST_LINE_BYTES ≤ out.old.spare }
     ensures kept { LAST_LINE_BYTES ≤ out.new.spare }
     ensures says { Says out.old out.new (done_reply outcome seq) }
 {
     match outcome {
         Ok(rows) => say_two_numbers(out, b"ok done ", seq, rows as u64),
-        Err(refusal) => say_refused(out, refusal),
+        Err(refusal) => say_refused(out, refusal_of_done(refusal)),
     }
 }
 
@@ -246,7 +246,7 @@ pub fn say_stale(out: &mut BytesMut, cursor: &Name, relation: &Name, seq: u64)
 
 /// Answers `quit` and `stop`.
 pub fn say_bye(out: &mut BytesMut)
-    requires room { REPLY_BYTES + LAST_LINE_BYTES ≤ out.old.spare }
+    requires room { length bye + LAST_LINE_BYTES ≤ out.old.spare }
     ensures kept { LAST_LINE_BYTES ≤ out.new.spare }
     ensures says { Says out.old out.new bye }
 {

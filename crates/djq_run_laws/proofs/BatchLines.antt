@@ -7,10 +7,9 @@ use Rattle.std.proofs.lemmas.List.Elements.{All-nil, All-head, All-tail, All-pus
 use Rattle.djq_model.specs.Data.{Bytes, Tuple}
 use Rattle.djq_model.specs.Listed.{Listed, a_query, a_union, listed_of}
 use Rattle.djq_protocol.specs.declared.limits.TheConstants.{SESSIONS, LINE_BYTES}
-use Rattle.djq_protocol.specs.declared.held.HeldRow.{HeldRow}
+use Rattle.djq_protocol.specs.declared.held.Verb.TheVariants.{Add as Adds, Delete as Deletes}
 use Rattle.djq_protocol.specs.declared.answer.EndCause.{EndCause}
 use Rattle.djq_protocol.specs.declared.answer.EndCause.TheVariants.{Input, Memory}
-use Rattle.djq_protocol.specs.declared.answer.Refusal.{Refusal}
 use Rattle.djq_protocol.specs.declared.answer.Refusal.TheVariants.{NoCursor, NoQuery}
 use Rattle.djq_protocol.specs.declared.command.Command.{Command}
 use Rattle.djq_protocol.specs.declared.command.Command.TheVariants.{Rel, Add, Del, Query as Register, Union, Drop, Open}
@@ -18,6 +17,7 @@ use Rattle.djq_protocol.specs.declared.command.Command.TheVariants.{Next, Close,
 use Rattle.djq_protocol.specs.declared.command.Command.TheVariants.{Batch, Done, Abandon, Quit, Stop}
 use Rattle.djq_protocol.specs.Grammar.{Reading, reading_of}
 use Rattle.djq_protocol.specs.Reply.{end_memory}
+use Rattle.djq_store_spec.specs.Held.{HeldTransaction}
 use Rattle.djq_store_spec.specs.Store.{Store, Position, open_at, stale}
 use Rattle.djq_store_spec.specs.Changes.{RowsChange, RowsOutcome, tried}
 use Rattle.djq_answer_laws.proofs.Lists.{some_there}
@@ -26,7 +26,8 @@ use Rattle.djq_machine.specs.Outdating.{outdated_cursor, changed}
 use Rattle.djq_machine.specs.Watch.{Telling, ChangeStep}
 use Rattle.djq_machine.specs.Keeping.{Keeping, no_line, the_line, the_batch, kept_where, kept_batch}
 use Rattle.djq_machine.specs.Effect.{Effect, nothing, answers, EndsWith, RefusedStep, queue, queue_all}
-use Rattle.djq_machine.specs.Command.{AddStep, HoldStep, DoneStep, NextStepAt, CloseStep, ExplainStepOf, TellsLines}
+use Rattle.djq_machine.specs.Command.{AddStep, DeleteStep, HoldStep, DoneStep, NextStepAt, CloseStep, ExplainStepOf}
+use Rattle.djq_machine.specs.Command.{TellsLines}
 use Rattle.djq_machine.specs.Command.{explain_lines, union_lines, without_batch, CommandStep}
 use Rattle.djq_machine.specs.LineStep.{LineOutcome, long, blank, slow, no_room, run, FrontStep, behind_line}
 use Rattle.djq_machine.specs.Step.{Event, opened, fed, stepped, took, ended, closed, FedStep, TookStep, EndedStep, Acts}
@@ -35,8 +36,8 @@ use Rattle.djq_machine.specs.Run.{Did, Run, groups_in}
 use Rattle.djq_machine.proofs.Relations.{walk_keeps}
 use Rattle.djq_run_laws.specs.Holding.{IsLine, HoldsLines, HoldLines}
 use Rattle.djq_run_laws.specs.Form.{form_of, Form, asking, storing, turning, changing, ending, row_comes, row_goes}
-use Rattle.djq_run_laws.specs.Form.{rows_come, Turn, opens_cursor, moves_cursor, closes_cursor, starts_watching}
-use Rattle.djq_run_laws.specs.Form.{stops_watching, opens_batch, holds_row, closes_batch, Replied, is_whole, is_cut}
+use Rattle.djq_run_laws.specs.Form.{carries_out, Turn, opens_cursor, moves_cursor, closes_cursor, starts_watching}
+use Rattle.djq_run_laws.specs.Form.{stops_watching, opens_batch, holds_line, closes_batch, Replied, is_whole, is_cut}
 use Rattle.djq_run_laws.specs.Form.{SessionTurned, DoesTurn, is_turned, is_refused, FormDoes}
 use Rattle.djq_run_laws.proofs.Lists.{all_changed, all_found, all_mapped, session_changed, change_keeps}
 use Rattle.djq_run_laws.proofs.Forms.{command_does, Reads, turned_down, carried_out, line_reads}
@@ -94,7 +95,7 @@ held_told old s outcome store reply e new h k =
 
 -- where it holds a row, a line says so
 abbrev TurnSays : Turn → Type 0
-TurnSays (holds_row l name row) = IsLine l
+TurnSays (holds_line l verb name row) = IsLine l
 TurnSays _ = ⊤
 
 abbrev FormSays : Form → Type 0
@@ -109,12 +110,11 @@ held_turned old s x (closes_cursor c) new found is h k = held_still old new s _ 
 held_turned old s x (starts_watching q) new found is h k = held_still old new s _ (λ y. refl) h.1 k
 held_turned old s x (stops_watching q) new found is h k = held_still old new s _ (λ y. refl) h k
 held_turned old s x opens_batch new found is h k =
-    held_changed old new s _ h (λ y there g. All-nil (λ (r : HeldRow). IsLine r.line)) k
-held_turned old s x (holds_row l name row) new found is h k =
+    held_changed old new s _ h (λ y there g. All-nil IsLine) k
+held_turned old s x (holds_line l verb name row) new found is h k =
     let holds : Holds x = all_found Holds (λ (y : Session). y.id == s) old.sessions x k found in
     held_changed old new s _ h.state
-    (λ y there g. All-push (λ (r : HeldRow). IsLine r.line) h.held (record { line = l; relation = name; row = row })
-    (subst HoldsLines h.is holds) is) k
+    (λ y there g. All-push IsLine (h.held).logged l (subst HoldsLines h.is holds) is) k
 held_turned old s x closes_batch new found is h k = held_dropped old new s _ (λ y. refl) h k
 
 held_replied : (s : ℕ) (mid new : State) → Replied s mid new → HoldLines mid → HoldLines new
@@ -133,17 +133,19 @@ held_form storing old s x e new found is h k = held_replied s (record old { stor
 held_form (turning t) old s x e new found is h k = held_turn old s x t new found is h.1 k
 held_form (changing (row_comes name row)) old s x e new found is h k = held_told old s _ h.store _ e new h.change k
 held_form (changing (row_goes name row)) old s x e new found is h k = held_told old s _ h.store _ e new h.change k
-held_form (changing (rows_come held)) old s x e new found is h k =
+held_form (changing (carries_out held given)) old s x e new found is h k =
     held_told (with_session old s without_batch) s _ h.store _ e new h.change
     (held_dropped old (with_session old s without_batch) s without_batch (λ y. refl) refl k)
 held_form ending old s x e new found is h k =
     held_ended (record old { stopped = h.1.stopped }) new s h.1.cause h.1.state k
 
-form_says : (batch : Option (List HeldRow)) (l : Bytes) (c : Command) → IsLine l → FormSays (form_of batch l c)
+form_says : (batch : Option HeldTransaction) (l : Bytes) (c : Command) → IsLine l → FormSays (form_of batch l c)
 form_says None l (Add name row) is = tt
 form_says (Some held) l (Add name row) is = is
-form_says None l Done is = tt
-form_says (Some held) l Done is = tt
+form_says None l (Del name row) is = tt
+form_says (Some held) l (Del name row) is = is
+form_says None l (Done given) is = tt
+form_says (Some held) l (Done given) is = tt
 form_says batch l c is = tt
 
 -- ---- behind a step
@@ -269,31 +271,33 @@ keeps_nothing : (s : ℕ) (text : Bytes) (cost : ℕ) (e : Effect)
     → e ≡ record { queued = (s, text) ∷ []; cost = cost; kept = no_line } → KeepsLines e.kept
 keeps_nothing s text cost e is = keeps_as e no_line (ap (λ (f : Effect). f.kept) is) tt
 
-keeps_held : (held : List HeldRow) → All (λ (r : HeldRow). IsLine r.line) held
-    → AllByRecursion IsLine (map (λ (r : HeldRow). r.line) held)
+keeps_held : (logged : List Bytes) → All IsLine logged → AllByRecursion IsLine logged
 keeps_held [] all = tt
-keeps_held (r ∷ rs) all = (
-  All-head (λ (r : HeldRow). IsLine r.line) r rs all,
-  keeps_held rs
-      (All-tail (λ (r : HeldRow). IsLine r.line) r rs all),
-)
+keeps_held (l ∷ ls) all = (All-head IsLine l ls all, keeps_held ls (All-tail IsLine l ls all))
 
-keeps_batch : {A : Type 0} (held : List HeldRow) (r : Result A Refusal) → All (λ (r : HeldRow). IsLine r.line) held
+keeps_batch : {A E : Type 0} (held : HeldTransaction) (r : Result A E) → All IsLine held.logged
     → KeepsLines (kept_batch held r)
-keeps_batch held (Ok a) all = keeps_held held all
+keeps_batch held (Ok a) all = keeps_held held.logged all
 keeps_batch held (Err r) all = tt
 
 keeps_add : (old : State) (s : ℕ) (l name : Bytes) (row : Tuple) (e : Effect) (new : State)
-    (batch : Option (List HeldRow))
-    → MatchOption batch (AddStep old s name row e new) (λ held. HoldStep old s held l name row e new)
+    (batch : Option HeldTransaction)
+    → MatchOption batch (AddStep old s name row e new) (λ held. HoldStep old s held l Adds name row e new)
     → KeepsLines e.kept
 keeps_add old s l name row e new None h = keeps_as e _ h.kept (keeps_where _)
 keeps_add old s l name row e new (Some held) h = keeps_nothing s _ 0 e h.effect
 
-keeps_done : (old : State) (s : ℕ) (e : Effect) (new : State) (batch : Option (List HeldRow)) → HoldsLines batch
-    → MatchOption batch ⊥ (λ held. DoneStep old s held e new) → KeepsLines e.kept
-keeps_done old s e new None holds h = absurd h
-keeps_done old s e new (Some held) holds h = keeps_as e _ h.kept (keeps_batch held h.result holds)
+keeps_delete : (old : State) (s : ℕ) (l name : Bytes) (row : Tuple) (e : Effect) (new : State)
+    (batch : Option HeldTransaction)
+    → MatchOption batch (DeleteStep old s name row e new) (λ held. HoldStep old s held l Deletes name row e new)
+    → KeepsLines e.kept
+keeps_delete old s l name row e new None h = keeps_as e _ h.kept (keeps_where _)
+keeps_delete old s l name row e new (Some held) h = keeps_nothing s _ 0 e h.effect
+
+keeps_done : (old : State) (s : ℕ) (given : Option ℕ) (e : Effect) (new : State) (batch : Option HeldTransaction)
+    → HoldsLines batch → MatchOption batch ⊥ (λ held. DoneStep old s held given e new) → KeepsLines e.kept
+keeps_done old s given e new None holds h = absurd h
+keeps_done old s given e new (Some held) holds h = keeps_as e _ h.kept (keeps_batch held h.result holds)
 
 keeps_next : (old : State) (s : ℕ) (c : Bytes) (q : Listed) (count : ℕ) (p : Position) (e : Effect) (new : State)
     → NextStepAt old s c q count p e new → KeepsLines e.kept
@@ -330,7 +334,7 @@ keeps_command : (old : State) (s : ℕ) (x : Session) (l : Bytes) (c : Command) 
     → CommandStep old s x l c e new → KeepsLines e.kept
 keeps_command old s x l (Rel name types) e new holds h = keeps_answer s _ _ e h.effect
 keeps_command old s x l (Add name row) e new holds h = keeps_add old s l name row e new x.batch h
-keeps_command old s x l (Del name row) e new holds h = keeps_as e _ h.kept (keeps_where _)
+keeps_command old s x l (Del name row) e new holds h = keeps_delete old s l name row e new x.batch h
 keeps_command old s x l (Register q) e new holds (inl h) = keeps_answer s _ _ e h.effect
 keeps_command old s x l (Register q) e new holds (inr h) = keeps_answer s _ _ e h.ends.0
 keeps_command old s x l (Union name members) e new holds h = keeps_answer s _ _ e h.effect
@@ -344,7 +348,7 @@ keeps_command old s x l (Unwatch q) e new holds h = keeps_nothing s _ 0 e h.effe
 keeps_command old s x l (Explain q) e new holds h = keeps_explained old s e new (listed_of old.store.queries q) h
 keeps_command old s x l (Shape q) e new holds h = keeps_nothing s _ 0 e h.effect
 keeps_command old s x l Batch e new holds h = keeps_nothing s _ 0 e h.effect
-keeps_command old s x l Done e new holds h = keeps_done old s e new x.batch holds h
+keeps_command old s x l (Done given) e new holds h = keeps_done old s given e new x.batch holds h
 keeps_command old s x l Abandon e new holds h = keeps_nothing s _ 0 e h.0
 keeps_command old s x l Quit e new holds h = keeps_nothing s _ 0 e h.0
 keeps_command old s x l Stop e new holds h = keeps_nothing s _ 0 e h.0

@@ -1,41 +1,48 @@
 -- How many copies of a row `add`, `del` and `done` make or take.
-use Rattle.std.specs.Prelude.{ℕ, List, ◌≡◌, ◌==◌, ◌+◌, ◌-◌, ◌≤◌, ◌&&◌, Bool, true, false, cond, Option, None, Some}
-use Rattle.std.specs.Prelude.{is_none, nat_le, Ok, zero, suc, [], ◌∷◌, not, length}
-use Rattle.std.proofs.Common.{refl, sym, ap, ◌∙◌, subst, arith}
-use Rattle.std.proofs.lemmas.Bool.{le-leb, lt-leb, eq-eqb, ne_eqb, and_parts}
-use Rattle.std.specs.List.{list_all}
-use Rattle.std.proofs.lemmas.List.Elements.{All-head}
+use Rattle.std.specs.Prelude.{ℕ, List, ◌≡◌, ◌==◌, ◌+◌, ◌-◌, ◌≤◌, ◌&&◌, ◌||◌, Bool, true, false, cond, Option, None}
+use Rattle.std.specs.Prelude.{Some}
+use Rattle.std.specs.Prelude.{is_none, nat_le, nat_lt, Ok, zero, suc, [], ◌∷◌, ◌++◌, not, length, filter, fold, All}
+use Rattle.std.proofs.Common.{refl, sym, ap, ap₂, ◌∙◌, subst, arith}
+use Rattle.std.proofs.lemmas.Bool.{false≢true, le-leb, lt-leb, lt-ltb, eq-eqb, ne_eqb}
+use Rattle.std.specs.List.{list_any}
+use Rattle.std.proofs.lemmas.List.{map-append}
+use Rattle.std.proofs.lemmas.List.Elements.{All-head, All-tail, All-weaker, All-contains}
 use Rattle.djq_model.specs.declared.relation.Relation.{Relation}
 use Rattle.djq_model.specs.declared.relation.CountedRow.{CountedRow}
 use Rattle.djq_model.specs.Data.{Bytes, Tuple, bytes_eq, tuple_eq, relation_of, plain_of, counted_in, counted_of}
 use Rattle.djq_model.specs.Data.{rows_of, has_row, copies_among, with_row, with_copies, without_copies}
 use Rattle.djq_model.specs.Answer.{AreDifferent}
-use Rattle.djq_model.specs.Equality.{bytes_eq-decides, tuple_eq-decides}
-use Rattle.djq_model.specs.Known.{texts_in, all_learned}
+use Rattle.djq_model.specs.Equality.{bytes_eq-decides}
 use Rattle.djq_model.specs.Typed.{fits}
 use Rattle.djq_model.proofs.Copies.{no_copies, copies_hold, came_copies, others_with_row, changed_copies}
-use Rattle.djq_model.proofs.Copies.{others_with_copies, others_without, gone_copies}
+use Rattle.djq_model.proofs.Copies.{others_with_copies, others_without, gone_copies, tuples_without, tuples_with_copies}
 use Rattle.djq_protocol.specs.declared.answer.AddOutcome.{AddOutcome}
 use Rattle.djq_protocol.specs.declared.answer.AddOutcome.TheVariants.{First, More}
 use Rattle.djq_protocol.specs.declared.answer.DeleteOutcome.{DeleteOutcome}
 use Rattle.djq_protocol.specs.declared.answer.DeleteOutcome.TheVariants.{Last, Left, Absent}
 use Rattle.djq_protocol.specs.declared.answer.Refusal.TheVariants.{NoRelation, Arity, WrongType}
-use Rattle.djq_protocol.specs.declared.held.HeldRow.{HeldRow}
 use Rattle.djq_protocol.specs.Conditions.{OutOfMemoryWhere, first_refusal}
 use Rattle.djq_protocol.specs.Columns.{types_of}
 use Rattle.djq_store_spec.specs.Store.{Store}
 use Rattle.djq_store_spec.specs.Rows.{copies_of, with_copies_of, add_refusal, AddsAs, AddsRow, delete_refusal}
 use Rattle.djq_store_spec.specs.Rows.{DeletesAs, DeletesRow}
 use Rattle.djq_store_spec.specs.Relations.{with_rows}
-use Rattle.djq_store_spec.specs.Batch.{suit_refusal, SuitAll, is_there, with_held, with_all, count_came, HavePlaces}
-use Rattle.djq_store_spec.proofs.Relations.{counted_here, counted_apart, copies_rows}
+use Rattle.djq_store_spec.specs.Held.{HeldLine}
+use Rattle.djq_store_spec.specs.Lines.{same_row, first_lines, copies_before, copies_after, after_verb, line_comes}
+use Rattle.djq_store_spec.specs.Lines.{line_goes, with_so_many, with_copies_left, relations_after}
+use Rattle.djq_store_spec.specs.Transaction.{suit_refusal, SuitAll}
+use Rattle.djq_store_spec.proofs.Relations.{counted_here, counted_apart, rows_apart}
+use Rattle.djq_store_spec.proofs.SoManyCopies.{many_among, many_others}
+use Rattle.djq_answer_laws.proofs.Lists.{pairs_head, pairs_tail}
 use Rattle.djq_run_laws.specs.Sound.{IsCopyCount, IsSoundRelation, IsSoundStore}
 use Rattle.djq_run_laws.specs.Copies.{RowsHaveCopies, LeavesCopies, copies_added, copies_left, AddsCopy, TakesCopy}
-use Rattle.djq_run_laws.specs.Copies.{times_held, AddsHeld}
-use Rattle.djq_run_laws.proofs.Lists.{nothing_apart, all_found}
+use Rattle.djq_run_laws.specs.Copies.{lines_leave, has_turned, LinesLeaveCopies}
+use Rattle.djq_run_laws.proofs.Lists.{nothing_apart, all_found, rows_more, rows_less}
 use Rattle.djq_run_laws.proofs.Forms.{done_of, none_holds, none_first}
-use Rattle.djq_run_laws.proofs.RowCommands.{counted_sound}
-use Rattle.djq_run_laws.proofs.Batches.{one_gains, suit_behind, all_gain, is_behind}
+use Rattle.djq_run_laws.proofs.RowCommands.{counted_sound, SameTypes, types_with_rows, there_still}
+use Rattle.djq_run_laws.proofs.DoneLines.{AreOfOtherRows, line_of, by_row, after_same, any_first, all_first}
+use Rattle.djq_run_laws.proofs.DoneLines.{others_first}
+use Rattle.djq_run_laws.proofs.DoneLines.{unnamed_stays, here_holds, other_row, same_turned, same_none, none_of}
 
 -- ---- `add` makes a copy of a row more, `del` one less, and all other rows have as many as before.
 
@@ -76,11 +83,11 @@ found_one (Some x) e = (x, refl)
 
 module _ (rs : List Relation) (name : Bytes) (row : Tuple) (rows : List CountedRow)
     (found : is_none (relation_of rs name) ≡ false) where
-  now : counted_of (with_rows rs name rows) name ≡ rows
-  now = let f = found_one (relation_of rs name) found in counted_here rs name rows f.0 f.1
+  these_rows : counted_of (with_rows rs name rows) name ≡ rows
+  these_rows = let f = found_one (relation_of rs name) found in counted_here rs name rows f.0 f.1
 
   pub its_copies : (k : ℕ) → copies_among rows row ≡ k → copies_among (counted_of (with_rows rs name rows) name) row ≡ k
-  its_copies k e = ap (λ (cs : List CountedRow). copies_among cs row) now ∙ e
+  its_copies k e = ap (λ (cs : List CountedRow). copies_among cs row) these_rows ∙ e
 
   pub other_copies : ((t : Tuple) → tuple_eq row t ≡ false → copies_among rows t ≡ copies_among (counted_of rs name) t)
       → (n : Bytes) (t : Tuple) → (bytes_eq n name && tuple_eq row t) ≡ false
@@ -94,7 +101,7 @@ module _ (rs : List Relation) (name : Bytes) (row : Tuple) (rows : List CountedR
           subst (λ (m : Bytes).
           copies_among (counted_of (with_rows rs name rows) m) t ≡ copies_among (counted_of rs m) t)
           (sym ((bytes_eq-decides n name).0 e))
-          (ap (λ (cs : List CountedRow). copies_among cs t) now ∙ same t k)
+          (ap (λ (cs : List CountedRow). copies_among cs t) these_rows ∙ same t k)
 
 -- ---- the commands
 
@@ -204,64 +211,9 @@ pub takes_copy : TakesCopy
 takes_copy old sound name row outcome new h =
     let t = takes old sound name row new outcome h in (t.0, t.1 ∙ sym t.0.row_has)
 
--- ---- `done` makes as many copies more of each row as its batch holds.
+-- ---- `done` leaves each row the copies that its lines leave, one after another.
 
--- ---- one row
-
-module _ (st : Store) (h : HeldRow) (found : is_none (relation_of st.relations h.relation) ≡ false) where
-  abbrev has : List CountedRow
-  has = counted_of st.relations h.relation
-
-  abbrev more : ℕ
-  more = copies_of st h.relation h.row + 1
-
-  -- the store, by whether the row is there
-  abbrev behind_one : Bool → Store
-  behind_one b = cond b (record st { relations = with_copies_of st.relations h.relation h.row more }) (record st {
-    relations = with_rows st.relations h.relation (with_row has h.row);
-    texts = all_learned st.texts (texts_in h.row);
-  })
-
-  once_more : copies_of (with_held st h) h.relation h.row ≡ more
-  once_more = by (is_there st h) refl
-    where
-      by : (b : Bool) → is_there st h ≡ b → copies_of (behind_one b) h.relation h.row ≡ more
-      by true there =
-          its_copies st.relations h.relation h.row (with_copies has h.row more) found more
-          (changed_copies has h.row more there)
-      by false absent =
-          let one : more ≡ 1 = ap (λ (n : ℕ). n + 1) (no_copies has h.row absent) in
-          its_copies st.relations h.relation h.row (with_row has h.row) found more
-          (came_copies has h.row absent ∙ sym one)
-
-  others_stay : (n : Bytes) (t : Tuple) → (bytes_eq n h.relation && tuple_eq h.row t) ≡ false
-      → copies_of (with_held st h) n t ≡ copies_of st n t
-  others_stay n t apart = by (is_there st h)
-    where
-      by : (b : Bool) → copies_of (behind_one b) n t ≡ copies_of st n t
-      by true =
-          other_copies st.relations h.relation h.row (with_copies has h.row more) found
-          (λ u k. others_with_copies has h.row u more k) n t apart
-      by false =
-          other_copies st.relations h.relation h.row (with_row has h.row) found
-          (λ u k. others_with_row has h.row u k) n t apart
-
-  each_one : (n : Bytes) (t : Tuple)
-      → copies_of (with_held st h) n t
-      ≡ copies_of st n t + cond (bytes_eq n h.relation && tuple_eq h.row t) 1 0
-  each_one n t = by (bytes_eq n h.relation && tuple_eq h.row t) refl
-    where
-      by : (b : Bool) → (bytes_eq n h.relation && tuple_eq h.row t) ≡ b
-          → copies_of (with_held st h) n t ≡ copies_of st n t + cond b 1 0
-      by false e = let same = others_stay n t e in omega (arith, same)
-      by true e =
-          let both = and_parts (bytes_eq n h.relation) (tuple_eq h.row t) e in
-          subst (λ (m : Bytes). copies_of (with_held st h) m t ≡ copies_of st m t + 1)
-          (sym ((bytes_eq-decides n h.relation).0 both.0))
-          (subst (λ (u : Tuple). copies_of (with_held st h) h.relation u ≡ copies_of st h.relation u + 1)
-          ((tuple_eq-decides h.row t).0 both.1) once_more)
-
--- ---- a batch
+-- ---- one line
 
 -- a row that suits has its relation
 suit_found : (st : Store) (name : Bytes) (row : Tuple) → suit_refusal st name row ≡ None
@@ -271,61 +223,171 @@ suit_found st name row h =
     none_first (is_none (relation_of st.relations name)) NoRelation
     (first_refusal ((not (length row == length types), Arity) ∷ (not (fits types row), WrongType) ∷ [])) h
 
-each_all : (st : Store) (held : List HeldRow) → SuitAll st held → HavePlaces st held → (n : Bytes) (t : Tuple)
-    → copies_of (with_all st held) n t ≡ copies_of st n t + times_held held n t
-each_all st [] suit places n t = omega arith
-each_all st (h ∷ hs) suit places n t =
-    let fits = All-head (λ (k : HeldRow). suit_refusal st k.relation k.row ≡ None) h hs suit in
-    let one = each_one st h (suit_found st h.relation h.row fits) n t in
-    let rest = each_all (with_held st h) hs (suit_behind st h hs (one_gains st h places.0).types suit) places.2 n t in
-    omega (arith, one, rest)
+module _ (st : Store) (lines : List HeldLine) where
+  abbrev base : List Relation
+  base = st.relations
 
--- where a row is there, the same rows are behind a further copy of it
-stay_there : (st : Store) (h k : HeldRow) → is_there st h ≡ true → is_there (with_held st h) k ≡ is_there st k
-stay_there st h k there =
-    ap (λ (ts : List Tuple). has_row ts k.row)
-    (subst (λ (b : Bool). rows_of (cond b (record st {
-      relations = with_copies_of st.relations h.relation h.row (copies_of st h.relation h.row + 1);
-    }) (record st {
-      relations = with_rows st.relations h.relation (with_row (counted_of st.relations h.relation) h.row);
-      texts = all_learned st.texts (texts_in h.row);
-    })).relations k.relation ≡ rows_of st.relations k.relation) (sym there)
-    (copies_rows st.relations h.relation h.row (copies_of st h.relation h.row + 1) k.relation))
+  abbrev step : List Relation → HeldLine → List Relation
+  step = with_copies_left base lines
 
-all_alike : (p q : HeldRow → Bool) → ((k : HeldRow) → p k ≡ q k) → (hs : List HeldRow) → list_all p hs ≡ list_all q hs
-all_alike p q same [] = refl
-all_alike p q same (k ∷ ks) =
-    ap (λ (b : Bool). b && list_all p ks) (same k) ∙ ap (λ (b : Bool). q k && b) (all_alike p q same ks)
+  -- its rows stay different
+  abbrev AllDiffer : List Relation → Type 0
+  AllDiffer now = (name : Bytes) → AreDifferent (rows_of now name)
 
--- none comes exactly where all are there
-count_there : (st : Store) (held : List HeldRow) → (count_came st held == 0) ≡ list_all (is_there st) held
-count_there st [] = refl
-count_there st (h ∷ hs) = by (is_there st h) refl (count_there (with_held st h) hs)
+  left_differ : (had : List CountedRow) (row : Tuple) (n : ℕ) → AreDifferent (plain_of had)
+      → AreDifferent (plain_of (with_so_many had row n))
+  left_differ had row zero apart =
+      subst AreDifferent (sym (tuples_without had row)) (rows_less (plain_of had) row apart)
+  left_differ had row (suc n) apart = by (has_row (plain_of had) row) refl
+    where
+      by : (b : Bool) → has_row (plain_of had) row ≡ b
+          → AreDifferent
+          (plain_of (cond b (with_copies had row (suc n)) (had ++ record { row = row; copies = suc n } ∷ [])))
+      by true e = subst AreDifferent (sym (tuples_with_copies had row (suc n))) apart
+      by false e =
+          subst AreDifferent
+          (sym (map-append (λ (c : CountedRow). c.row) had (record { row = row; copies = suc n } ∷ [])))
+          (rows_more (plain_of had) row apart e)
+
+  step_differs : (now : List Relation) (g : HeldLine) → AllDiffer now → AllDiffer (step now g)
+  step_differs now g apart name = by (bytes_eq name g.relation) refl
+    where
+      rows : List CountedRow
+      rows = with_so_many (counted_of now g.relation) g.row (copies_after base lines g)
+
+      by : (b : Bool) → bytes_eq name g.relation ≡ b → AreDifferent (rows_of (step now g) name)
+      by false e = subst AreDifferent (sym (rows_apart now g.relation rows name e)) (apart name)
+      by true e =
+          subst (λ (n : Bytes). AreDifferent (rows_of (step now g) n)) (sym ((bytes_eq-decides name g.relation).0 e))
+          (here_holds (λ (cs : List CountedRow). AreDifferent (plain_of cs)) now g.relation rows
+          (left_differ (counted_of now g.relation) g.row (copies_after base lines g) (apart g.relation))
+          (nothing_apart (λ (s t : Tuple). s ≡ t → ⊥)))
+
+  so_many_are : (had : List CountedRow) (row : Tuple) (n : ℕ) → AreDifferent (plain_of had)
+      → copies_among (with_so_many had row n) row ≡ n
+  so_many_are had row zero apart = gone_copies had row apart
+  so_many_are had row (suc n) apart = many_among had row n
+
+  -- a line's relation is there
+  abbrev IsFound : HeldLine → Type 0
+  IsFound g = is_none (relation_of base g.relation) ≡ false
+
+  its_own : (now : List Relation) (g : HeldLine) → SameTypes base now → IsFound g → AllDiffer now
+      → copies_among (counted_of (step now g) g.relation) g.row ≡ copies_after base lines g
+  its_own now g same found apart =
+      its_copies now g.relation g.row (with_so_many (counted_of now g.relation) g.row (copies_after base lines g))
+      (there_still base now g.relation (same g.relation) found) (copies_after base lines g)
+      (so_many_are (counted_of now g.relation) g.row (copies_after base lines g) (apart g.relation))
+
+  another : (now : List Relation) (g h : HeldLine) → same_row g h ≡ false
+      → copies_among (counted_of (step now g) h.relation) h.row ≡ copies_among (counted_of now h.relation) h.row
+  another now g h apart =
+      other_row st lines (λ (rows : List CountedRow). copies_among rows h.row) h
+      (λ rows row n e. many_others rows row h.row n e) now g apart
+
+  -- ---- all of them
+
+  copies_on : (h : HeldLine) (now : List Relation) (gs : List HeldLine) → AreOfOtherRows gs → All IsFound gs
+      → SameTypes base now → AllDiffer now → (b : Bool) → list_any (λ g. same_row g h) gs ≡ b
+      → copies_among (counted_of (fold step now gs) h.relation) h.row
+      ≡ cond b (copies_after base lines h) (copies_among (counted_of now h.relation) h.row)
+  copies_on h now [] others found same apart true e = absurd (false≢true e)
+  copies_on h now [] others found same apart false e = refl
+  copies_on h now (g ∷ gs) others found same apart b e =
+      by (same_row g h) refl e
+      (λ c k. copies_on h (step now g) gs (pairs_tail (λ (x y : HeldLine). same_row x y ≡ false) g gs others)
+      (All-tail IsFound g gs found)
+      (λ n. types_with_rows now g.relation
+      (with_so_many (counted_of now g.relation) g.row (copies_after base lines g)) n ∙ same n)
+      (step_differs now g apart) c k)
+    where
+      none_more : same_row g h ≡ true → list_any (λ k. same_row k h) gs ≡ false
+      none_more s = none_of gs (λ k c. same_none g h k s (All-contains (λ (j : HeldLine). same_row g j ≡ false) gs k
+          (pairs_head (λ (x y : HeldLine). same_row x y ≡ false) g gs others) c))
+
+      by : (a : Bool) → same_row g h ≡ a → (a || list_any (λ k. same_row k h) gs) ≡ b
+          → ((c : Bool) → list_any (λ k. same_row k h) gs ≡ c
+          → copies_among (counted_of (fold step (step now g) gs) h.relation) h.row
+          ≡ cond c (copies_after base lines h) (copies_among (counted_of (step now g) h.relation) h.row))
+          → copies_among (counted_of (fold step (step now g) gs) h.relation) h.row
+          ≡ cond b (copies_after base lines h) (copies_among (counted_of now h.relation) h.row)
+      by true s k more =
+          more false (none_more s)
+          ∙ by_row (λ (j : HeldLine). copies_among (counted_of (step now g) j.relation) j.row) (λ j. refl) h g
+          (same_turned g h s)
+          ∙ its_own now g same (All-head IsFound g gs found) apart
+          ∙ after_same base lines g h s
+          ∙ ap (λ (a : Bool). cond a (copies_after base lines h) (copies_among (counted_of now h.relation) h.row)) k
+      by false s k more =
+          more b k ∙ ap (λ (n : ℕ). cond b (copies_after base lines h) n) (another now g h s)
+
+  module _ (sound : IsSoundStore st) (suit : SuitAll st lines) where
+    found_all : All IsFound (first_lines lines)
+    found_all = all_first IsFound lines
+        (All-weaker (λ (h : HeldLine). suit_refusal st h.relation h.row ≡ None) IsFound
+        (λ h k. suit_found st h.relation h.row k) lines suit)
+
+    -- each row has the copies that they leave
+    pub all_copies : (h : HeldLine)
+        → copies_among (counted_of (relations_after base lines) h.relation) h.row ≡ copies_after base lines h
+    all_copies h =
+        copies_on h base (first_lines lines) (others_first lines) found_all (λ n. refl)
+        (λ name. differ st sound name [])
+        (list_any (λ (g : HeldLine). same_row g h) (first_lines lines)) refl
+        ∙ by (list_any (λ (g : HeldLine). same_row g h) (first_lines lines)) refl
+      where
+        by : (b : Bool) → list_any (λ (g : HeldLine). same_row g h) (first_lines lines) ≡ b
+            → cond b (copies_after base lines h) (copies_before base h) ≡ copies_after base lines h
+        by true e = refl
+        by false e =
+            sym (unnamed_stays base lines h
+            (sym (any_first (λ (g : HeldLine). same_row g h)
+            (λ g k s. by_row (λ (j : HeldLine). same_row j h) (λ j. refl) g k s) lines) ∙ e))
+
+-- the copies that lines leave, in the law's words
+leave_as : (lines : List HeldLine) (name : Bytes) (row : Tuple) (n : ℕ)
+    → fold (λ m g. cond (same_row g (line_of name row)) (after_verb g.verb m) m) n lines ≡ lines_leave lines name row n
+leave_as [] name row n = refl
+leave_as (h ∷ hs) name row n =
+    leave_as hs name row (cond (bytes_eq h.relation name && tuple_eq h.row row) (after_verb h.verb n) n)
+
+-- some row comes or goes exactly if one of the lines is of such a row
+count_any : (p q : HeldLine → Bool) (hs : List HeldLine)
+    → nat_lt 0 (length (filter p hs) + length (filter q hs)) ≡ list_any (λ h. p h || q h) hs
+count_any p q [] = refl
+count_any p q (h ∷ hs) = by (p h) (q h) (count_any p q hs)
   where
-    count : ℕ
-    count = count_came (with_held st h) hs
+    by : (a b : Bool) → nat_lt 0 (length (filter p hs) + length (filter q hs)) ≡ list_any (λ k. p k || q k) hs
+        → nat_lt 0 (length (cond a (h ∷ filter p hs) (filter p hs)) + length (cond b (h ∷ filter q hs) (filter q hs)))
+        ≡ ((a || b) || list_any (λ k. p k || q k) hs)
+    by true b rest = lt-ltb 0 (suc (length (filter p hs)) + length (cond b (h ∷ filter q hs) (filter q hs)))
+        (omega arith)
+    by false true rest = lt-ltb 0 (length (filter p hs) + suc (length (filter q hs))) (omega arith)
+    by false false rest = rest
 
-    by : (b : Bool) → is_there st h ≡ b → (count == 0) ≡ list_all (is_there (with_held st h)) hs
-        → (cond b 0 1 + count == 0) ≡ (b && list_all (is_there st) hs)
-    by true there rest =
-        let same : 0 + count ≡ count = omega arith in
-        ap (λ (n : ℕ). n == 0) same ∙ rest
-        ∙ all_alike (is_there (with_held st h)) (is_there st) (λ k. stay_there st h k there) hs
-    by false absent rest = ne_eqb (1 + count) 0 (λ e. omega (arith, e))
+any_alike : (p q : HeldLine → Bool) → ((h : HeldLine) → p h ≡ q h) → (hs : List HeldLine)
+    → list_any p hs ≡ list_any q hs
+any_alike p q same [] = refl
+any_alike p q same (h ∷ hs) = ap₂ (λ (a b : Bool). a || b) (same h) (any_alike p q same hs)
 
-pub adds_held : AddsHeld
-adds_held old held suit zero new h =
-    let after = h.2 ∙ is_behind old held zero h.1 in record {
-      each = λ n t. ap (λ (st : Store). copies_of st n t) after ∙ each_all old held suit h.0 n t;
-      counted = ap (λ (st : Store). st.seq) after ∙ ap (λ (st : Store). st.seq) (all_gain old held h.0).store
-          ∙ ap (λ (b : Bool). cond b old.seq (old.seq + 1))
-          (sym (eq-eqb (count_came old held) 0 (sym h.1)) ∙ count_there old held);
-    }
-adds_held old held suit (suc m) new h =
-    let after = h.2 ∙ is_behind old held (suc m) h.1 in
-    let some : (count_came old held == 0) ≡ false =
-    ne_eqb (count_came old held) 0 (λ e. let is = h.1 in omega (arith, e, is)) in record {
-      each = λ n t. ap (λ (st : Store). copies_of st n t) after ∙ each_all old held suit h.0 n t;
-      counted = ap (λ (st : Store). st.seq) after
-          ∙ ap (λ (b : Bool). cond b old.seq (old.seq + 1)) (sym some ∙ count_there old held);
-    }
+pub lines_leave_copies : LinesLeaveCopies
+lines_leave_copies old sound lines suit given n new h = record {
+  each = λ name row. left (line_of name row) ∙ leave_as lines name row (copies_of old name row);
+  counted = ap (λ (st : Store). st.seq) h.does.1
+      ∙ ap (λ (b : Bool). cond b (old.seq + 1) old.seq)
+      (count_any (line_comes old.relations lines) (line_goes old.relations lines) (first_lines lines)
+      ∙ any_first turns turns_alike lines ∙ any_alike turns (has_turned old new) turned lines);
+}
+  where
+    left : (k : HeldLine) → copies_of new k.relation k.row ≡ copies_after old.relations lines k
+    left k = ap (λ (st : Store). copies_of st k.relation k.row) h.does.1 ∙ all_copies old lines sound suit k
+
+    turns : HeldLine → Bool
+    turns k = line_comes old.relations lines k || line_goes old.relations lines k
+
+    turns_alike : (g k : HeldLine) → same_row g k ≡ true → turns g ≡ turns k
+    turns_alike g k s = by_row turns (λ j. refl) g k s
+
+    turned : (k : HeldLine) → turns k ≡ has_turned old new k
+    turned k = ap (λ (m : ℕ). ((copies_of old k.relation k.row == 0) && nat_lt 0 m)
+        || (nat_lt 0 (copies_of old k.relation k.row) && (m == 0))) (sym (left k))

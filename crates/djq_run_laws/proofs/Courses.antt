@@ -1,6 +1,6 @@
 -- What a step does to the session of its event, how a course goes on, and the headline over it.
 use Rattle.std.specs.Prelude.{ℕ, [], ◌≡◌, ◌++◌, Option, None, Some, All}
-use Rattle.std.proofs.Common.{refl, sym, ap, ◌∙◌, subst, append-nil, inl, inr, List, ◌∷◌, ◌+◌, ◌≤◌, ◌≢◌, true, false}
+use Rattle.std.proofs.Common.{refl, sym, ap, ◌∙◌, subst, append-nil, List, ◌∷◌, ◌+◌, ◌≤◌, ◌≢◌, true, false}
 use Rattle.std.proofs.Common.{length, take, append_assoc, arith}
 use Rattle.std.proofs.lemmas.Grind.{flat_map-append}
 use Rattle.std.proofs.lemmas.List.{take-append-le, take_all}
@@ -13,13 +13,13 @@ use Rattle.djq_io.specs.Sink.{Gains, bytes_of, NoneFailed}
 use Rattle.djq_io.proofs.Streams.{gives_none, gives_more, gains_none, gains_more, bytes_more, took_well}
 use Rattle.djq_model.specs.Data.{Bytes}
 use Rattle.djq_protocol.specs.declared.answer.EndCause.{EndCause}
-use Rattle.djq_protocol.specs.Reply.{end_memory, input_cut}
+use Rattle.djq_protocol.specs.Reply.{end_memory}
 use Rattle.djq_answer_laws.proofs.Lists.{some_there}
 use Rattle.djq_machine.specs.State.{State, Session, session_of}
-use Rattle.djq_machine.specs.Effect.{Effect}
+use Rattle.djq_machine.specs.Effect.{Effect, lost_line}
 use Rattle.djq_machine.specs.LineStep.{LineOutcome, FrontStep}
 use Rattle.djq_machine.specs.Step.{Event, fed, stepped, took, ended, Step, is_dry, FedStep, TookStep, EndedStep, opened}
-use Rattle.djq_machine.specs.Step.{closed}
+use Rattle.djq_machine.specs.Step.{closed, cut_line}
 use Rattle.djq_machine.specs.Run.{to_session, pending_of, pending_in, Did, Walk, all_taken, taken_from, pieces_of}
 use Rattle.djq_machine.specs.Run.{piece_of, out, cost_of}
 use Rattle.djq_machine.specs.Call.{IsOpen, cause_of, held_of, cause_in, held_in}
@@ -27,7 +27,7 @@ use Rattle.djq_machine.specs.Gives.{CursorsGive}
 pub use Rattle.djq_run_laws.specs.Moved.{SessionTakes, InputComes, is_held, out_of_memory, is_dropped, InputIsOver}
 pub use Rattle.djq_run_laws.specs.Moved.{input_ends, had_ended, LineIsStepped, CausedBy, LeavesHeldBytes}
 use Rattle.djq_run_laws.specs.Course.{Outside, Course, RunNext, MayRun, RunDoes, ListsStep, writes_by, last_write}
-use Rattle.djq_run_laws.specs.Moved.{SparesSession}
+use Rattle.djq_run_laws.specs.Moved.{SparesSession, batch_in}
 use Rattle.djq_run_laws.specs.Given.{CoursesGive}
 use Rattle.djq_run_laws.proofs.Lists.{stepped_open, stepped_cause, stepped_held, stepped_pending}
 use Rattle.djq_run_laws.proofs.Events.{Touches, FedTo, is_held as holds, out_of_memory as runs_out, is_dropped as drops}
@@ -106,14 +106,11 @@ fed_facts old s bytes e new h =
 
 ends : (old new : State) (s : ℕ) (x y : Session) (text : Bytes) → session_of old s ≡ Some x → y.pending ≡ x.pending
     → y.held ≡ x.held → Becomes new s y text → EndedTo x y text → InputIsOver old new s
-ends old new s x y text found same held b (ends_input running so dry (inl none)) =
+ends old new s x y text found same held b (ends_input running so dry said) =
     input_ends b.stays (ap cause_in found ∙ running) (b.cause ∙ so) (b.held ∙ held ∙ sym (ap held_in found))
     (ap (λ o. is_dry (held_in o)) found ∙ dry)
-    (inl (quiet_pending old new s x y text found b.pending same none))
-ends old new s x y text found same held b (ends_input running so dry (inr said)) =
-    input_ends b.stays (ap cause_in found ∙ running) (b.cause ∙ so) (b.held ∙ held ∙ sym (ap held_in found))
-    (ap (λ o. is_dry (held_in o)) found ∙ dry)
-    (inr (said_pending old new s x y text input_cut found b.pending same said))
+    (said_pending old new s x y text (cut_line x.held ++ lost_line x.batch) found b.pending same said
+    ∙ ap (λ (o : Option Session). pending_of old s ++ (cut_line (held_in o) ++ lost_line (batch_in o))) (sym found))
 ends old new s x y text found same held b (had c cause still none) =
     had_ended b.stays c (ap cause_in found ∙ cause) (b.cause ∙ still) (b.held ∙ held ∙ sym (ap held_in found))
     (quiet_pending old new s x y text found b.pending same none)

@@ -17,9 +17,11 @@ use Rattle.djq_protocol.specs.declared.answer.Refusal.{Refusal}
 use Rattle.djq_protocol.specs.declared.answer.Refusal.TheVariants.{Syntax, Taken, NoRelation, NoQuery, NoCursor, Arity}
 use Rattle.djq_protocol.specs.declared.answer.Refusal.TheVariants.{WrongType, HeadUnbound, HeadRepeated, VariableType}
 use Rattle.djq_protocol.specs.declared.answer.Refusal.TheVariants.{Unbound, Limit, NoMemory, InUse, Member, Misplaced}
-use Rattle.djq_protocol.specs.declared.held.HeldRow.{HeldRow}
+use Rattle.djq_protocol.specs.declared.answer.Refusal.TheVariants.{NoCopy}
+use Rattle.djq_protocol.specs.declared.answer.Refusal.TheVariants.{OtherCount}
+use Rattle.djq_store_spec.specs.Held.{HeldTransaction, nothing_held, holding}
 use Rattle.djq_protocol.specs.declared.command.Command.{Command}
-use Rattle.djq_protocol.specs.declared.command.Command.TheVariants.{Add, Done, Open, Next}
+use Rattle.djq_protocol.specs.declared.command.Command.TheVariants.{Add, Del, Done, Open, Next}
 use Rattle.djq_protocol.specs.Conditions.{Answers, OutOfMemoryWhere}
 use Rattle.djq_protocol.specs.Grammar.{Reading, outside, past_limit, says_command, reading_of, takes_memory_to_read}
 use Rattle.djq_protocol.specs.Reply.{line, refusal_line, ok_reply, text_of, listing_lines, end_memory}
@@ -44,9 +46,10 @@ use Rattle.djq_run_laws.specs.Sound.{AreApart, IsSoundSession, IsSoundState, IsS
 use Rattle.djq_run_laws.specs.Listed.{ListedIsTold, is_opened, is_misplacing, replies_behind, replies_after}
 use Rattle.djq_run_laws.specs.Listed.{replies_since, Page, page_text, last_end, TellGiven, position_among, position_in}
 use Rattle.djq_run_laws.specs.Listed.{session_position, GivenIsTold}
-use Rattle.djq_run_laws.specs.Form.{add_form, done_form, form_of, Form, asking, storing, turning, changing, ending}
+use Rattle.djq_run_laws.specs.Form.{add_form, delete_form, done_form, form_of, Form, asking, storing, turning}
+use Rattle.djq_run_laws.specs.Form.{changing, ending}
 use Rattle.djq_run_laws.specs.Form.{Turn, opens_cursor, moves_cursor, closes_cursor, starts_watching, stops_watching}
-use Rattle.djq_run_laws.specs.Form.{opens_batch, holds_row, closes_batch, Replied, is_whole, is_cut, CursorMoves}
+use Rattle.djq_run_laws.specs.Form.{opens_batch, holds_line, closes_batch, Replied, is_whole, is_cut, CursorMoves}
 use Rattle.djq_run_laws.specs.Form.{without_cursor, SessionTurned, DoesTurn, is_turned, is_refused, FormDoes}
 use Rattle.djq_run_laws.proofs.Lists.{find_mapped, find_front, find_last, find_kept, same_name, has_other, dropped_gone}
 use Rattle.djq_run_laws.proofs.Lists.{find_changed, find_other, find_dropped, change_keeps, session_changed}
@@ -105,6 +108,8 @@ not_opened NoMemory = refl
 not_opened InUse = refl
 not_opened Member = refl
 not_opened Misplaced = refl
+not_opened NoCopy = refl
+not_opened OtherCount = refl
 
 -- a listing isn't the refusal of a misplaced command
 not_misplacing : (told : List Tuple) (end : Bool) → is_misplacing (text_of (listing_lines told end)) ≡ false
@@ -262,10 +267,9 @@ module _ (s : ℕ) (c : Bytes) where
   back_turned old t x (stops_watching q) new kept apart h =
       back_kept old new t (without_watch q) (λ y. refl) (λ y. refl) h
   back_turned old t x opens_batch new kept apart h =
-      back_kept old new t (with_batch []) (λ y. refl) (λ y. refl) h
-  back_turned old t x (holds_row l name row) new kept apart h =
-      back_kept old new t (with_batch (h.held ++ record { line = l; relation = name; row = row } ∷ [])) (λ y. refl)
-      (λ y. refl) h.state
+      back_kept old new t (with_batch nothing_held) (λ y. refl) (λ y. refl) h
+  back_turned old t x (holds_line l verb name row) new kept apart h =
+      back_kept old new t (with_batch (holding h.held verb name row l)) (λ y. refl) (λ y. refl) h.state
   back_turned old t x closes_batch new kept apart h =
       back_kept old new t without_batch (λ y. refl) (λ y. refl) h
 
@@ -303,14 +307,19 @@ module _ (s : ℕ) (c : Bytes) where
       back_form (form_of x.batch l k) old t x e new kept apart (command_does old t x l k e new is h)
 
   -- rows open and move no cursor, held or not
-  adds_none : (batch : Option (List HeldRow)) (l name : Bytes) (row : Tuple)
+  adds_none : (batch : Option HeldTransaction) (l name : Bytes) (row : Tuple)
       → is_of (add_form batch l name row) ≡ false
   adds_none None l name row = refl
   adds_none (Some held) l name row = refl
 
-  done_none : (batch : Option (List HeldRow)) → is_of (done_form batch) ≡ false
-  done_none None = refl
-  done_none (Some held) = refl
+  deletes_none : (batch : Option HeldTransaction) (l name : Bytes) (row : Tuple)
+      → is_of (delete_form batch l name row) ≡ false
+  deletes_none None l name row = refl
+  deletes_none (Some held) l name row = refl
+
+  done_none : (batch : Option HeldTransaction) (given : Option ℕ) → is_of (done_form batch given) ≡ false
+  done_none None given = refl
+  done_none (Some held) given = refl
 
   -- ---- what replies tell of the cursor
 
@@ -447,8 +456,10 @@ module _ (s : ℕ) (c : Bytes) where
       next_told old x d count (cursor_of x.cursors d) e new replies (bytes_eq d c) refl found kept refl h tell
   command_told old x l (Add name row) e new replies found kept is h tell = tell_back old new replies
       (back_command old s x l (Add name row) e new kept (λ same. adds_none x.batch l name row) is h) tell
-  command_told old x l Done e new replies found kept is h tell = tell_back old new replies
-      (back_command old s x l Done e new kept (λ same. done_none x.batch) is h) tell
+  command_told old x l (Del name row) e new replies found kept is h tell = tell_back old new replies
+      (back_command old s x l (Del name row) e new kept (λ same. deletes_none x.batch l name row) is h) tell
+  command_told old x l (Done given) e new replies found kept is h tell = tell_back old new replies
+      (back_command old s x l (Done given) e new kept (λ same. done_none x.batch given) is h) tell
   command_told old x l k e new replies found kept is h tell = tell_back old new replies
       (back_command old s x l k e new kept (λ same. refl) is h) tell
 

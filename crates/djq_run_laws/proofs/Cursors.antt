@@ -19,6 +19,7 @@ use Rattle.djq_store_spec.specs.Stale.{outdated, outdater_of}
 use Rattle.djq_store_spec.specs.Changes.{RowsOutcome, accepted, out_of_memory, unchanged, tried}
 use Rattle.djq_answer_laws.proofs.Lists.{some_there}
 use Rattle.djq_answer_laws.proofs.Choices.{none_any}
+use Rattle.djq_store_spec.specs.Held.{nothing_held, holding}
 use Rattle.djq_machine.specs.State.{State, Session, Cursor, fresh, session_of, with_session, cursor_of, with_position}
 use Rattle.djq_machine.specs.State.{ended_by}
 use Rattle.djq_machine.specs.Outdating.{outdated_cursor, outdated_sessions, changed}
@@ -34,7 +35,7 @@ use Rattle.djq_machine.proofs.Relations.{walk_keeps}
 use Rattle.djq_run_laws.specs.Given.{RunsGive}
 use Rattle.djq_run_laws.specs.Form.{form_of, Form, asking, storing, turning, changing, ending, Turn, opens_cursor}
 use Rattle.djq_run_laws.specs.Form.{moves_cursor, closes_cursor, starts_watching, stops_watching, opens_batch}
-use Rattle.djq_run_laws.specs.Form.{holds_row, closes_batch, RowCommand, Replied, is_whole, is_cut, Stored}
+use Rattle.djq_run_laws.specs.Form.{holds_line, closes_batch, RowCommand, Replied, is_whole, is_cut, Stored}
 use Rattle.djq_run_laws.specs.Form.{learns_texts, makes_relation, registers, drops_query, in_use, CursorMoves}
 use Rattle.djq_run_laws.specs.Form.{without_cursor, SessionTurned, DoesTurn, is_turned, is_refused, FormDoes}
 use Rattle.djq_run_laws.proofs.Lists.{find_dropped, change_keeps, session_changed, all_changed, all_found, all_dropped}
@@ -287,10 +288,9 @@ turned_gives old s x (closes_cursor c) new at h g =
     y.cursors k) g
 turned_gives old s x (starts_watching q) new at h g = cursors_stay old new s (with_watch q) (λ y. refl) h.1 g
 turned_gives old s x (stops_watching q) new at h g = cursors_stay old new s (without_watch q) (λ y. refl) h g
-turned_gives old s x opens_batch new at h g = cursors_stay old new s (with_batch []) (λ y. refl) h g
-turned_gives old s x (holds_row l name row) new at h g =
-    cursors_stay old new s (with_batch (h.held ++ record { line = l; relation = name; row = row } ∷ [])) (λ y. refl)
-    h.state g
+turned_gives old s x opens_batch new at h g = cursors_stay old new s (with_batch nothing_held) (λ y. refl) h g
+turned_gives old s x (holds_line l verb name row) new at h g =
+    cursors_stay old new s (with_batch (holding h.held verb name row l)) (λ y. refl) h.state g
 turned_gives old s x closes_batch new at h g = cursors_stay old new s without_batch (λ y. refl) h g
 
 replied_gives : (s : ℕ) (mid new : State) → Replied s mid new → CursorsGive mid → CursorsGive new

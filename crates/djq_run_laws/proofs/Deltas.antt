@@ -16,10 +16,10 @@ use Rattle.djq_protocol.specs.declared.answer.Sign.{Sign}
 use Rattle.djq_protocol.specs.declared.answer.Sign.TheVariants.{Came, Went}
 use Rattle.djq_protocol.specs.declared.command.Command.{Command}
 use Rattle.djq_protocol.specs.declared.command.Command.TheVariants.{Add, Del, Done}
-use Rattle.djq_protocol.specs.declared.held.HeldRow.{HeldRow}
 use Rattle.djq_protocol.specs.declared.limits.TheConstants.{SESSIONS}
 use Rattle.djq_protocol.specs.Reply.{text_of, end_memory}
 use Rattle.djq_protocol.specs.Grammar.{Reading, says_command, reading_of}
+use Rattle.djq_store_spec.specs.Held.{HeldTransaction}
 use Rattle.djq_store_spec.specs.Store.{Store}
 use Rattle.djq_store_spec.specs.Delta.{Change, IsDelta, delta_lines, HasChanged}
 use Rattle.djq_store_spec.specs.Changes.{RowsChange, accepted, is_outdated, RowsOutcome, out_of_memory, unchanged}
@@ -293,13 +293,14 @@ abbrev form_outdater : Store → Form → Listed → Option Bytes
 form_outdater old (changing c) q = outdater_by old c q
 form_outdater old _ q = None
 
-outdated_alike : (old : Store) (batch : Option (List HeldRow)) (l : Bytes) (c : Command) (q : Listed)
+outdated_alike : (old : Store) (batch : Option HeldTransaction) (l : Bytes) (c : Command) (q : Listed)
     → form_outdater old (form_of batch l c) q ≡ line_outdater old batch (says_command c) q
 outdated_alike old None l (Add name row) q = refl
 outdated_alike old (Some held) l (Add name row) q = refl
-outdated_alike old None l Done q = refl
-outdated_alike old (Some held) l Done q = refl
-outdated_alike old batch l (Del name row) q = refl
+outdated_alike old None l (Del name row) q = refl
+outdated_alike old (Some held) l (Del name row) q = refl
+outdated_alike old None l (Done given) q = refl
+outdated_alike old (Some held) l (Done given) q = refl
 outdated_alike old batch l c q = refl
 
 -- nothing of it changes

@@ -12,7 +12,7 @@ use Rattle.djq_protocol.specs.declared.answer.EndCause.{EndCause}
 use Rattle.djq_protocol.specs.declared.answer.EndCause.TheVariants.{Input, Memory}
 use Rattle.djq_protocol.specs.declared.limits.TheConstants.{SESSIONS}
 use Rattle.djq_protocol.specs.Grammar.{reading_of}
-use Rattle.djq_protocol.specs.Reply.{refusal_line, end_memory, input_cut}
+use Rattle.djq_protocol.specs.Reply.{refusal_line, end_memory}
 use Rattle.djq_store_spec.specs.Store.{Store}
 use Rattle.djq_store_spec.specs.Changes.{RowsChange, RowsOutcome, is_made, tried}
 use Rattle.djq_store_spec.specs.DeltaCost.{Delta}
@@ -21,10 +21,10 @@ use Rattle.djq_machine.specs.State.{State, Session, fresh, session_of, with_sess
 use Rattle.djq_machine.specs.Outdating.{outdated_cursor, changed}
 use Rattle.djq_machine.specs.Watch.{Telling, says_more, ends_more, watching, watcher_of, TellsWatcher, TellsSession}
 use Rattle.djq_machine.specs.Watch.{TellsDelta, ChangeStep}
-use Rattle.djq_machine.specs.Effect.{Effect, nothing, says, EndsWith}
+use Rattle.djq_machine.specs.Effect.{Effect, nothing, says, says_any, lost_line, EndsWith}
 use Rattle.djq_machine.specs.LineStep.{LineOutcome, long, blank, slow, no_room, run, behind_line, FrontStep, ReadStep}
 use Rattle.djq_machine.specs.Step.{Event, opened, fed, stepped, took, ended, closed, is_dry, FedStep, TookStep}
-use Rattle.djq_machine.specs.Step.{EndedStep, Acts, Step}
+use Rattle.djq_machine.specs.Step.{EndedStep, Acts, Step, cut_line}
 use Rattle.djq_machine.specs.Run.{Did, to_session}
 use Rattle.djq_machine.proofs.Relations.{walk_keeps}
 use Rattle.djq_run_laws.specs.Form.{Form, asking, storing, turning, changing, ending, form_of, SaysAlone, FormDoes}
@@ -249,27 +249,23 @@ module _ (s : ℕ) where
   fed_quiet old t bytes e mid None apart (inr h) = quiet_says t end_memory e apart h.0
   fed_quiet old t bytes e mid (Some c) apart h = quiet s e h.0
 
-  cut_of : ℕ → Bytes → Effect
-  cut_of t [] = nothing
-  cut_of t (b ∷ bs) = says t input_cut
-
-  cut_quiet : (t : ℕ) (held : Bytes) (e : Effect) → (t == s) ≡ false → e ≡ cut_of t held → to_session s e.queued ≡ []
-  unfolding cut_of
-  cut_quiet t [] e apart h = quiet s e h
-  cut_quiet t (b ∷ bs) e apart h = quiet_says t input_cut e apart h
+  any_quiet : (t : ℕ) (text : Bytes) (e : Effect) → (t == s) ≡ false → e ≡ says_any t text
+      → to_session s e.queued ≡ []
+  any_quiet t [] e apart h = quiet s e h
+  any_quiet t (b ∷ bs) e apart h = quiet_says t (b ∷ bs) e apart h
 
   ended_quiet : (old : State) (t : ℕ) (x : Session) (e : Effect) (mid : State) (c : Option EndCause) → (t == s) ≡ false
       → MatchOption c
-      ((is_dry x.held ≡ true) × (e ≡ cut_of t x.held) × (mid ≡ with_session old t (ended_by Input)))
+      ((is_dry x.held ≡ true) × (e ≡ says_any t (cut_line x.held ++ lost_line x.batch))
+      × (mid ≡ with_session old t (ended_by Input)))
       (λ _. (e ≡ nothing) × (mid ≡ old))
       → to_session s e.queued ≡ []
-  ended_quiet old t x e mid None apart h = cut_quiet t x.held e apart h.1
+  ended_quiet old t x e mid None apart h = any_quiet t (cut_line x.held ++ lost_line x.batch) e apart h.1
   ended_quiet old t x e mid (Some c) apart h = quiet s e h.0
 
   end_quiet : (old : State) (t : ℕ) (x : Session) (e : Effect) (mid : State) → (t == s) ≡ false
       → EndedStep old t x e mid
       → to_session s e.queued ≡ []
-  unfolding cut_of
   end_quiet old t x e mid apart h = ended_quiet old t x e mid x.cause apart h
 
 -- An event queues nothing to a session that is over, and leaves it so.

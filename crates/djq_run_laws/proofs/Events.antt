@@ -8,14 +8,14 @@ use Rattle.djq_protocol.specs.declared.answer.EndCause.{EndCause}
 use Rattle.djq_protocol.specs.declared.answer.EndCause.TheVariants.{Input, Long, Slow, Memory}
 use Rattle.djq_protocol.specs.declared.limits.TheConstants.{SESSIONS}
 use Rattle.djq_protocol.specs.Line.{a_line}
-use Rattle.djq_protocol.specs.Reply.{end_long, end_slow, end_memory, input_cut}
+use Rattle.djq_protocol.specs.Reply.{end_long, end_slow, end_memory}
 use Rattle.djq_answer_laws.proofs.Lists.{some_there}
 use Rattle.djq_machine.specs.State.{State, Session, session_of, with_session, ended_by, fresh}
 use Rattle.djq_machine.specs.Keeping.{no_line}
-use Rattle.djq_machine.specs.Effect.{Effect, nothing, says, EndsWith}
+use Rattle.djq_machine.specs.Effect.{Effect, nothing, says, says_any, lost_line, EndsWith}
 use Rattle.djq_machine.specs.LineStep.{LineOutcome, long, blank, slow, no_room, run, FrontStep, behind_line}
 use Rattle.djq_machine.specs.Step.{is_dry, FedStep, TookStep, EndedStep, Event, opened, fed, stepped, took, ended}
-use Rattle.djq_machine.specs.Step.{closed, Acts, Step}
+use Rattle.djq_machine.specs.Step.{closed, cut_line, Acts, Step}
 use Rattle.djq_machine.specs.Run.{to_session, Did, Walk, Run, out, all_taken, taken_from, pending_of, pending_in}
 use Rattle.djq_machine.specs.Call.{IsOpen}
 use Rattle.djq_machine.proofs.Relations.{walk_as}
@@ -136,8 +136,8 @@ is_fed old s bytes x e mid found h = fed_by_cause old s bytes x e mid x.cause fo
 
 -- Input ends: of a session that hadn't ended, or of one that had.
 pub data EndedTo (x y : Session) (text : Bytes) : Type 0 where
-  input_ends : x.cause ≡ None → y.cause ≡ Some Input → is_dry x.held ≡ true → (text ≡ []) ⊎ (text ≡ input_cut)
-      → EndedTo x y text
+  input_ends : x.cause ≡ None → y.cause ≡ Some Input → is_dry x.held ≡ true
+      → text ≡ cut_line x.held ++ lost_line x.batch → EndedTo x y text
   had_ended : (c : EndCause) → x.cause ≡ Some c → y.cause ≡ Some c → text ≡ [] → EndedTo x y text
 
 pub record Ended (old : State) (s : ℕ) (x : Session) (e : Effect) (mid : State) : Type 0 where
@@ -147,25 +147,21 @@ pub record Ended (old : State) (s : ℕ) (x : Session) (e : Effect) (mid : State
   pub held : session.held ≡ x.held
   pub ends : EndedTo x session (to_session s e.queued)
 
--- what is said where bytes are held
-unfoldable pub cut_of : ℕ → Bytes → Effect
-cut_of s [] = nothing
-cut_of s (b ∷ bs) = says s input_cut
-
-cut_cases : {mid : State} (s : ℕ) (held : Bytes) (e : Effect) → e ≡ cut_of s held
-    → ((to_session s e.queued ≡ []) ⊎ (to_session s e.queued ≡ input_cut)) × ToOpen s e mid
-unfolding cut_of
-cut_cases s [] e h = (inl (quiet s e h), alone_nothing s e h)
-cut_cases s (b ∷ bs) e h = (inr (said s input_cut e h), alone_text s input_cut 0 no_line e h)
+-- what is said, if anything is
+any_said : {mid : State} (s : ℕ) (text : Bytes) (e : Effect) → e ≡ says_any s text
+    → (to_session s e.queued ≡ text) × ToOpen s e mid
+any_said s [] e h = (quiet s e h, alone_nothing s e h)
+any_said s (b ∷ bs) e h = (said s (b ∷ bs) e h, alone_text s (b ∷ bs) 0 no_line e h)
 
 ended_by_cause : (old : State) (s : ℕ) (x : Session) (e : Effect) (mid : State) (c : Option EndCause) → session_of old s
     ≡ Some x → x.cause ≡ c
     → MatchOption c
-    ((is_dry x.held ≡ true) × (e ≡ cut_of s x.held) × (mid ≡ with_session old s (ended_by Input)))
+    ((is_dry x.held ≡ true) × (e ≡ says_any s (cut_line x.held ++ lost_line x.batch))
+    × (mid ≡ with_session old s (ended_by Input)))
     (λ _. (e ≡ nothing) × (mid ≡ old))
     → Ended old s x e mid
 ended_by_cause old s x e mid None found running h =
-    let cut = cut_cases s x.held e h.1 in
+    let cut = any_said s (cut_line x.held ++ lost_line x.batch) e h.1 in
     record {
       session = ended_by Input x;
       touches = touches_changed old s x (ended_by Input) e mid found (λ y. refl) h.2 cut.1;
@@ -183,7 +179,6 @@ ended_by_cause old s x e mid (Some c) found cause h = record {
 
 pub is_ended : (old : State) (s : ℕ) (x : Session) (e : Effect) (mid : State) → session_of old s ≡ Some x
     → EndedStep old s x e mid → Ended old s x e mid
-unfolding cut_of
 is_ended old s x e mid found h = ended_by_cause old s x e mid x.cause found refl h
 
 -- Pending bytes are taken.

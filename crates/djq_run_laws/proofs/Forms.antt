@@ -22,7 +22,8 @@ use Rattle.djq_protocol.specs.declared.command.Command.{Command}
 use Rattle.djq_protocol.specs.declared.command.Command.TheVariants.{Rel, Add, Del, Query as Register, Union, Drop, Open}
 use Rattle.djq_protocol.specs.declared.command.Command.TheVariants.{Next, Close, Has, Watch, Unwatch, Explain, Shape}
 use Rattle.djq_protocol.specs.declared.command.Command.TheVariants.{Batch, Done, Abandon, Quit, Stop}
-use Rattle.djq_protocol.specs.declared.held.HeldRow.{HeldRow}
+use Rattle.djq_protocol.specs.declared.held.Verb.{Verb}
+use Rattle.djq_protocol.specs.declared.held.Verb.TheVariants.{Add as Adds, Delete as Deletes}
 use Rattle.djq_protocol.specs.Conditions.{first_refusal, Answers, OutOfMemoryWhere}
 use Rattle.djq_protocol.specs.QueryFault.{query_faults, is_too_large}
 use Rattle.djq_protocol.specs.Variables.{constants_of, variables_of}
@@ -36,19 +37,21 @@ use Rattle.djq_store_spec.specs.Registering.{RefusedLate, RegistersAs, Registers
 use Rattle.djq_store_spec.specs.Registering.{drop_refusal, is_member, answer_steps}
 use Rattle.djq_store_spec.specs.Asking.{has_steps}
 use Rattle.djq_store_spec.specs.Union.{union_refusal, AreUnder, RegistersUnion, stands_twice, is_union, types_differ}
-use Rattle.djq_store_spec.specs.Batch.{hold_refusal}
+use Rattle.djq_store_spec.specs.Held.{HeldTransaction, nothing_held, holding}
+use Rattle.djq_store_spec.specs.Transaction.{hold_refusal}
 use Rattle.djq_answer_laws.proofs.Lists.{some_there, nothing_of}
 use Rattle.djq_machine.specs.State.{State, Session, Cursor, with_session, cursor_of, with_position}
 use Rattle.djq_machine.specs.Keeping.{Keeping, no_line, kept_where, is_registration}
-use Rattle.djq_machine.specs.Effect.{Effect, says, answers, RefusedStep}
+use Rattle.djq_machine.specs.Effect.{Effect, says, answers, lost_line, RefusedStep}
 use Rattle.djq_machine.specs.Command.{open_refusal, OpensTo, watch_refusal, with_cursor, BecomesWhere, with_watch}
 use Rattle.djq_machine.specs.Command.{without_watch, with_batch, without_batch, is_misplaced, HoldStep, NextStepAt}
-use Rattle.djq_machine.specs.Command.{CloseStep, CommandStep, QueryStep, QueryCutStep, AddStep, DoneStep, ExplainStepOf}
-use Rattle.djq_machine.specs.Command.{TellsLines, explain_lines, union_lines}
+use Rattle.djq_machine.specs.Command.{CloseStep, CommandStep, QueryStep, QueryCutStep, AddStep, DeleteStep, DoneStep}
+use Rattle.djq_machine.specs.Command.{ExplainStepOf, TellsLines, explain_lines, union_lines}
 use Rattle.djq_machine.specs.LineStep.{ReadStep, past_limit_refusal}
 use Rattle.djq_run_laws.specs.Sound.{IsWithinLimits}
-use Rattle.djq_run_laws.specs.Form.{form_of, add_form, done_form, Turn, opens_cursor, moves_cursor, closes_cursor}
-use Rattle.djq_run_laws.specs.Form.{starts_watching, stops_watching, opens_batch, holds_row, closes_batch, SaysAlone}
+use Rattle.djq_run_laws.specs.Form.{form_of, add_form, delete_form, done_form, Turn, opens_cursor, moves_cursor}
+use Rattle.djq_run_laws.specs.Form.{closes_cursor, starts_watching, stops_watching, opens_batch, holds_line}
+use Rattle.djq_run_laws.specs.Form.{closes_batch, SaysAlone}
 use Rattle.djq_run_laws.specs.Form.{Replied, is_whole, is_cut, Stored, LearnsTexts, learns_texts, makes_relation}
 use Rattle.djq_run_laws.specs.Form.{registers, drops_query, in_use, without_cursor, SessionTurned, DoesStore, DoesTurn}
 use Rattle.djq_run_laws.specs.Form.{is_turned, is_refused, FormDoes}
@@ -383,38 +386,51 @@ unwatch_does old s x q (Err r) new after = is_refused (is_whole after)
 unwatch_does old s x q (Ok u) new after = is_turned after
 
 batch_does : (old : State) (s : ℕ) (x : Session) (r : Result ⊤ Refusal) (new : State)
-    → BecomesWhere old s (with_batch []) new r → DoesTurn old s x opens_batch new
+    → BecomesWhere old s (with_batch nothing_held) new r → DoesTurn old s x opens_batch new
 batch_does old s x (Err r) new after = is_refused (is_whole after)
 batch_does old s x (Ok u) new after = is_turned after
 
-hold_does : (old : State) (s : ℕ) (x : Session) (held : List HeldRow) (l name : Bytes) (row : Tuple)
-    (r : Result ⊤ Refusal) (new : State)
-    → x.batch ≡ Some held → Answers (hold_refusal old.store held name row) r (λ _. ⊤) (OutOfMemoryWhere ⊤)
-    → BecomesWhere old s (with_batch (held ++ record { line = l; relation = name; row = row } ∷ [])) new r
-    → DoesTurn old s x (holds_row l name row) new
-hold_does old s x held l name row (Err r) new is answer after = is_refused (is_whole after)
-hold_does old s x held l name row (Ok u) new is answer after = is_turned (record {
+hold_does : (old : State) (s : ℕ) (x : Session) (held : HeldTransaction) (l : Bytes) (verb : Verb) (name : Bytes)
+    (row : Tuple) (r : Result ⊤ Refusal) (new : State)
+    → x.batch ≡ Some held → Answers (hold_refusal old.store held l name row) r (λ _. ⊤) (OutOfMemoryWhere ⊤)
+    → BecomesWhere old s (with_batch (holding held verb name row l)) new r
+    → DoesTurn old s x (holds_line l verb name row) new
+hold_does old s x held l verb name row (Err r) new is answer after = is_refused (is_whole after)
+hold_does old s x held l verb name row (Ok u) new is answer after = is_turned (record {
   held = held;
   is = is;
-  suits = none_holds (hold_refusal old.store held name row) u (λ _. ⊤) (OutOfMemoryWhere ⊤) answer;
+  suits = none_holds (hold_refusal old.store held l name row) u (λ _. ⊤) (OutOfMemoryWhere ⊤) answer;
   state = after;
 })
 
--- `add`, and `done`, by the session's batch
-pub add_does : (old : State) (s : ℕ) (x : Session) (l name : Bytes) (row : Tuple) (e : Effect) (new : State)
-    (batch : Option (List HeldRow)) → x.batch ≡ batch
-    → MatchOption batch (AddStep old s name row e new) (λ held. HoldStep old s held l name row e new)
-    → FormDoes (add_form batch l name row) old s x e new
-add_does old s x l name row e new None is h = h
-add_does old s x l name row e new (Some held) is h = (
-  says_alone s (held_reply h.result (length held + 1)) e h.effect,
-  hold_does old s x held l name row h.result new is h.answer h.state,
+pub line_held : (old : State) (s : ℕ) (x : Session) (held : HeldTransaction) (l : Bytes) (verb : Verb) (name : Bytes)
+    (row : Tuple) (e : Effect) (new : State) → x.batch ≡ Some held → HoldStep old s held l verb name row e new
+    → SaysAlone s e × DoesTurn old s x (holds_line l verb name row) new
+line_held old s x held l verb name row e new is h = (
+  says_alone s (held_reply h.result (length held.lines + 1)) e h.effect,
+  hold_does old s x held l verb name row h.result new is h.answer h.state,
 )
 
-pub done_does : (old : State) (s : ℕ) (x : Session) (e : Effect) (new : State) (batch : Option (List HeldRow))
-    → MatchOption batch ⊥ (λ held. DoneStep old s held e new) → FormDoes (done_form batch) old s x e new
-done_does old s x e new None h = absurd h
-done_does old s x e new (Some held) h = h
+-- `add`, `del` and `done`, by the session's batch
+pub add_does : (old : State) (s : ℕ) (x : Session) (l name : Bytes) (row : Tuple) (e : Effect) (new : State)
+    (batch : Option HeldTransaction) → x.batch ≡ batch
+    → MatchOption batch (AddStep old s name row e new) (λ held. HoldStep old s held l Adds name row e new)
+    → FormDoes (add_form batch l name row) old s x e new
+add_does old s x l name row e new None is h = h
+add_does old s x l name row e new (Some held) is h = line_held old s x held l Adds name row e new is h
+
+pub delete_does : (old : State) (s : ℕ) (x : Session) (l name : Bytes) (row : Tuple) (e : Effect) (new : State)
+    (batch : Option HeldTransaction) → x.batch ≡ batch
+    → MatchOption batch (DeleteStep old s name row e new) (λ held. HoldStep old s held l Deletes name row e new)
+    → FormDoes (delete_form batch l name row) old s x e new
+delete_does old s x l name row e new None is h = h
+delete_does old s x l name row e new (Some held) is h = line_held old s x held l Deletes name row e new is h
+
+pub done_does : (old : State) (s : ℕ) (x : Session) (given : Option ℕ) (e : Effect) (new : State)
+    (batch : Option HeldTransaction) → MatchOption batch ⊥ (λ held. DoneStep old s held given e new)
+    → FormDoes (done_form batch given) old s x e new
+done_does old s x given e new None h = absurd h
+done_does old s x given e new (Some held) h = h
 
 -- A change of one session, which leaves its bytes and its end.
 pub record OneSession (old : State) (s : ℕ) (new : State) : Type 0 where
@@ -468,15 +484,15 @@ turned_one old s x (stops_watching q) new h = record {
   state = h;
 }
 turned_one old s x opens_batch new h = record {
-  change = with_batch [];
+  change = with_batch nothing_held;
   id = λ x. refl;
   pending = λ x. refl;
   held = λ x. refl;
   cause = λ x. refl;
   state = h;
 }
-turned_one old s x (holds_row l name row) new h = record {
-  change = with_batch (h.held ++ record { line = l; relation = name; row = row } ∷ []);
+turned_one old s x (holds_line l verb name row) new h = record {
+  change = with_batch (holding h.held verb name row l);
   id = λ x. refl;
   pending = λ x. refl;
   held = λ x. refl;
@@ -508,7 +524,7 @@ command_does old s x l (Drop q) e new said h =
     stored_whole old s (ok_reply (codes "ok") h.result) _ h.store e new h.effect
     (drop_stored (in_use old) old.store h.store q h.result h.done) h.state
 command_does old s x l (Add name row) e new said h = add_does old s x l name row e new x.batch refl h
-command_does old s x l (Del name row) e new said h = h
+command_does old s x l (Del name row) e new said h = delete_does old s x l name row e new x.batch refl h
 command_does old s x l (Open c q) e new said h = (
   says_alone s (ok_reply (codes "ok open") h.result) e h.effect,
   open_does old s x c q h.result new h.answer h.state,
@@ -533,14 +549,14 @@ command_does old s x l Batch e new said h = (
   says_alone s (ok_reply (codes "ok batch") h.result) e h.effect,
   batch_does old s x h.result new h.state,
 )
-command_does old s x l Done e new said h = done_does old s x e new x.batch h
+command_does old s x l (Done given) e new said h = done_does old s x given e new x.batch h
 command_does old s x l Abandon e new said h = (says_alone s (line (codes "ok")) e h.0, is_turned h.1)
 command_does old s x l Quit e new said h = (
-  says_alone s bye e h.0,
+  says_alone s (lost_line x.batch ++ bye) e h.0,
   record { cause = SaidQuit; may = tt; stopped = old.stopped; state = h.1 },
 )
 command_does old s x l Stop e new said h = (
-  says_alone s bye e h.0,
+  says_alone s (lost_line x.batch ++ bye) e h.0,
   record { cause = SaidStop; may = tt; stopped = true; state = h.1 },
 )
 

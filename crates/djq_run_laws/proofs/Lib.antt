@@ -2,6 +2,7 @@ pub mod Lists
 pub mod RegisteredQueries
 pub mod Forms
 pub mod RowCommands
+pub mod DoneLines
 pub mod Batches
 pub mod Copies
 pub mod Sessions

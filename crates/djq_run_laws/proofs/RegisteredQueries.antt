@@ -44,7 +44,7 @@ use Rattle.djq_protocol.specs.Conditions.{first_refusal}
 use Rattle.djq_protocol.specs.Grammar.{name_of, type_of, in_front, all_of, named_any, named_some, one_name, two_names}
 use Rattle.djq_protocol.specs.Grammar.{name_and_count, query_of_tokens, at_line_end, keyword_of, command_behind}
 use Rattle.djq_protocol.specs.Grammar.{command_with, command_in, command_of, is_in_range, past_limit, says_command}
-use Rattle.djq_protocol.specs.Grammar.{reading_in, reading_of}
+use Rattle.djq_protocol.specs.Grammar.{number_if_any, reading_in, reading_of}
 use Rattle.djq_store_spec.specs.Relations.{with_rows}
 use Rattle.djq_store_spec.specs.Stale.{reads, listed_reads}
 use Rattle.djq_store_spec.specs.Changes.{RowsChange, new_rows}
@@ -305,7 +305,7 @@ behind_has UnwatchWord ts = mapped_has (λ q. Unwatch q) (λ q. tt) (one_name ts
 behind_has ExplainWord ts = mapped_has (λ q. Explain q) (λ q. tt) (one_name ts)
 behind_has ShapeWord ts = mapped_has (λ q. Shape q) (λ q. tt) (one_name ts)
 behind_has BatchWord ts = nothing_has Batch tt ts
-behind_has DoneWord ts = nothing_has Done tt ts
+behind_has DoneWord ts = mapped_has (λ n. Done n) (λ n. tt) (number_if_any ts)
 behind_has AbandonWord ts = nothing_has Abandon tt ts
 behind_has QuitWord ts = nothing_has Quit tt ts
 behind_has StopWord ts = nothing_has Stop tt ts

@@ -1,9 +1,13 @@
 -- What a command of rows makes of the store, and that rows suit their relations.
-use Rattle.std.specs.Prelude.{List, [], ◌∷◌, ◌==◌, ◌≡◌, ◌<◌, ◌++◌, nat_le, Bool, true, false, cond, not, length, Option}
-use Rattle.std.specs.Prelude.{None, Some, is_none, IfSome, option_map, ℕ, ◌&&◌, ◌≤◌, ◌+◌, map, Result, Ok, Err, All}
+use Rattle.std.specs.Prelude.{List, [], ◌∷◌, ◌==◌, ◌≡◌, ◌<◌, ◌++◌, nat_le, nat_lt, Bool, true, false, cond, not, length}
+use Rattle.std.specs.Prelude.{Option, None, Some, is_none, IfSome, option_map, ℕ, ◌&&◌, ◌≤◌, ◌+◌, map, Result, Ok, Err}
+use Rattle.std.specs.Prelude.{All}
 use Rattle.std.proofs.Common.{refl, sym, ap, ◌∙◌, subst, arith, length-append}
-use Rattle.std.proofs.lemmas.Bool.{leb-false, eq-eqb, not-false}
+use Rattle.std.proofs.lemmas.Bool.{leb-false, leb-true, ltb-true, eq-eqb, not-false, and_parts}
 use Rattle.std.proofs.lemmas.List.Elements.{All-weaker, All-push, All-nil}
+use Rattle.std.proofs.lemmas.List.{map-append}
+use Rattle.std.proofs.lemmas.List.Sums.{sum_by_push}
+use Rattle.std.specs.List.{sum_by}
 use Rattle.djq_model.specs.declared.relation.ColumnType.{ColumnType}
 use Rattle.djq_model.specs.declared.relation.Relation.{Relation}
 use Rattle.djq_model.specs.declared.relation.CountedRow.{CountedRow}
@@ -14,12 +18,12 @@ use Rattle.djq_model.specs.Typed.{fits}
 use Rattle.djq_model.specs.Answer.{AreDifferent}
 use Rattle.djq_model.specs.Listed.{Listed}
 use Rattle.djq_model.specs.Known.{texts_in, all_learned}
-use Rattle.djq_model.proofs.Copies.{tuples_with_row, tuples_with_copies, tuples_without, copies_hold, all_with_row}
+use Rattle.djq_model.proofs.Copies.{tuples_with_copies, tuples_without, copies_hold}
 use Rattle.djq_model.proofs.Copies.{all_with_copies, all_without}
 use Rattle.djq_protocol.specs.declared.answer.Refusal.{Refusal}
 use Rattle.djq_protocol.specs.declared.answer.Refusal.TheVariants.{NoRelation, Arity, WrongType, Limit, NoMemory}
-use Rattle.djq_protocol.specs.declared.limits.TheConstants.{HELD, TEXTS, ROWS, COPIES, LAST_SEQ}
-use Rattle.djq_protocol.specs.declared.held.HeldRow.{HeldRow}
+use Rattle.djq_protocol.specs.declared.limits.TheConstants.{HELD, HELD_BYTES, TEXTS, ROWS, COPIES, LAST_SEQ}
+use Rattle.djq_protocol.specs.declared.held.Verb.{Verb}
 use Rattle.djq_protocol.specs.declared.answer.AddOutcome.{AddOutcome}
 use Rattle.djq_protocol.specs.declared.answer.AddOutcome.TheVariants.{First, More}
 use Rattle.djq_protocol.specs.declared.answer.DeleteOutcome.{DeleteOutcome}
@@ -30,14 +34,17 @@ use Rattle.djq_store_spec.specs.Store.{Store}
 use Rattle.djq_store_spec.specs.Relations.{with_rows, RefusedByTexts}
 use Rattle.djq_store_spec.specs.Rows.{row_refusals, AddsRow, AddsAs, DeletesRow, DeletesAs, copies_of, with_copies_of}
 use Rattle.djq_store_spec.specs.Rows.{add_refusal, delete_refusal}
-use Rattle.djq_store_spec.specs.Batch.{suit_refusal, hold_refusal, SuitAll, first_read, has_come}
+use Rattle.djq_store_spec.specs.Held.{HeldLine, HeldTransaction, has_room, holding}
+use Rattle.djq_store_spec.specs.Done.{has_changed}
+use Rattle.djq_store_spec.specs.Transaction.{suit_refusal, hold_refusal, SuitAll, first_read}
 use Rattle.djq_store_spec.specs.Stale.{by_relation}
 use Rattle.djq_store_spec.specs.Changes.{RowsChange, RowsOutcome, accepted, out_of_memory, unchanged, row_in, row_out}
 use Rattle.djq_store_spec.specs.Changes.{add_outcome, delete_outcome}
 use Rattle.djq_store_spec.proofs.Relations.{relation_here, relation_apart, copies_rows}
 use Rattle.djq_machine.specs.Step.{SameRelations}
-use Rattle.djq_run_laws.specs.Sound.{IsHeldBySaying, IsSoundBatch, AreApart, IsCopyCount, IsSoundRelation}
-use Rattle.djq_run_laws.specs.Form.{RowCommand, row_comes, row_goes, rows_come, LearnsTexts}
+use Rattle.djq_run_laws.specs.Sound.{IsHeldBySaying, AreHeldBySaying, IsSoundBatch, AreApart, IsCopyCount}
+use Rattle.djq_run_laws.specs.Sound.{IsSoundRelation}
+use Rattle.djq_run_laws.specs.Form.{RowCommand, row_comes, row_goes, carries_out, LearnsTexts}
 use Rattle.djq_run_laws.proofs.Forms.{none_first, done_of, none_holds, stays_learned, late_learned, refused_learned}
 use Rattle.djq_run_laws.proofs.Forms.{AllFail, all_fail, second_fails}
 use Rattle.djq_run_laws.proofs.Lists.{all_changed, all_found, all_dropped, names_changed, rows_more, rows_less}
@@ -165,16 +172,17 @@ pub more_suits : (old : Store) (more : Relation)
 more_suits old more name row h = more_front old.relations more name row h
 
 -- So a batch stays sound.
-pub all_suit : (old new : Store) → SuitsStill old new → (held : List HeldRow) → SuitAll old held → SuitAll new held
-all_suit old new still held suit =
-    All-weaker (λ (h : HeldRow). suit_refusal old h.relation h.row ≡ None)
-    (λ (h : HeldRow). suit_refusal new h.relation h.row ≡ None) (λ h k. still h.relation h.row k) held suit
+pub all_suit : (old new : Store) → SuitsStill old new → (lines : List HeldLine) → SuitAll old lines
+    → SuitAll new lines
+all_suit old new still lines suit =
+    All-weaker (λ (h : HeldLine). suit_refusal old h.relation h.row ≡ None)
+    (λ (h : HeldLine). suit_refusal new h.relation h.row ≡ None) (λ h k. still h.relation h.row k) lines suit
 
-pub batch_still : (old new : Store) → SuitsStill old new → (o : Option (List HeldRow)) → IfSome o (IsSoundBatch old)
+pub batch_still : (old new : Store) → SuitsStill old new → (o : Option HeldTransaction) → IfSome o (IsSoundBatch old)
     → IfSome o (IsSoundBatch new)
 batch_still old new still None h = tt
 batch_still old new still (Some held) h =
-    record { few = h.few; suit = all_suit old new still held h.suit; lines = h.lines }
+    record { few = h.few; short = h.short; suit = all_suit old new still held.lines h.suit; lines = h.lines }
 
 -- a row that suits fits the types
 fits_third : (a b d : Bool) (r t u : Refusal) (o : Option Refusal)
@@ -191,7 +199,7 @@ suit_fits st name row h =
     fits_third (is_none (relation_of st.relations name)) (not (length row == length types)) (fits types row)
     NoRelation Arity WrongType None h
 
--- A row more that a batch may hold.
+-- One line more that a batch may hold.
 none_both : (cs bs : List (Bool × Refusal)) → first_refusal (cs ++ bs) ≡ None
     → (first_refusal cs ≡ None) × (first_refusal bs ≡ None)
 none_both [] bs h = (refl, h)
@@ -203,17 +211,34 @@ none_both (a ∷ cs) bs h = by a.0 h (λ k. none_both cs bs k)
     by true k rest = absurd cc
     by false k rest = rest k
 
-pub held_more : (st : Store) (held : List HeldRow) (more : HeldRow)
-    → hold_refusal st held more.relation more.row ≡ None → IsHeldBySaying more → IsSoundBatch st held
-    → IsSoundBatch st (held ++ more ∷ [])
-held_more st held more none said h =
-    let both = none_both (row_refusals st more.relation more.row) ((nat_le HELD (length held), Limit) ∷ []) none in
-    let below : length held < HELD = leb-false HELD (length held)
-    (none_first (nat_le HELD (length held)) Limit None both.1) in
-    let long = length-append held (more ∷ []) in record {
-      few = omega (arith, below, long);
-      suit = All-push (λ (k : HeldRow). suit_refusal st k.relation k.row ≡ None) held more h.suit both.0;
-      lines = All-push IsHeldBySaying held more h.lines said;
+-- one line more that its bytes say
+said_more : (ls : List Bytes) (hs : List HeldLine) (l : Bytes) (h : HeldLine) → AreHeldBySaying ls hs
+    → IsHeldBySaying l h → AreHeldBySaying (ls ++ l ∷ []) (hs ++ h ∷ [])
+said_more [] [] l h all one = (one, tt)
+said_more (k ∷ ks) (g ∷ gs) l h all one = (all.0, said_more ks gs l h all.1 one)
+said_more (k ∷ ks) [] l h all one = absurd all
+said_more [] (g ∷ gs) l h all one = absurd all
+
+pub held_more : (st : Store) (held : HeldTransaction) (l : Bytes) (verb : Verb) (name : Bytes) (row : Tuple)
+    → hold_refusal st held l name row ≡ None
+    → IsHeldBySaying l (record { verb = verb; relation = name; row = row }) → IsSoundBatch st held
+    → IsSoundBatch st (holding held verb name row l)
+held_more st held l verb name row none said h =
+    let more : HeldLine = record { verb = verb; relation = name; row = row } in
+    let both = none_both (row_refusals st name row) ((not (has_room held (length l)), Limit) ∷ []) none in
+    let room : has_room held (length l) ≡ true = not-false (has_room held (length l))
+    (none_first (not (has_room held (length l))) Limit None both.1) in
+    let parts = and_parts (nat_lt (length held.lines) HELD)
+    (nat_le (sum_by (λ (k : Bytes). length k) held.logged + length l) HELD_BYTES) room in
+    record {
+      few = omega (arith, ltb-true (length held.lines) HELD parts.0, length-append held.lines (more ∷ []));
+      short = omega (
+        arith,
+        leb-true (sum_by (λ (k : Bytes). length k) held.logged + length l) HELD_BYTES parts.1,
+        sum_by_push (λ (k : Bytes). length k) held.logged l,
+      );
+      suit = All-push (λ (k : HeldLine). suit_refusal st k.relation k.row ≡ None) held.lines more h.suit both.0;
+      lines = said_more held.logged held.lines l more h.lines said;
     }
 
 -- ---- What a command of rows makes of the store: a change, or none. Of `add` and `del`; batches are in Batches.
@@ -222,13 +247,13 @@ held_more st held more none said h =
 abbrev pub outdater_by : Store → RowCommand → Listed → Option Bytes
 outdater_by old (row_comes name row) q = by_relation name q
 outdater_by old (row_goes name row) q = by_relation name q
-outdater_by old (rows_come held) q = first_read held (has_come old held) q
+outdater_by old (carries_out held given) q = first_read held.lines (has_changed old.relations held.lines) q
 
 -- The rows that a command brings suit their relations: those of a batch do so in a sound state.
 abbrev pub RowsSuit : Store → RowCommand → Type 0
 RowsSuit old (row_comes name row) = Unit {0}
 RowsSuit old (row_goes name row) = Unit {0}
-RowsSuit old (rows_come held) = SuitAll old held
+RowsSuit old (carries_out held given) = SuitAll old held.lines
 
 -- A command of rows makes a change of a store, which outdates some queries: it is counted, where one
 -- more may be, and texts become known.
@@ -377,22 +402,26 @@ module _ (old : Store) (name : Bytes) (row : Tuple) where
   abbrev pub before : List CountedRow
   before = counted_of old.relations name
 
+  pub suits_last : (n : ℕ) → IsCopyCount n → fits (types_of (relation_of old.relations name)) row ≡ true
+      → has_row (plain_of before) row ≡ false → length (plain_of before) < ROWS → (x : Relation)
+      → relation_of old.relations name ≡ Some x → Suits old name before x before
+      → Suits old name before x (before ++ record { row = row; copies = n } ∷ [])
+  suits_last n may fitting absent place x found k = (
+    subst (λ ts. All (λ t. fits x.types t ≡ true) ts) (sym tuples)
+        (All-push (λ t. fits x.types t ≡ true) (plain_of before) row k.0
+        (subst (λ (o : Option Relation). fits (types_of o) row ≡ true) found fitting)),
+    subst AreDifferent (sym tuples) (rows_more (plain_of before) row k.1 absent),
+    All-push (λ (c : CountedRow). IsCopyCount c.copies) before (record { row = row; copies = n }) k.2 may,
+    omega (arith, ap length tuples, length-append (plain_of before) (row ∷ []), place),
+  )
+    where
+      tuples : plain_of (before ++ record { row = row; copies = n } ∷ []) ≡ plain_of before ++ row ∷ []
+      tuples = map-append (λ (c : CountedRow). c.row) before (record { row = row; copies = n } ∷ [])
+
   pub suits_more : fits (types_of (relation_of old.relations name)) row ≡ true → has_row (plain_of before) row ≡ false
       → length (plain_of before) < ROWS → (x : Relation) → relation_of old.relations name ≡ Some x
       → Suits old name before x before → Suits old name before x (with_row before row)
-  suits_more fitting absent place x found k = (
-    subst (λ ts. All (λ t. fits x.types t ≡ true) ts) (sym (tuples_with_row before row))
-        (All-push (λ t. fits x.types t ≡ true) (plain_of before) row k.0
-        (subst (λ (o : Option Relation). fits (types_of o) row ≡ true) found fitting)),
-    subst AreDifferent (sym (tuples_with_row before row)) (rows_more (plain_of before) row k.1 absent),
-    all_with_row (λ (c : CountedRow). IsCopyCount c.copies) before row k.2 (omega arith, omega arith),
-    more,
-  )
-    where
-      more : length (plain_of (with_row before row)) ≤ ROWS
-      more =
-          let long = ap length (tuples_with_row before row) ∙ length-append (plain_of before) (row ∷ []) in
-          omega (arith, long, place)
+  suits_more fitting absent place x found k = suits_last 1 (omega arith, omega arith) fitting absent place x found k
 
   pub suits_copies : (n : ℕ) → IsCopyCount n → (x : Relation) → relation_of old.relations name ≡ Some x
       → Suits old name before x before → Suits old name before x (with_copies before row n)
@@ -403,7 +432,7 @@ module _ (old : Store) (name : Bytes) (row : Tuple) where
     subst (λ ts. length ts ≤ ROWS) (sym (tuples_with_copies before row n)) k.3,
   )
 
-  suits_less : (x : Relation) → relation_of old.relations name ≡ Some x → Suits old name before x before
+  pub suits_less : (x : Relation) → relation_of old.relations name ≡ Some x → Suits old name before x before
       → Suits old name before x (without_copies before row)
   suits_less x found k = (
     subst (λ ts. All (λ t. fits x.types t ≡ true) ts) (sym (without_is))

@@ -12,8 +12,8 @@ use Rattle.djq_protocol.specs.declared.answer.EndCause.{EndCause}
 use Rattle.djq_protocol.specs.declared.answer.EndCause.TheVariants.{Memory}
 use Rattle.djq_protocol.specs.declared.limits.TheConstants.{SESSIONS}
 use Rattle.djq_protocol.specs.declared.command.Command.{Command}
-use Rattle.djq_protocol.specs.declared.command.Command.TheVariants.{Add, Done, Quit, Stop}
-use Rattle.djq_protocol.specs.declared.held.HeldRow.{HeldRow}
+use Rattle.djq_protocol.specs.declared.command.Command.TheVariants.{Add, Del, Done, Quit, Stop}
+use Rattle.djq_store_spec.specs.Held.{HeldTransaction}
 use Rattle.djq_protocol.specs.Grammar.{reading_of, says_command}
 use Rattle.djq_protocol.specs.Reply.{refusal_line, end_memory}
 use Rattle.djq_store_spec.specs.Store.{Store}
@@ -559,14 +559,20 @@ form_stopped (changing c) old s x e new other h =
 form_stopped ending old s x e new other h = absurd other
 
 -- `quit` and `stop` alone are of that form
-no_ending_add : (batch : Option (List HeldRow)) (l name : Bytes) (row : Tuple)
+no_ending_add : (batch : Option HeldTransaction) (l name : Bytes) (row : Tuple)
     → IsNoEnding (form_of batch l (Add name row))
 no_ending_add None l name row = tt
 no_ending_add (Some held) l name row = tt
 
-no_ending_done : (batch : Option (List HeldRow)) (l : Bytes) → IsNoEnding (form_of batch l Done)
-no_ending_done None l = tt
-no_ending_done (Some held) l = tt
+no_ending_delete : (batch : Option HeldTransaction) (l name : Bytes) (row : Tuple)
+    → IsNoEnding (form_of batch l (Del name row))
+no_ending_delete None l name row = tt
+no_ending_delete (Some held) l name row = tt
+
+no_ending_done : (batch : Option HeldTransaction) (l : Bytes) (given : Option ℕ)
+    → IsNoEnding (form_of batch l (Done given))
+no_ending_done None l given = tt
+no_ending_done (Some held) l given = tt
 
 command_stopped : (old : State) (s : ℕ) (x : Session) (l : Bytes) (c : Command) (e : Effect) (new : State)
     → reading_of l ≡ says_command c → CommandStep old s x l c e new → e.kept ≢ no_line → new.stopped ≡ old.stopped
@@ -575,9 +581,12 @@ command_stopped old s x l Stop e new said h kept = absurd (kept (said_unkept s _
 command_stopped old s x l (Add name row) e new said h kept =
     form_stopped (form_of x.batch l (Add name row)) old s x e new (no_ending_add x.batch l name row)
     (command_does old s x l (Add name row) e new said h)
-command_stopped old s x l Done e new said h kept =
-    form_stopped (form_of x.batch l Done) old s x e new (no_ending_done x.batch l)
-    (command_does old s x l Done e new said h)
+command_stopped old s x l (Del name row) e new said h kept =
+    form_stopped (form_of x.batch l (Del name row)) old s x e new (no_ending_delete x.batch l name row)
+    (command_does old s x l (Del name row) e new said h)
+command_stopped old s x l (Done given) e new said h kept =
+    form_stopped (form_of x.batch l (Done given)) old s x e new (no_ending_done x.batch l given)
+    (command_does old s x l (Done given) e new said h)
 command_stopped old s x l c e new said h kept =
     form_stopped (form_of x.batch l c) old s x e new tt (command_does old s x l c e new said h)
 

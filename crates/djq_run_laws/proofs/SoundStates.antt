@@ -15,14 +15,14 @@ use Rattle.djq_protocol.specs.declared.limits.TheConstants.{SESSIONS, CURSORS}
 use Rattle.djq_protocol.specs.declared.answer.EndCause.{EndCause}
 use Rattle.djq_protocol.specs.declared.answer.EndCause.TheVariants.{Input, Memory}
 use Rattle.djq_protocol.specs.declared.command.Command.{Command}
-use Rattle.djq_protocol.specs.declared.command.Command.TheVariants.{Add, Done}
-use Rattle.djq_protocol.specs.declared.held.HeldRow.{HeldRow}
+use Rattle.djq_protocol.specs.declared.command.Command.TheVariants.{Add, Del, Done}
 use Rattle.djq_protocol.specs.Grammar.{says_command, reading_of}
 use Rattle.djq_protocol.specs.Reply.{end_memory}
 use Rattle.djq_store_spec.specs.Store.{Store, Position, open_at, stale}
 use Rattle.djq_store_spec.specs.Stale.{outdated, outdater_of}
 use Rattle.djq_store_spec.specs.Changes.{RowsChange, RowsOutcome, tried}
-use Rattle.djq_store_spec.specs.Batch.{suit_refusal}
+use Rattle.djq_store_spec.specs.Held.{HeldLine, HeldTransaction, nothing_held, holding}
+use Rattle.djq_store_spec.specs.Transaction.{suit_refusal}
 use Rattle.djq_answer_laws.proofs.Lists.{some_there}
 use Rattle.djq_answer_laws.proofs.Choices.{none_any}
 use Rattle.djq_machine.specs.State.{State, Session, Cursor, fresh, session_of, with_session, with_position, ended_by}
@@ -40,7 +40,7 @@ use Rattle.djq_run_laws.specs.Sound.{IsSoundCursor, IsHeldBySaying, IsSoundBatch
 use Rattle.djq_run_laws.specs.Sound.{AreWithinLimits, RunsKeepSound, OpeningIsStart, StatesAreSound}
 use Rattle.djq_run_laws.specs.Form.{form_of, Form, asking, storing, turning, changing, ending, Turn, opens_cursor}
 use Rattle.djq_run_laws.specs.Form.{moves_cursor, closes_cursor, starts_watching, stops_watching, opens_batch}
-use Rattle.djq_run_laws.specs.Form.{holds_row, closes_batch, RowCommand, row_comes, row_goes, rows_come, Replied}
+use Rattle.djq_run_laws.specs.Form.{holds_line, closes_batch, RowCommand, row_comes, row_goes, carries_out, Replied}
 use Rattle.djq_run_laws.specs.Form.{is_whole, is_cut, Stored, learns_texts, listed_texts, makes_relation, registers}
 use Rattle.djq_run_laws.specs.Form.{drops_query, in_use, without_cursor, SessionTurned, RowsChanged, DoesTurn}
 use Rattle.djq_run_laws.specs.Form.{is_turned, is_refused, FormDoes}
@@ -113,7 +113,7 @@ in_front : (qs : List Listed) (q : Listed) (name : Bytes) → IsSome (listed_of 
 in_front qs q name h = some_kept qs (qs ++ q ∷ []) name (listed_of qs name) refl (λ f e. found_in_front qs q name f e) h
 
 -- A session with a batch, and one whose batch is closed.
-batch_kept : (store : Store) (x : Session) (held : List HeldRow) → x.cause ≡ None → IsSoundBatch store held
+batch_kept : (store : Store) (x : Session) (held : HeldTransaction) → x.cause ≡ None → IsSoundBatch store held
     → IsSoundSession store x → IsSoundSession store (with_batch held x)
 batch_kept store x held runs sound g = record {
   cursors = g.cursors;
@@ -140,7 +140,7 @@ closing_kept : (c : RowCommand) (store : Store) (x : Session) → IsSoundSession
     → IsSoundSession store (closing c x)
 closing_kept (row_comes name row) store x g = g
 closing_kept (row_goes name row) store x g = g
-closing_kept (rows_come held) store x g = closed_kept store x g
+closing_kept (carries_out held given) store x g = closed_kept store x g
 
 -- The store and the sessions.
 abbrev pub AreKept : State → Type 0
@@ -187,7 +187,7 @@ others_stay old new s f cursors watches batch cause after k =
       few = subst (λ (cs : List Cursor). length cs ≤ CURSORS) (sym (cursors x)) g.few;
       registered = subst (λ (ws : List Bytes). All (λ w. IsSome (listed_of qs w)) ws) (sym (watches x)) g.registered;
       once = subst AreApart (sym (watches x)) g.once;
-      batch = subst (λ (o : Option (List HeldRow)). IfSome o (IsSoundBatch old.store)) (sym (batch x)) g.batch;
+      batch = subst (λ (o : Option HeldTransaction). IfSome o (IsSoundBatch old.store)) (sym (batch x)) g.batch;
       ended = λ h. let all = g.ended (subst (λ (o : Option EndCause). IsSome o) (cause x) h) in
           (cursors x ∙ all.0, watches x ∙ all.1, batch x ∙ all.2);
     }) k
@@ -320,18 +320,21 @@ watched qs q ws false e there all once = (
       (λ a b. a ≢ b) ws q once (none_watched q ws e),
 )
 
--- A row that a session is to hold was said by its line, and rows that a batch brings are its batch.
+-- What a session is to hold was said by its line, and lines that are carried out are its batch.
 abbrev IsFor : Session → Form → Type 0
-IsFor x (turning (holds_row l name row)) = IsHeldBySaying (record { line = l; relation = name; row = row })
-IsFor x (changing (rows_come held)) = x.batch ≡ Some held
+IsFor x (turning (holds_line l verb name row)) =
+    IsHeldBySaying l (record { verb = verb; relation = name; row = row })
+IsFor x (changing (carries_out held given)) = x.batch ≡ Some held
 IsFor x _ = Unit {0}
 
-form_for : (x : Session) (batch : Option (List HeldRow)) (l : Bytes) (c : Command) → x.batch ≡ batch
+form_for : (x : Session) (batch : Option HeldTransaction) (l : Bytes) (c : Command) → x.batch ≡ batch
     → reading_of l ≡ says_command c → IsFor x (form_of batch l c)
 form_for x None l (Add name row) is said = tt
 form_for x (Some held) l (Add name row) is said = record { said = said }
-form_for x None l Done is said = tt
-form_for x (Some held) l Done is said = is
+form_for x None l (Del name row) is said = tt
+form_for x (Some held) l (Del name row) is said = record { said = said }
+form_for x None l (Done given) is said = tt
+form_for x (Some held) l (Done given) is said = is
 form_for x batch l c is said = tt
 
 -- What a turn makes of a session.
@@ -399,18 +402,18 @@ turned_kept old s x (stops_watching q) new found runs fits h k =
       ended = λ ends. going x runs ends;
     }) k
 turned_kept old s x opens_batch new found runs fits h k =
-    session_runs old new s x (with_batch []) found h
-    (λ g. batch_kept old.store x [] runs (record {
+    session_runs old new s x (with_batch nothing_held) found h
+    (λ g. batch_kept old.store x nothing_held runs (record {
       few = omega arith;
-      suit = All-nil (λ (h : HeldRow). suit_refusal old.store h.relation h.row ≡ None);
-      lines = All-nil IsHeldBySaying;
+      short = omega arith;
+      suit = All-nil (λ (h : HeldLine). suit_refusal old.store h.relation h.row ≡ None);
+      lines = tt;
     }) g) k
-turned_kept old s x (holds_row l name row) new found runs fits h k =
-    let more : HeldRow = record { line = l; relation = name; row = row } in
-    session_runs old new s x (with_batch (h.held ++ more ∷ [])) found h.state
-    (λ g. batch_kept old.store x (h.held ++ more ∷ []) runs
-    (held_more old.store h.held more h.suits fits
-    (subst (λ (o : Option (List HeldRow)). IfSome o (IsSoundBatch old.store)) h.is g.batch)) g) k
+turned_kept old s x (holds_line l verb name row) new found runs fits h k =
+    session_runs old new s x (with_batch (holding h.held verb name row l)) found h.state
+    (λ g. batch_kept old.store x (holding h.held verb name row l) runs
+    (held_more old.store h.held l verb name row h.suits fits
+    (subst (λ (o : Option HeldTransaction). IfSome o (IsSoundBatch old.store)) h.is g.batch)) g) k
 turned_kept old s x closes_batch new found runs fits h k =
     session_runs old new s x without_batch found h (λ g. closed_kept old.store x g) k
 
@@ -428,8 +431,8 @@ rows_suit : (store : Store) (x : Session) (c : RowCommand) → IsFor x (changing
     → RowsSuit store c
 rows_suit store x (row_comes name row) fits g = tt
 rows_suit store x (row_goes name row) fits g = tt
-rows_suit store x (rows_come held) fits g =
-    (subst (λ (o : Option (List HeldRow)). IfSome o (IsSoundBatch store)) fits g.batch).suit
+rows_suit store x (carries_out held given) fits g =
+    (subst (λ (o : Option HeldTransaction). IfSome o (IsSoundBatch store)) fits g.batch).suit
 
 rows_kept : (old : State) (s : ℕ) (x : Session) (c : RowCommand) (e : Effect) (new : State)
     → session_of old s ≡ Some x → IsFor x (changing c) → RowsChanged old s c e new → AreKept old → AreKept new

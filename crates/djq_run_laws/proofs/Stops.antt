@@ -6,8 +6,8 @@ use Rattle.djq_model.specs.Data.{Bytes, Tuple}
 use Rattle.djq_protocol.specs.declared.answer.EndCause.{EndCause}
 use Rattle.djq_protocol.specs.declared.answer.EndCause.TheVariants.{Stop as StopCause}
 use Rattle.djq_protocol.specs.declared.command.Command.{Command}
-use Rattle.djq_protocol.specs.declared.command.Command.TheVariants.{Add, Done, Quit, Stop}
-use Rattle.djq_protocol.specs.declared.held.HeldRow.{HeldRow}
+use Rattle.djq_protocol.specs.declared.command.Command.TheVariants.{Add, Del, Done, Quit, Stop}
+use Rattle.djq_store_spec.specs.Held.{HeldTransaction}
 use Rattle.djq_protocol.specs.Grammar.{reading_of, says_command}
 use Rattle.djq_machine.specs.State.{State, Session, session_of, with_session, ended_by}
 use Rattle.djq_machine.specs.Watch.{Telling}
@@ -52,14 +52,20 @@ form_stopped (changing c) old s x e new other h =
     (λ m i text cause may there k. k) (begun old s c) s d.outcome d.store d.reply e new d.change refl
 form_stopped ending old s x e new other h = absurd other
 
-no_ending_add : (batch : Option (List HeldRow)) (l name : Bytes) (row : Tuple)
+no_ending_add : (batch : Option HeldTransaction) (l name : Bytes) (row : Tuple)
     → IsNoEnding (form_of batch l (Add name row))
 no_ending_add None l name row = tt
 no_ending_add (Some held) l name row = tt
 
-no_ending_done : (batch : Option (List HeldRow)) (l : Bytes) → IsNoEnding (form_of batch l Done)
-no_ending_done None l = tt
-no_ending_done (Some held) l = tt
+no_ending_delete : (batch : Option HeldTransaction) (l name : Bytes) (row : Tuple)
+    → IsNoEnding (form_of batch l (Del name row))
+no_ending_delete None l name row = tt
+no_ending_delete (Some held) l name row = tt
+
+no_ending_done : (batch : Option HeldTransaction) (l : Bytes) (given : Option ℕ)
+    → IsNoEnding (form_of batch l (Done given))
+no_ending_done None l given = tt
+no_ending_done (Some held) l given = tt
 
 -- an open session that is ended has a cause
 is_ended : (st mid : State) (s : ℕ) (x : Session) (c : EndCause) → session_of st s ≡ Some x
@@ -78,9 +84,12 @@ command_stops old s x l Stop e new found said h =
 command_stops old s x l (Add name row) e new found said h =
     inl (form_stopped (form_of x.batch l (Add name row)) old s x e new (no_ending_add x.batch l name row)
     (command_does old s x l (Add name row) e new said h))
-command_stops old s x l Done e new found said h =
-    inl (form_stopped (form_of x.batch l Done) old s x e new (no_ending_done x.batch l)
-    (command_does old s x l Done e new said h))
+command_stops old s x l (Del name row) e new found said h =
+    inl (form_stopped (form_of x.batch l (Del name row)) old s x e new (no_ending_delete x.batch l name row)
+    (command_does old s x l (Del name row) e new said h))
+command_stops old s x l (Done given) e new found said h =
+    inl (form_stopped (form_of x.batch l (Done given)) old s x e new (no_ending_done x.batch l given)
+    (command_does old s x l (Done given) e new said h))
 command_stops old s x l c e new found said h =
     inl (form_stopped (form_of x.batch l c) old s x e new tt (command_does old s x l c e new said h))
 

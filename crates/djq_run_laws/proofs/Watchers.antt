@@ -13,8 +13,8 @@ use Rattle.djq_model.specs.Answer.{IsListing}
 use Rattle.djq_protocol.specs.declared.answer.EndCause.{EndCause}
 use Rattle.djq_protocol.specs.declared.answer.EndCause.TheVariants.{Input, Long, Slow, Memory}
 use Rattle.djq_protocol.specs.declared.command.Command.{Command}
-use Rattle.djq_protocol.specs.declared.command.Command.TheVariants.{Add, Done, Unwatch}
-use Rattle.djq_protocol.specs.declared.held.HeldRow.{HeldRow}
+use Rattle.djq_protocol.specs.declared.command.Command.TheVariants.{Add, Del, Done, Unwatch}
+use Rattle.djq_store_spec.specs.Held.{HeldTransaction, nothing_held}
 use Rattle.djq_protocol.specs.declared.limits.TheConstants.{SESSIONS}
 use Rattle.djq_protocol.specs.Grammar.{says_command, reading_of}
 use Rattle.djq_protocol.specs.Reply.{end_memory}
@@ -38,7 +38,7 @@ use Rattle.djq_run_laws.specs.Watched.{IsWatcher, WatchesAlong}
 use Rattle.djq_run_laws.specs.Staying.{GoesOn, KeepsWatch, WatchersStay}
 use Rattle.djq_run_laws.specs.Form.{form_of, Form, asking, storing, turning, changing, ending, Turn, opens_cursor}
 use Rattle.djq_run_laws.specs.Form.{moves_cursor, closes_cursor, starts_watching, stops_watching, opens_batch}
-use Rattle.djq_run_laws.specs.Form.{holds_row, closes_batch, RowCommand, Replied, is_whole, is_cut, Stored}
+use Rattle.djq_run_laws.specs.Form.{holds_line, closes_batch, RowCommand, Replied, is_whole, is_cut, Stored}
 use Rattle.djq_run_laws.specs.Form.{learns_texts, makes_relation, registers, drops_query, in_use, without_cursor}
 use Rattle.djq_run_laws.specs.Form.{SessionTurned, RowsChanged, DoesStore, DoesTurn, is_turned, is_refused, FormDoes}
 use Rattle.djq_run_laws.specs.Live.{HasListed, ListingsStayLive}
@@ -203,8 +203,8 @@ module _ (q : Listed) (s : ℕ) (old : State) (registered : listed_of old.store.
       by_session t (with_watch p) new (λ y. refl) (λ b y k. still_watches (listed_name q) p y k) h.1
   by_turn t x (stops_watching p) new not_it h =
       by_session t (without_watch p) new (λ y. refl) (unwatches_other t p not_it) h
-  by_turn t x opens_batch new not_it h = by_session t (with_batch []) new (λ y. refl) (λ b y k. k) h
-  by_turn t x (holds_row l name row) new not_it h = by_session t _ new (λ y. refl) (λ b y k. k) h.state
+  by_turn t x opens_batch new not_it h = by_session t (with_batch nothing_held) new (λ y. refl) (λ b y k. k) h
+  by_turn t x (holds_line l verb name row) new not_it h = by_session t _ new (λ y. refl) (λ b y k. k) h.state
   by_turn t x closes_batch new not_it h = by_session t without_batch new (λ y. refl) (λ b y k. k) h
 
   by_reply : (t : ℕ) (new : State) → IsOpen old t → Replied t old new → Stays q s new
@@ -246,13 +246,15 @@ module _ (q : Listed) (s : ℕ) (old : State) (registered : listed_of old.store.
       by_end q s (record old { stopped = h.1.stopped }) registered watches t h.1.cause new there h.1.state
 
   -- `unwatch` alone is of its form
-  is_unwatch : (batch : Option (List HeldRow)) (l : Bytes) (c : Command) (p : Bytes)
+  is_unwatch : (batch : Option HeldTransaction) (l : Bytes) (c : Command) (p : Bytes)
       → form_of batch l c ≡ turning (stops_watching p) → c ≡ Unwatch p
   is_unwatch batch l (Unwatch n) p e = cc
   is_unwatch None l (Add name row) p e = absurd cc
   is_unwatch (Some held) l (Add name row) p e = absurd cc
-  is_unwatch None l Done p e = absurd cc
-  is_unwatch (Some held) l Done p e = absurd cc
+  is_unwatch None l (Del name row) p e = absurd cc
+  is_unwatch (Some held) l (Del name row) p e = absurd cc
+  is_unwatch None l (Done given) p e = absurd cc
+  is_unwatch (Some held) l (Done given) p e = absurd cc
   is_unwatch batch l c p e = absurd cc
 
   by_reading : (t : ℕ) (x : Session) (l : Bytes) (e : Effect) (new : State) → IsOpen old t

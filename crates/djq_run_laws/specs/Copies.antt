@@ -1,15 +1,17 @@
 -- What `add`, `del` and `done` do to the number of copies of each row.
-use Rattle.std.specs.Prelude.{ℕ, List, [], ◌∷◌, ◌==◌, ◌≡◌, ◌+◌, ◌-◌, ◌&&◌, Bool, false, nat_le, if◌then◌else◌, Ok}
-use Rattle.std.specs.List.{list_all}
+use Rattle.std.specs.Prelude.{ℕ, List, [], ◌∷◌, ◌==◌, ◌≡◌, ◌+◌, ◌-◌, ◌&&◌, ◌||◌, Bool, false, nat_le, nat_lt}
+use Rattle.std.specs.Prelude.{if◌then◌else◌, Option, Ok}
+use Rattle.std.specs.List.{list_any}
 use Rattle.djq_model.specs.Data.{Bytes, Tuple, bytes_eq, tuple_eq, rows_of, has_row}
 use Rattle.djq_protocol.specs.declared.answer.AddOutcome.{AddOutcome}
 use Rattle.djq_protocol.specs.declared.answer.AddOutcome.TheVariants.{First, More}
 use Rattle.djq_protocol.specs.declared.answer.DeleteOutcome.{DeleteOutcome}
 use Rattle.djq_protocol.specs.declared.answer.DeleteOutcome.TheVariants.{Last, Left, Absent}
-use Rattle.djq_protocol.specs.declared.held.HeldRow.{HeldRow}
 use Rattle.djq_store_spec.specs.Store.{Store}
 use Rattle.djq_store_spec.specs.Rows.{copies_of, AddsRow, DeletesRow}
-use Rattle.djq_store_spec.specs.Batch.{SuitAll, is_there, AddsBatch}
+use Rattle.djq_store_spec.specs.Held.{HeldLine}
+use Rattle.djq_store_spec.specs.Lines.{after_verb}
+use Rattle.djq_store_spec.specs.Transaction.{SuitAll, DoesAll}
 use Rattle.djq_run_laws.specs.Sound.{IsSoundStore}
 
 -- A row is there exactly where it has a copy.
@@ -52,20 +54,26 @@ TakesCopy = (old : Store) → IsSoundStore old → (name : Bytes) (row : Tuple) 
     → LeavesCopies old name row (copies_of old name row - 1) (copies_of old name row == 1) new
     × (copies_left outcome ≡ copies_of new name row)
 
--- how many times a batch holds a row of a relation
-abbrev pub times_held : List HeldRow → Bytes → Tuple → ℕ
-times_held [] name row = 0
-times_held (h ∷ hs) name row =
-    (if bytes_eq name h.relation && tuple_eq h.row row then 1 else 0) + times_held hs name row
+-- the copies of a row that lines, one after another, leave of so many
+abbrev pub lines_leave : List HeldLine → Bytes → Tuple → ℕ → ℕ
+lines_leave [] name row n = n
+lines_leave (h ∷ hs) name row n =
+    lines_leave hs name row (if bytes_eq h.relation name && tuple_eq h.row row then after_verb h.verb n else n)
 
--- Each row has as many copies more as a batch holds it; where a row of the batch wasn't there, one
--- change is counted.
-pub record LeavesHeldRows (old : Store) (held : List HeldRow) (new : Store) : Type 0 where
+-- whether the row of a line gets its first copy, or loses its last
+abbrev pub has_turned : Store → Store → HeldLine → Bool
+has_turned old new h =
+    ((copies_of old h.relation h.row == 0) && nat_lt 0 (copies_of new h.relation h.row))
+    || (nat_lt 0 (copies_of old h.relation h.row) && (copies_of new h.relation h.row == 0))
+
+-- Each row has the copies that lines, in order, leave of those that it had. If a row of a line gets its first or loses
+-- its last, one change is counted.
+pub record LeavesLines (old : Store) (lines : List HeldLine) (new : Store) : Type 0 where
   pub each : (name : Bytes) (row : Tuple)
-      → copies_of new name row ≡ copies_of old name row + times_held held name row
-  pub counted : new.seq ≡ (if list_all (is_there old) held then old.seq else old.seq + 1)
+      → copies_of new name row ≡ lines_leave lines name row (copies_of old name row)
+  pub counted : new.seq ≡ (if list_any (has_turned old new) lines then old.seq + 1 else old.seq)
 
--- So it is where a `done` is done.
-abbrev pub AddsHeld : Type 0
-AddsHeld = (old : Store) (held : List HeldRow) → SuitAll old held → (n : ℕ) (new : Store)
-    → AddsBatch old held (Ok n) new → LeavesHeldRows old held new
+-- So it is if a `done` isn't refused.
+abbrev pub LinesLeaveCopies : Type 0
+LinesLeaveCopies = (old : Store) → IsSoundStore old → (lines : List HeldLine) → SuitAll old lines
+    → (given : Option ℕ) (n : ℕ) (new : Store) → DoesAll old lines given (Ok n) new → LeavesLines old lines new

@@ -24,7 +24,8 @@ use Rattle.djq_model.specs.Known.{all_learned, texts_in}
 use Rattle.djq_protocol.specs.declared.limits.TheConstants.{TEXTS, RELATIONS, COLUMNS, QUERIES, CURSORS}
 use Rattle.djq_protocol.specs.declared.answer.EndCause.{EndCause}
 use Rattle.djq_protocol.specs.declared.answer.EndCause.TheVariants.{Memory}
-use Rattle.djq_protocol.specs.declared.held.HeldRow.{HeldRow}
+use Rattle.djq_protocol.specs.declared.held.Verb.{Verb}
+use Rattle.djq_protocol.specs.declared.held.Verb.TheVariants.{Add as Adds, Delete as Deletes}
 use Rattle.djq_protocol.specs.declared.command.Command.{Command}
 use Rattle.djq_protocol.specs.declared.command.Command.TheVariants.{
   Rel,
@@ -66,7 +67,8 @@ use Rattle.djq_machine.specs.Command.{
   DeleteStep,
   DoneStep,
 }
-use Rattle.djq_store_spec.specs.Batch.{hold_refusal}
+use Rattle.djq_store_spec.specs.Held.{HeldTransaction, nothing_held, holding}
+use Rattle.djq_store_spec.specs.Transaction.{hold_refusal}
 use Rattle.djq_run_laws.specs.Moved.{EndsByRun}
 use Rattle.djq_run_laws.specs.Sound.{IsConnex, IsSoundListed, IsWithinLimits}
 
@@ -84,9 +86,9 @@ pub data Turn : Type 0 where
   stops_watching : Bytes → Turn
   -- a batch opens
   opens_batch : Turn
-  -- it holds a row more, which a line says
-  holds_row : Bytes → Bytes → Tuple → Turn
-  -- it is closed, and its rows are dropped
+  -- it holds one line more, of these bytes, which adds or deletes a row
+  holds_line : Bytes → Verb → Bytes → Tuple → Turn
+  -- it is closed, and its lines are dropped
   closes_batch : Turn
 
 -- What a command of rows may bring.
@@ -95,8 +97,8 @@ pub data RowCommand : Type 0 where
   row_comes : Bytes → Tuple → RowCommand
   -- one goes
   row_goes : Bytes → Tuple → RowCommand
-  -- a copy of each row comes that a batch holds, and the batch is closed
-  rows_come : List HeldRow → RowCommand
+  -- the lines that a batch holds are carried out, where `done` may name their number, and the batch is closed
+  carries_out : HeldTransaction → Option ℕ → RowCommand
 
 -- A command asks; or it is of the store, of the session that says it, or of rows; or it ends the
 -- session.
@@ -108,23 +110,28 @@ pub data Form : Type 0 where
   ending : Form
 
 -- `add`, where a batch is open or none is
-abbrev pub add_form : Option (List HeldRow) → Bytes → Bytes → Tuple → Form
+abbrev pub add_form : Option HeldTransaction → Bytes → Bytes → Tuple → Form
 add_form None l name row = changing (row_comes name row)
-add_form (Some held) l name row = turning (holds_row l name row)
+add_form (Some held) l name row = turning (holds_line l Adds name row)
+
+-- `del`, likewise
+abbrev pub delete_form : Option HeldTransaction → Bytes → Bytes → Tuple → Form
+delete_form None l name row = changing (row_goes name row)
+delete_form (Some held) l name row = turning (holds_line l Deletes name row)
 
 -- `done`, which is misplaced where none is
-abbrev pub done_form : Option (List HeldRow) → Form
-done_form None = asking
-done_form (Some held) = changing (rows_come held)
+abbrev pub done_form : Option HeldTransaction → Option ℕ → Form
+done_form None given = asking
+done_form (Some held) given = changing (carries_out held given)
 
 -- the form of a command in a session with such a batch, where this line says it
-abbrev pub form_of : Option (List HeldRow) → Bytes → Command → Form
+abbrev pub form_of : Option HeldTransaction → Bytes → Command → Form
 form_of batch l (Rel name types) = storing
 form_of batch l (Register q) = storing
 form_of batch l (Union name members) = storing
 form_of batch l (Drop q) = storing
 form_of batch l (Add name row) = add_form batch l name row
-form_of batch l (Del name row) = changing (row_goes name row)
+form_of batch l (Del name row) = delete_form batch l name row
 form_of batch l (Open c q) = turning (opens_cursor c q)
 form_of batch l (Next c count) = turning (moves_cursor c)
 form_of batch l (Close c) = turning (closes_cursor c)
@@ -134,7 +141,7 @@ form_of batch l (Has q row) = asking
 form_of batch l (Explain q) = asking
 form_of batch l (Shape q) = asking
 form_of batch l Batch = turning opens_batch
-form_of batch l Done = done_form batch
+form_of batch l (Done given) = done_form batch given
 form_of batch l Abandon = turning closes_batch
 form_of batch l Quit = ending
 form_of batch l Stop = ending
@@ -222,14 +229,13 @@ pub record CursorMoves (old : State) (s : ℕ) (x : Session) (c : Bytes) (new : 
 abbrev pub without_cursor : Bytes → Session → Session
 without_cursor c x = record x { cursors = drop_first (λ k. bytes_eq k.name c) x.cursors }
 
--- The batch of a session holds a row more, behind the others.
-pub record HoldsRow (old : State) (s : ℕ) (x : Session) (l name : Bytes) (row : Tuple)
+-- The batch of a session holds one line more, after the others.
+pub record HoldsOneMore (old : State) (s : ℕ) (x : Session) (l : Bytes) (verb : Verb) (name : Bytes) (row : Tuple)
     (new : State) : Type 0 where
-  pub held : List HeldRow
+  pub held : HeldTransaction
   pub is : x.batch ≡ Some held
-  pub suits : hold_refusal old.store held name row ≡ None
-  pub state : new ≡ with_session old s
-      (with_batch (held ++ record { line = l; relation = name; row = row } ∷ []))
+  pub suits : hold_refusal old.store held l name row ≡ None
+  pub state : new ≡ with_session old s (with_batch (holding held verb name row l))
 
 -- What a turn makes of a session.
 abbrev pub SessionTurned : State → ℕ → Session → Turn → State → Type 0
@@ -241,15 +247,15 @@ SessionTurned old s x (closes_cursor c) new = new ≡ with_session old s (withou
 SessionTurned old s x (starts_watching q) new =
     IsSome (listed_of old.store.queries q) × (new ≡ with_session old s (with_watch q))
 SessionTurned old s x (stops_watching q) new = new ≡ with_session old s (without_watch q)
-SessionTurned old s x opens_batch new = new ≡ with_session old s (with_batch [])
-SessionTurned old s x (holds_row l name row) new = HoldsRow old s x l name row new
+SessionTurned old s x opens_batch new = new ≡ with_session old s (with_batch nothing_held)
+SessionTurned old s x (holds_line l verb name row) new = HoldsOneMore old s x l verb name row new
 SessionTurned old s x closes_batch new = new ≡ with_session old s without_batch
 
 -- What a command of rows makes of a state.
 abbrev pub RowsChanged : State → ℕ → RowCommand → Effect → State → Type 0
 RowsChanged old s (row_comes name row) e new = AddStep old s name row e new
 RowsChanged old s (row_goes name row) e new = DeleteStep old s name row e new
-RowsChanged old s (rows_come held) e new = DoneStep old s held e new
+RowsChanged old s (carries_out held given) e new = DoneStep old s held given e new
 
 -- A command of the store is told, once it is done.
 pub record DoesStore (old : State) (s : ℕ) (new : State) : Type 0 where

@@ -1,14 +1,15 @@
 -- What each event does to the session that it is of, and to whether sessions are open.
-use Rattle.std.specs.Prelude.{ℕ, ◌==◌, ◌≡◌, ◌++◌, ◌⊎◌, true, false, Option, None, Some, IfSome}
+use Rattle.std.specs.Prelude.{ℕ, ◌==◌, ◌≡◌, ◌++◌, true, false, Option, None, Some, IfSome}
 use Rattle.djq_model.specs.Data.{Bytes}
 use Rattle.djq_protocol.specs.declared.answer.EndCause.{EndCause}
 use Rattle.djq_protocol.specs.declared.answer.EndCause.TheVariants.{Input, Quit, Stop, Long, Slow, Memory}
 use Rattle.djq_protocol.specs.Line.{a_line, front_of}
-use Rattle.djq_protocol.specs.Reply.{end_memory, input_cut}
-use Rattle.djq_machine.specs.State.{State}
-use Rattle.djq_machine.specs.Effect.{Effect}
+use Rattle.djq_protocol.specs.Reply.{end_memory}
+use Rattle.djq_store_spec.specs.Held.{HeldTransaction}
+use Rattle.djq_machine.specs.State.{State, Session, session_of}
+use Rattle.djq_machine.specs.Effect.{Effect, lost_line}
 use Rattle.djq_machine.specs.LineStep.{LineOutcome, long, blank, slow, no_room, run}
-use Rattle.djq_machine.specs.Step.{Event, fed, stepped, took, ended, closed, Step, is_dry}
+use Rattle.djq_machine.specs.Step.{Event, fed, stepped, took, ended, closed, Step, is_dry, cut_line}
 use Rattle.djq_machine.specs.Run.{pending_of}
 use Rattle.djq_machine.specs.Call.{IsOpen, cause_of, held_of}
 
@@ -37,12 +38,21 @@ pub data InputComes (old new : State) (s : ℕ) (bytes : Bytes) : Type 0 where
       → held_of new s ≡ held_of old s
       → pending_of new s ≡ pending_of old s → InputComes old new s bytes
 
--- The input of a session ends: it keeps what ended it, or that, and a line says so where bytes were
--- held.
+-- the lines that the batch of a session holds, if there is a session with one open
+abbrev pub batch_in : Option Session → Option HeldTransaction
+batch_in None = None
+batch_in (Some x) = x.batch
+
+-- the lines that the batch of a session holds, if one is open
+abbrev pub batch_of : State → ℕ → Option HeldTransaction
+batch_of st s = batch_in (session_of st s)
+
+-- The input of a session ends: it retains what ended it, or that. A line reports that if bytes were held, and then
+-- one reports that lines are dropped if its batch held any.
 pub data InputIsOver (old new : State) (s : ℕ) : Type 0 where
   input_ends : IsOpen new s → cause_of old s ≡ None → cause_of new s ≡ Some Input
       → held_of new s ≡ held_of old s → is_dry (held_of old s) ≡ true
-      → (pending_of new s ≡ pending_of old s) ⊎ (pending_of new s ≡ pending_of old s ++ input_cut)
+      → pending_of new s ≡ pending_of old s ++ (cut_line (held_of old s) ++ lost_line (batch_of old s))
       → InputIsOver old new s
   had_ended : IsOpen new s → (c : EndCause) → cause_of old s ≡ Some c → cause_of new s ≡ Some c
       → held_of new s ≡ held_of old s

@@ -3,6 +3,7 @@ use Rattle.std.specs.Prelude.{
   ℕ,
   List,
   [],
+  ◌∷◌,
   ◌≡◌,
   ◌≢◌,
   ◌≤◌,
@@ -17,22 +18,26 @@ use Rattle.std.specs.Prelude.{
   All,
   AllPairs,
 }
+use Rattle.std.specs.List.{sum_by}
 use Rattle.djq_model.specs.declared.relation.Relation.{Relation}
 use Rattle.djq_model.specs.declared.query.Query.{Query}
-use Rattle.djq_model.specs.Data.{Bytes, tuples_in}
+use Rattle.djq_model.specs.Data.{Bytes, Tuple, tuples_in}
 use Rattle.djq_model.specs.Answer.{AreDifferent}
 use Rattle.djq_model.specs.Listed.{Listed, a_query, a_union, listed_name, listed_of, queries_of}
 use Rattle.djq_model.specs.Typed.{fits}
-use Rattle.djq_protocol.specs.declared.limits.TheConstants.{SESSIONS, CURSORS, HELD, RELATIONS, COLUMNS, ROWS, COPIES}
-use Rattle.djq_protocol.specs.declared.limits.TheConstants.{TEXTS, LAST_SEQ, QUERIES, MEMBERS, ATOMS, VARIABLES}
-use Rattle.djq_protocol.specs.declared.limits.TheConstants.{HEAD_VARIABLES, COMPARISONS}
-use Rattle.djq_protocol.specs.declared.held.HeldRow.{HeldRow}
-use Rattle.djq_protocol.specs.declared.command.Command.TheVariants.{Add}
+use Rattle.djq_protocol.specs.declared.limits.TheConstants.{SESSIONS, CURSORS, HELD, HELD_BYTES, RELATIONS, COLUMNS}
+use Rattle.djq_protocol.specs.declared.limits.TheConstants.{ROWS, COPIES, TEXTS, LAST_SEQ, QUERIES, MEMBERS, ATOMS}
+use Rattle.djq_protocol.specs.declared.limits.TheConstants.{VARIABLES, HEAD_VARIABLES, COMPARISONS}
+use Rattle.djq_protocol.specs.declared.held.Verb.{Verb}
+use Rattle.djq_protocol.specs.declared.held.Verb.TheVariants.{Add as Adds, Delete as Deletes}
+use Rattle.djq_protocol.specs.declared.command.Command.{Command}
+use Rattle.djq_protocol.specs.declared.command.Command.TheVariants.{Add, Del}
 use Rattle.djq_protocol.specs.Grammar.{says_command, reading_of}
 use Rattle.djq_protocol.specs.Hypergraph.{edges_of, head_of}
 use Rattle.djq_protocol.specs.QueryFault.{reads_unknown}
 use Rattle.djq_protocol.specs.Variables.{variables_of}
-use Rattle.djq_store_spec.specs.Batch.{SuitAll}
+use Rattle.djq_store_spec.specs.Held.{HeldLine, HeldTransaction}
+use Rattle.djq_store_spec.specs.Transaction.{SuitAll}
 use Rattle.djq_hypergraph.specs.JoinTree.{IsFreeConnex}
 use Rattle.djq_store_spec.specs.Asking.{answer_types, listed_types}
 use Rattle.djq_store_spec.specs.Store.{Store, Position, open_at, stale}
@@ -121,15 +126,29 @@ pub record IsSoundCursor (queries : List Listed) (c : Cursor) : Type 0 where
   pub registered : IsSome (listed_of queries c.query)
   pub once : GaveOnce c.position
 
--- A row that is held was said by its line.
-pub record IsHeldBySaying (h : HeldRow) : Type 0 where
-  pub said : reading_of h.line ≡ says_command (Add h.relation h.row)
+-- the command that adds or deletes a copy of a row
+abbrev pub verb_command : Verb → Bytes → Tuple → Command
+verb_command Adds name row = Add name row
+verb_command Deletes name row = Del name row
 
--- A batch holds no more rows than it may, each suits its relation, and its line says it.
-pub record IsSoundBatch (st : Store) (held : List HeldRow) : Type 0 where
-  pub few : length held ≤ HELD
-  pub suit : SuitAll st held
-  pub lines : All IsHeldBySaying held
+-- What is held of a line is what its bytes say.
+pub record IsHeldBySaying (l : Bytes) (h : HeldLine) : Type 0 where
+  pub said : reading_of l ≡ says_command (verb_command h.verb h.relation h.row)
+
+-- So it is of each line of a batch.
+abbrev pub AreHeldBySaying : List Bytes → List HeldLine → Type 0
+AreHeldBySaying [] [] = Unit {0}
+AreHeldBySaying (l ∷ ls) (h ∷ hs) = IsHeldBySaying l h × AreHeldBySaying ls hs
+AreHeldBySaying (l ∷ ls) [] = ⊥
+AreHeldBySaying [] (h ∷ hs) = ⊥
+
+-- A batch holds no more lines than it may, and no more bytes of them. The row of each suits its relation, and the
+-- line's bytes say it.
+pub record IsSoundBatch (st : Store) (held : HeldTransaction) : Type 0 where
+  pub few : length held.lines ≤ HELD
+  pub short : sum_by (λ l. length l) held.logged ≤ HELD_BYTES
+  pub suit : SuitAll st held.lines
+  pub lines : AreHeldBySaying held.logged held.lines
 
 -- A session's cursors have names of their own, and are no more than may be. What it watches are
 -- registered queries, each once, and its batch is sound. A session that has ended has no cursors, no

@@ -6,20 +6,22 @@ use Rattle.std.specs.List.{flat_map}
 use Rattle.djq_model.specs.Data.{Bytes, Tuple}
 use Rattle.djq_model.specs.Answer.{IsListing}
 use Rattle.djq_model.specs.Listed.{Listed, listed_name, AnswersOf, listed_of}
-use Rattle.djq_protocol.specs.declared.held.HeldRow.{HeldRow}
 use Rattle.djq_protocol.specs.declared.command.Command.TheVariants.{Add, Del, Done}
 use Rattle.djq_protocol.specs.Grammar.{Reading, says_command, reading_of}
 use Rattle.djq_protocol.specs.Reply.{text_of}
 use Rattle.djq_store_spec.specs.Store.{Store}
-use Rattle.djq_machine.specs.State.{State, Session, session_of}
+use Rattle.djq_store_spec.specs.Held.{HeldTransaction}
+use Rattle.djq_store_spec.specs.Done.{has_changed}
+use Rattle.djq_store_spec.specs.Transaction.{first_read}
+use Rattle.djq_machine.specs.State.{State, session_of}
 use Rattle.djq_store_spec.specs.Stale.{by_relation}
-use Rattle.djq_store_spec.specs.Batch.{first_read, has_come}
 use Rattle.djq_store_spec.specs.Delta.{Change, delta_lines}
 use Rattle.djq_machine.specs.Watch.{is_watching}
 use Rattle.djq_machine.specs.LineStep.{run}
 use Rattle.djq_machine.specs.Step.{Event, stepped, Step}
 use Rattle.djq_machine.specs.Run.{Did, Walk, out}
 use Rattle.djq_run_laws.specs.Added.{added_up}
+pub use Rattle.djq_run_laws.specs.Moved.{batch_in, batch_of}
 
 -- A session goes on, and watches a registered query.
 pub record IsWatcher (q : Listed) (s : ℕ) (st : State) : Type 0 where
@@ -36,31 +38,22 @@ pub record WatchesStep (q : Listed) (s : ℕ) (old : State) (d : Did) (new : Sta
 abbrev pub WatchesAlong : Listed → ℕ → State → List Did → State → Type 0
 WatchesAlong q s = Walk (WatchesStep q s)
 
--- the rows that the batch of a session holds, if there is a session with one open
-abbrev pub batch_in : Option Session → Option (List HeldRow)
-batch_in None = None
-batch_in (Some x) = x.batch
+-- the relation whose change by `add` or `del` outdates a query, if no batch is open
+abbrev pub row_outdater : Option HeldTransaction → Bytes → Listed → Option Bytes
+row_outdater None name q = by_relation name q
+row_outdater (Some held) name q = None
 
--- the rows that the batch of a session holds, where one is open
-abbrev pub batch_of : State → ℕ → Option (List HeldRow)
-batch_of st s = batch_in (session_of st s)
-
--- the relation whose change by `add` outdates a query, where no batch is open
-abbrev pub add_outdater : Option (List HeldRow) → Bytes → Listed → Option Bytes
-add_outdater None name q = by_relation name q
-add_outdater (Some held) name q = None
-
--- the relation whose change by `done` does: the first of the batch of which rows come
-abbrev pub done_outdater : Store → Option (List HeldRow) → Listed → Option Bytes
+-- the relation whose change by `done` does: the first that held lines name of which a row comes or goes
+abbrev pub done_outdater : Store → Option HeldTransaction → Listed → Option Bytes
 done_outdater st None q = None
-done_outdater st (Some held) q = first_read held (has_come st held) q
+done_outdater st (Some held) q = first_read held.lines (has_changed st.relations held.lines) q
 
 -- the relation whose change by a line outdates a query, where the line may change one: it is a line of
 -- a session with such a batch
-abbrev pub line_outdater : Store → Option (List HeldRow) → Reading → Listed → Option Bytes
-line_outdater st batch (says_command (Add name row)) q = add_outdater batch name q
-line_outdater st batch (says_command (Del name row)) q = by_relation name q
-line_outdater st batch (says_command Done) q = done_outdater st batch q
+abbrev pub line_outdater : Store → Option HeldTransaction → Reading → Listed → Option Bytes
+line_outdater st batch (says_command (Add name row)) q = row_outdater batch name q
+line_outdater st batch (says_command (Del name row)) q = row_outdater batch name q
+line_outdater st batch (says_command (Done given)) q = done_outdater st batch q
 line_outdater st batch _ q = None
 
 -- whether an event runs a line that may change rows of a relation that a query reads

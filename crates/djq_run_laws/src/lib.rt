@@ -39,7 +39,7 @@ ghost use Rattle.djq_run_laws.specs.Silent.{OverIsSilent, OverOnce};
 ghost use Rattle.djq_run_laws.specs.Live.{ListingsStayLive, RunsStayLive};
 ghost use Rattle.djq_run_laws.specs.Finished.{RunsHaveListed};
 ghost use Rattle.djq_run_laws.specs.Sound.{RunsKeepSound, OpeningIsStart, StatesAreSound};
-ghost use Rattle.djq_run_laws.specs.Copies.{RowsHaveCopies, AddsCopy, TakesCopy, AddsHeld};
+ghost use Rattle.djq_run_laws.specs.Copies.{RowsHaveCopies, AddsCopy, TakesCopy, LinesLeaveCopies};
 ghost use Rattle.djq_run_laws.specs.Listed.{GivenIsTold, ListedIsTold};
 
 /// A session that is open stays so in every step that doesn't close it.
@@ -59,8 +59,8 @@ pub fn bytes_are_taken()
     ensures { BytesAreTaken }
 {}
 
-/// A session whose input ends retains the cause that it has, or has that one; and a line reports that if
-/// bytes were held.
+/// A session whose input ends retains the cause that it has, or has that one. A line reports that if
+/// bytes were held, and then one reports that lines are dropped if its batch held any.
 pub fn input_ends()
     ensures { InputEnds }
 {}
@@ -75,15 +75,15 @@ pub fn line_is_taken()
 /// texts, the rows of a relation and the answers that an open cursor has given are without repeats;
 /// rows are of their columns' types, each with one copy at least. Queries read relations that are
 /// present, and are free-connex; the members of a union are registered queries, two at least, none
-/// twice, with answers of the same types. Cursors and watches are of what is registered; the rows
-/// that a batch holds suit their relations, each stated by its line. A session that has ended has none
-/// of them; and sessions are by rising id.
+/// twice, with answers of the same types. Cursors and watches are of what is registered; the row of each
+/// line that a batch holds suits its relation, and the line's bytes say it. A session that has ended has
+/// none of them; and sessions are by rising id.
 ///
 /// The limits of the protocol hold in it. There are limits on relations, their columns (one at least) and
 /// rows, the copies of a row, known texts, queries and unions, and their members. There are others on a
 /// query's atoms, variables, head variables and comparisons, the number of changes, a session's cursors,
-/// the rows of its batch, and sessions. That names and values are within theirs is `states_are_sayable`
-/// of djq_mirror_laws.
+/// the lines of its batch and their bytes, and sessions. That names and values are within theirs is
+/// `states_are_sayable` of djq_mirror_laws.
 ///
 /// Every run preserves this. The state in which nothing has happened is one to start from.
 pub fn states_are_sound()
@@ -95,13 +95,14 @@ pub fn states_are_sound()
 /// Relations are bags. A row is present if and only if it has a copy. An `add` that is done makes one
 /// copy of its row more, a `del` one less if there is one, and each reports how many there are
 /// then. Every other row has as many as before. A change is counted if and only if a row gets its
-/// first copy or loses its last. A `done` that is done makes as many copies more of each row as its
-/// batch holds, and counts one change if and only if one of them gets its first.
+/// first copy or loses its last. A `done` that isn't refused leaves each row the copies that its lines
+/// leave, one after another: an `add` one more, a `del` one less. It counts one change if and only if a row
+/// of its lines gets its first copy or loses its last.
 pub fn copies_are_counted()
     ensures there { RowsHaveCopies }
     ensures added { AddsCopy }
     ensures taken { TakesCopy }
-    ensures held { AddsHeld }
+    ensures lines { LinesLeaveCopies }
 {}
 
 /// A step that logs a group of lines runs no `stop`. So if a group that is to be logged can't be,

@@ -4,8 +4,10 @@ use Rattle.std.specs.Prelude.{Option, None, Some, is_some, is_none, Result, Ok, 
 use Rattle.djq_model.specs.Data.{Bytes, bytes_eq}
 use Rattle.djq_protocol.specs.declared.limits.TheConstants.{CURSORS, LAST_LINE_BYTES}
 use Rattle.djq_protocol.specs.declared.answer.EndCause.{EndCause}
-use Rattle.djq_protocol.specs.declared.held.HeldRow.{HeldRow}
 use Rattle.djq_protocol.specs.Line.{Front, dry, front_of}
+pub use Rattle.djq_protocol.specs.Reply.{cut_line}
+use Rattle.djq_store_spec.specs.Held.{HeldTransaction, nothing_held}
+pub use Rattle.djq_store_spec.specs.Held.{lost_line}
 use Rattle.djq_session.specs.declared.named.NamedCursor.{NamedCursor}
 use Rattle.djq_session.specs.Keeps.{KeepsRoom}
 
@@ -23,8 +25,8 @@ pub record Dialog (C Q : Type 0) : Type 0 where
   pub cursors : List (NamedCursor C)
   -- what it watches, in the order in which it came
   pub watches : List Q
-  -- the rows that its batch holds, where one is open
-  pub batch : Option (List HeldRow)
+  -- the lines that its batch holds, if one is open
+  pub batch : Option HeldTransaction
 
 -- the cursor of a name
 abbrev pub named : {C : Type 0} → List (NamedCursor C) → Bytes → Option (NamedCursor C)
@@ -88,15 +90,15 @@ abbrev pub KeepsFor : {A E : Type 0} → ℕ → ℕ → ℕ → Result A E → 
 KeepsFor count old new (Ok a) = (count + LAST_LINE_BYTES ≤ new) × (old ≤ new)
 KeepsFor count old new (Err e) = (old ≤ new) × (old < count + LAST_LINE_BYTES)
 
--- A line is queued, the cause kept, and the batch dropped, where one was open.
+-- A text is queued, the cause kept, and the batch dropped, if one was open.
 abbrev pub DialogEndsWith : {C Q : Type 0} → Dialog C Q → Dialog C Q → Bytes → EndCause → Type 0
-DialogEndsWith old new line cause = new
-    ≡ record old { pending = old.pending ++ line; room = new.room; cause = Some cause; batch = None }
+DialogEndsWith old new text cause = new
+    ≡ record old { pending = old.pending ++ text; room = new.room; cause = Some cause; batch = None }
 
--- the rows that a batch holds; none where none is open
-abbrev pub batch_rows : Option (List HeldRow) → List HeldRow
-batch_rows None = []
-batch_rows (Some rows) = rows
+-- what a batch holds; nothing if none is open
+abbrev pub held_in_batch : Option HeldTransaction → HeldTransaction
+held_in_batch None = nothing_held
+held_in_batch (Some held) = held
 
 -- The last cursor is gone, and what was kept for it is given back.
 abbrev pub PopsCursor : {C Q : Type 0} → Dialog C Q → Dialog C Q → Option C → Type 0

@@ -1,15 +1,17 @@
 //! What is kept of a session: the bytes that came and aren't run, those that are queued and aren't
-//! taken, its cursors by name, what it watches, the rows that its batch holds, and why it takes no
+//! taken, its cursors by name, what it watches, the lines that its batch holds, and why it takes no
 //! further commands.
 //!
 //! A [`Session`] runs nothing. What a cursor is, and what a query is named by, is left to whoever
 //! keeps the session: it is generic in both. Contracts see one record, `Dialog`.
 //!
-//! What surprises: as long as it goes on, 32 bytes of output are kept free, so that its last line
-//! never needs memory; and a short reply stands in room that [`Session::keep`] makes before its
+//! What surprises: as long as it goes on, 32 bytes of output are kept free, so that its last lines
+//! never need memory: one, or as its input ends two, of which the other reports that held lines are
+//! dropped. And a short reply stands in room that [`Session::keep`] makes before its
 //! command begins. So what a command did is always answered. An idle session holds its bytes, and
 //! besides a constant: a buffer above 16,384 bytes is given back when the last of its bytes is
-//! taken.
+//! taken. What a batch holds is one buffer of djq_transaction, and a line is copied into it from the
+//! bytes that came.
 //!
 //! ```text
 //! feed("open c q\nnext c 10\nne")    held      open c q    next c 10    ne

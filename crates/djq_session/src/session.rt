@@ -3,9 +3,10 @@ ghost use Rattle.djq_session.specs.Dialog.{IsNewDialog};
 
 use crate::named::NamedCursor;
 use bytes::BytesMut;
-use djq_model::{NoMem, Sequence};
+use djq_model::NoMem;
 use djq_parser::Front;
-use djq_protocol::{EndCause, HeldRow};
+use djq_protocol::EndCause;
+use djq_transaction::Transaction;
 use std::alloc::Global;
 use std::marker::Model;
 
@@ -41,8 +42,8 @@ pub struct Session<C, Q> {
     cause: Option<EndCause>,
     cursors: Vec<NamedCursor<C>>,
     watches: Vec<Q>,
-    // the rows that its batch holds, where one is open
-    batch: Option<Sequence<HeldRow>>,
+    // the lines that its batch holds, if one is open
+    batch: Option<Transaction>,
     alloc: Global,
 }
 

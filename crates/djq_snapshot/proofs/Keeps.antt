@@ -1,7 +1,7 @@
 -- What the lines that are loaded make of a store whose snapshot restores it.
-use Rattle.std.proofs.Common.{ℕ, zero, suc, List, [], ◌∷◌, ◌++◌, ◌≡◌, Bool, true, false, cond, length, refl}
+use Rattle.std.proofs.Common.{ℕ, List, [], ◌∷◌, ◌++◌, ◌≡◌, Bool, true, false, length, refl}
 use Rattle.std.proofs.Common.{sym, ◌∙◌, subst}
-use Rattle.std.specs.Prelude.{Option, None, Some, All, nat_le, is_some, ◌+◌}
+use Rattle.std.specs.Prelude.{Option, None, Some, All, nat_le, is_some}
 use Rattle.std.proofs.lemmas.List.Elements.{All-nil, All-cons, All-head, All-tail, All-weaker, All-push}
 use Rattle.std.proofs.lemmas.List.Sorted.{All-permutation}
 use Rattle.djq_model.specs.declared.relation.ColumnType.{ColumnType}
@@ -16,18 +16,15 @@ use Rattle.djq_model.proofs.Copies.{tuples_with_row, tuples_with_copies, tuples_
 use Rattle.djq_protocol.specs.declared.limits.TheConstants.{QUERIES}
 use Rattle.djq_protocol.specs.declared.answer.Refusal.{Refusal}
 use Rattle.djq_protocol.specs.declared.answer.Refusal.TheVariants.{Taken, Limit}
-use Rattle.djq_protocol.specs.declared.held.HeldRow.{HeldRow}
 use Rattle.djq_protocol.specs.QueryFault.{query_faults, query_fault}
 use Rattle.djq_protocol.specs.Variables.{constants_of}
-use Rattle.djq_store_spec.specs.Batch.{is_there, with_held, with_all, count_came, store_behind}
 use Rattle.djq_store_spec.specs.Relations.{with_rows}
 use Rattle.djq_store_spec.specs.Registering.{query_refusal, is_member}
-use Rattle.djq_store_spec.specs.Rows.{copies_of, with_copies_of}
+use Rattle.djq_store_spec.specs.Rows.{with_copies_of}
 use Rattle.djq_store_spec.specs.Store.{Store}
 use Rattle.djq_store_spec.specs.Union.{AreUnder}
 use Rattle.djq_machine.specs.Step.{SameRelations}
 use Rattle.djq_run_laws.specs.Form.{listed_texts}
-use Rattle.djq_run_laws.proofs.Batches.{behind, is_behind}
 use Rattle.djq_run_laws.proofs.Forms.{AllFail, all_fail}
 use Rattle.djq_run_laws.proofs.Lists.{all_changed, all_dropped, all_found, without_dropped}
 use Rattle.djq_run_laws.proofs.RegisteredQueries.{under_registered}
@@ -173,34 +170,6 @@ known_restorable st texts still w = record {
       (λ r h. rows_still st.texts texts still (tuples_in r) h) st.relations w.rows;
   constants = constants_still st.texts texts still st.queries w.constants;
 }
-
--- ---- a batch
-
-held_restorable : (st : Store) (h : HeldRow) → IsRestorable st → IsRestorable (with_held st h)
-held_restorable st h w = by (is_there st h)
-  where
-    by : (b : Bool)
-        → IsRestorable (cond b (record st {
-          relations = with_copies_of st.relations h.relation h.row (copies_of st h.relation h.row + 1);
-        }) (record st {
-          relations = with_rows st.relations h.relation (with_row (counted_of st.relations h.relation) h.row);
-          texts = all_learned st.texts (texts_in h.row);
-        }))
-    by true = copied_restorable st h.relation h.row (copies_of st h.relation h.row + 1) w
-    by false = added_restorable st h.relation h.row st.seq w
-
-all_restorable : (st : Store) (held : List HeldRow) → IsRestorable st → IsRestorable (with_all st held)
-all_restorable st [] w = w
-all_restorable st (h ∷ held) w = all_restorable (with_held st h) held (held_restorable st h w)
-
-pub batch_restorable : (st : Store) (held : List HeldRow) → IsRestorable st → IsRestorable (store_behind st held)
-batch_restorable st held w =
-    subst IsRestorable (sym (is_behind st held (count_came st held) refl))
-    (by (count_came st held) (with_all st held) (all_restorable st held w))
-  where
-    by : (n : ℕ) (after : Store) → IsRestorable after → IsRestorable (behind st after n)
-    by zero after k = k
-    by (suc n) after k = record { faults = k.faults; order = k.order; rows = k.rows; constants = k.constants }
 
 -- ---- what is registered
 

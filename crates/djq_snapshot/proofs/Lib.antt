@@ -5,6 +5,7 @@ mod Parts
 mod Faults
 mod Order
 mod Keeps
+mod CarriedLines
 mod Runs
 mod Restored
 mod Example

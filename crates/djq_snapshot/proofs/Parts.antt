@@ -28,7 +28,7 @@ use Rattle.djq_protocol.specs.Conditions.{first_refusal, OutOfMemoryWhere}
 use Rattle.djq_protocol.specs.QueryFault.{query_faults, query_fault}
 use Rattle.djq_protocol.specs.Variables.{constants_of}
 use Rattle.djq_store_spec.specs.Asking.{answer_types, listed_types}
-use Rattle.djq_store_spec.specs.Batch.{suit_refusal}
+use Rattle.djq_store_spec.specs.Transaction.{suit_refusal}
 use Rattle.djq_store_spec.specs.Relations.{with_rows, rel_refusal, MakesRelation}
 use Rattle.djq_store_spec.specs.Registering.{query_refusal, RegistersAs, RefusedLate, RegistersQuery, most_steps}
 use Rattle.djq_store_spec.specs.Registering.{answer_steps}

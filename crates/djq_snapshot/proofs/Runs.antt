@@ -4,7 +4,7 @@ use Rattle.std.specs.Prelude.{Option, None, Some, Ok, Err, map, ⊤, is_none}
 use Rattle.std.specs.List.{flat_map}
 use Rattle.std.proofs.lemmas.List.Elements.{All-nil, All-weaker}
 use Rattle.djq_model.specs.declared.query.Query.{Query}
-use Rattle.djq_model.specs.Data.{Bytes, bytes_eq, drop_first}
+use Rattle.djq_model.specs.Data.{Bytes, Tuple, bytes_eq, drop_first}
 use Rattle.djq_model.specs.Known.{texts_in, knows_all}
 use Rattle.djq_model.specs.Listed.{Listed, a_union, listed_name, listed_of}
 use Rattle.djq_protocol.specs.declared.answer.Refusal.TheVariants.{NoQuery, InUse}
@@ -13,7 +13,10 @@ use Rattle.djq_protocol.specs.declared.answer.DeleteOutcome.TheVariants.{Last, L
 use Rattle.djq_protocol.specs.declared.command.Command.{Command}
 use Rattle.djq_protocol.specs.declared.command.Command.TheVariants.{Rel, Add, Del, Query as Register, Union, Drop}
 use Rattle.djq_protocol.specs.declared.command.Command.TheVariants.{Batch, Done, Abandon}
-use Rattle.djq_protocol.specs.declared.held.HeldRow.{HeldRow}
+use Rattle.djq_protocol.specs.declared.held.Verb.{Verb}
+use Rattle.djq_protocol.specs.declared.held.Verb.TheVariants.{Add as Adds, Delete as Deletes}
+use Rattle.djq_protocol.specs.Reply.{done_word}
+use Rattle.djq_store_spec.specs.Held.{HeldTransaction, nothing_held, holding}
 use Rattle.djq_protocol.specs.declared.rest.QueryOutcome.TheVariants.{Registered, Cyclic, NotConnex}
 use Rattle.djq_protocol.specs.Conditions.{OutOfMemoryWhere}
 use Rattle.djq_protocol.specs.Grammar.{Reading, outside, past_limit, says_command, reading_of}
@@ -26,6 +29,7 @@ use Rattle.djq_store_spec.specs.Store.{Store}
 use Rattle.djq_store_spec.specs.Union.{union_refusal, AreUnder}
 use Rattle.djq_machine.specs.declared.machine.Loaded.TheVariants.{Ran as ran}
 use Rattle.djq_machine.specs.Loading.{Loading, loading, StoreLoads, CommandLoads, ReadingLoads, LoadStep}
+use Rattle.djq_machine.specs.Loading.{HoldsOrRefuses}
 use Rattle.djq_machine.specs.Run.{groups_of, lines_in}
 use Rattle.djq_machine.specs.State.{opening}
 use Rattle.djq_machine.proofs.Relations.{walk_keeps}
@@ -42,8 +46,9 @@ use Rattle.djq_snapshot.specs.Restorable.{HasNoFault, KnowsRows, IsRestorable, F
 use Rattle.djq_snapshot.specs.Restorable.{OpeningIsRestorable, LoadsStayRestorable, RunsRestore}
 use Rattle.djq_snapshot.proofs.Followers.{same_itself, same_turned, same_on}
 use Rattle.djq_snapshot.proofs.Keeps.{made_restorable, added_restorable, copied_restorable, gone_restorable}
-use Rattle.djq_snapshot.proofs.Keeps.{moved_restorable, batch_restorable, query_restorable, union_restorable}
+use Rattle.djq_snapshot.proofs.Keeps.{moved_restorable, query_restorable, union_restorable}
 use Rattle.djq_snapshot.proofs.Keeps.{drop_restorable, known_restorable}
+use Rattle.djq_snapshot.proofs.CarriedLines.{carried_restorable}
 use Rattle.djq_snapshot.proofs.Parts.{snapshot_restores}
 use Rattle.djq_snapshot.proofs.Steps.{refused_never}
 
@@ -109,21 +114,24 @@ loads_so old new e w = subst (λ (k : Loading). IsRestorable k.store) (sym e) w
 
 outside_restorable : (old : Store) (l : Bytes) (c : Command) (new : Loading) → CommandLoads (loading old) l c ran new
     → IsRestorable old → IsRestorable new.store
-outside_restorable old l Batch new (inl h) w = loads_so (record { store = old; batch = Some [] }) new h.1 w
+outside_restorable old l Batch new (inl h) w = loads_so (record { store = old; batch = Some nothing_held }) new h.1 w
 outside_restorable old l Batch new (inr h) w = loads_so (loading old) new h.1 w
 outside_restorable old l c new h w = store_restorable old c new.store h.0 w
 
-within_restorable : (old : Store) (held : List HeldRow) (l : Bytes) (c : Command) (new : Loading)
+held_restorable : (old : Store) (held : HeldTransaction) (l : Bytes) (verb : Verb) (name : Bytes) (row : Tuple)
+    (new : Loading) → HoldsOrRefuses (record { store = old; batch = Some held }) held l verb name row ran new
+    → IsRestorable old → IsRestorable new.store
+held_restorable old held l verb name row new (Ok u, k, e, same) w =
+    loads_so (record { store = old; batch = Some (holding held verb name row l) }) new same w
+held_restorable old held l verb name row new (Err r, k, e, same) w = absurd (refused_never r e)
+
+within_restorable : (old : Store) (held : HeldTransaction) (l : Bytes) (c : Command) (new : Loading)
     → CommandLoads (record { store = old; batch = Some held }) l c ran new → IsRestorable old → IsRestorable new.store
-within_restorable old held l (Add name row) new (Ok u, k, e, same) w =
-    loads_so (record {
-      store = old;
-      batch = Some (held ++ record { line = l; relation = name; row = row } ∷ []);
-    }) new same w
-within_restorable old held l (Add name row) new (Err r, k, e, same) w = absurd (refused_never r e)
-within_restorable old held l Done new (Ok n, m, e, closed) w =
-    subst IsRestorable (sym m.2) (batch_restorable old held w)
-within_restorable old held l Done new (Err r, m, e, closed) w = absurd (refused_never r e)
+within_restorable old held l (Add name row) new h w = held_restorable old held l Adds name row new h w
+within_restorable old held l (Del name row) new h w = held_restorable old held l Deletes name row new h w
+within_restorable old held l (Done given) new (Ok n, m, e, closed) w =
+    subst IsRestorable (sym m.does.1) (carried_restorable old held.lines w)
+within_restorable old held l (Done given) new (Err r, m, e, closed) w = absurd (refused_never (done_word r) e)
 within_restorable old held l Abandon new h w = loads_so (loading old) new h.1 w
 within_restorable old held l c new h w = loads_so (record { store = old; batch = Some held }) new h.1 w
 
@@ -134,12 +142,12 @@ reading_restorable old l (past_limit c) new h w = loads_so old new h.1 w
 reading_restorable old l (says_command c) new (inr h) w = loads_so old new h.3 w
 reading_restorable old l (says_command c) new (inl h) w = by old.batch refl
   where
-    loads : (o : Option (List HeldRow)) → old.batch ≡ o
+    loads : (o : Option HeldTransaction) → old.batch ≡ o
         → CommandLoads (record { store = old.store; batch = o }) l c ran new
     loads o e =
-        subst (λ (k : Option (List HeldRow)). CommandLoads (record { store = old.store; batch = k }) l c ran new) e h
+        subst (λ (k : Option HeldTransaction). CommandLoads (record { store = old.store; batch = k }) l c ran new) e h
 
-    by : (o : Option (List HeldRow)) → old.batch ≡ o → IsRestorable new.store
+    by : (o : Option HeldTransaction) → old.batch ≡ o → IsRestorable new.store
     by None e = outside_restorable old.store l c new (loads None e) w
     by (Some held) e = within_restorable old.store held l c new (loads (Some held) e) w
 

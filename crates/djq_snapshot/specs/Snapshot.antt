@@ -14,7 +14,7 @@ use Rattle.djq_store_spec.specs.Store.{Store, empty_store}
 use Rattle.djq_store_spec.specs.Relations.{with_rows, MakesRelation}
 use Rattle.djq_store_spec.specs.Registering.{RegistersQuery}
 use Rattle.djq_store_spec.specs.Union.{RegistersUnion}
-use Rattle.djq_store_spec.specs.Batch.{suit_refusal}
+use Rattle.djq_store_spec.specs.Transaction.{suit_refusal}
 use Rattle.djq_machine.specs.Step.{SameRelations}
 use Rattle.djq_machine.specs.Walk.{Walk}
 use Rattle.djq_run_laws.specs.Sound.{IsCopyCount}

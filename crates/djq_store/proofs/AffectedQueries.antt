@@ -19,8 +19,8 @@ use Rattle.djq_store_spec.specs.Registering.{atoms_of}
 use Rattle.djq_store_spec.specs.Changes.{RowsChange, is_outdated}
 use Rattle.djq_store_spec.specs.Delta.{Change, IsDelta}
 use Rattle.djq_store_spec.specs.DeltaCost.{Delta, is_touched, AreDeltas}
-use Rattle.djq_answer_laws.specs.Growing.{HaveRows, SparesOthers}
-use Rattle.djq_answer_laws.proofs.Choices.{answer_stays, answers_rest}
+use Rattle.djq_answer_laws.specs.Growing.{SparesOthers}
+use Rattle.djq_answer_laws.proofs.Choices.{answers_rest}
 use Rattle.djq_answer_laws.proofs.Lists.{first_there, later_there, kept_there, hold_each, mapped_there, some_there}
 use Rattle.djq_live_query.specs.Live.{Live}
 use Rattle.djq_live_query.specs.Member.{query_at, queries_at}
@@ -33,7 +33,6 @@ use Rattle.djq_engine.specs.Kept.{readers_of}
 use Rattle.djq_engine.specs.Watching.{LogsTell}
 use Rattle.djq_engine.specs.Places.{id_at}
 use Rattle.djq_engine.proofs.QueryPlaces.{filter_members}
-use Rattle.djq_gains.specs.Told.{GoOneWay}
 use Rattle.djq_gains.specs.Gains.{members_at, count_in, HaveChanged, TellUnion}
 use Rattle.djq_gains.proofs.DeltaLines.{twice_mapped}
 use Rattle.djq_store.specs.declared.joined.Joined.{Joined}
@@ -46,16 +45,12 @@ use Rattle.djq_store.proofs.ChangedStores.{Behind, grows, member_there, member_s
 use Rattle.djq_store.proofs.ChangedStores.{first_outdates}
 use Rattle.djq_store.proofs.Costs.{mapped_was, engine_listed, sum_times, sum_fewer, kept_was}
 use Rattle.djq_store.proofs.Readers.{the_query, touched_are, filter_same, any_same, any_there, passing}
-use Rattle.djq_store.proofs.WantedQueries.{places, f, by_places, deltas, member_listed, found_itself, found_there}
+use Rattle.djq_store.proofs.WantedQueries.{places, f, n, by_places, deltas, listed as answers_listed, HalvesSpareOthers, net_few}
+use Rattle.djq_store.proofs.WantedQueries.{member_listed, found_itself, found_there}
 use Rattle.djq_store.proofs.Places.{Seat, seat_here, order_seat, order_joint, listed_seat, listed_joint, Slot}
 use Rattle.djq_store.proofs.Places.{cases_place, low_place, high_place}
 
 -- ---- What unions tell of a change that was made, and what that counts.
-
--- rows came, or they went
-abbrev pub GoRows : Bool → List Relation → List Relation → Type 0
-GoRows true before after = HaveRows before after
-GoRows false before after = HaveRows after before
 
 map_same : {A B : Type 0} (g h : A → B) (xs : List A) → ((x : A) → Contains xs x → g x ≡ h x) → map g xs ≡ map h xs
 map_same g h [] same = refl
@@ -69,23 +64,23 @@ module _ (change : RowsChange) (relations : List Bytes) (turn : Turn) (e e' : Ke
     eds)
     (spares : SparesOthers (e.store).relations change)
     (out : (q : Query) → is_touched change q ≡ true → is_outdated change (a_query q) ≡ true)
+    (half : HalvesSpareOthers (e.store).relations change.halves change.touches)
     (hits : (q : Query) → is_touched change q ≡ list_any (reads q) relations)
     (after : (e'.store).relations ≡ change.after)
-    (came : Bool) (way : GoRows came (e.store).relations change.after)
     (logs : LogsTell e' (affected_of e.registered change) eds) where
   -- what is told of a query that is listed
   pub told_place : (m : ℕ)
-      → Contains (places change relations turn e e' us us' b order w sessions c eds are spares out) m
+      → Contains (places change relations turn e e' us us' b order w sessions c eds are spares out half) m
       → (told_at e' (record { at = m }) ≡ None)
       ⊎ (told_at e' (record { at = m })
-      ≡ Some (f change relations turn e e' us us' b order w sessions c eds are spares out m))
+      ≡ Some (f change relations turn e e' us us' b order w sessions c eds are spares out half m))
   told_place m k =
-      let fs = f change relations turn e e' us us' b order w sessions c eds are spares out in
+      let fs = f change relations turn e e' us us' b order w sessions c eds are spares out half in
       let r = mapped_was (λ (s : Registered). s.id.at) (affected_of e.registered change) m k in
       subst (λ (i : ℕ). (told_at e' (record { at = i }) ≡ None) ⊎ (told_at e' (record { at = i }) ≡ Some (fs i))) r.2
       (All-contains (λ (s : Registered). (told_at e' s.id ≡ None) ⊎ (told_at e' s.id ≡ Some (fs s.id.at)))
       (affected_of e.registered change) r.0
-      ((by_places change relations turn e e' us us' b order w sessions c eds are spares out).logs logs) r.1)
+      ((by_places change relations turn e e' us us' b order w sessions c eds are spares out half).logs logs) r.1)
 
   -- one union that a session watches
 
@@ -110,8 +105,8 @@ module _ (change : RowsChange) (relations : List Bytes) (turn : Turn) (e e' : Ke
         (λ m d. sym (hits (qs m)))
 
     listed : (m : ℕ) → Contains (filter (λ i. is_touched change (qs i)) ms) m
-        → Contains (places change relations turn e e' us us' b order w sessions c eds are spares out) m
-    listed m d = member_listed change relations turn e e' us us' b order w sessions c eds are spares out k j there some
+        → Contains (places change relations turn e e' us us' b order w sessions c eds are spares out half) m
+    listed m d = member_listed change relations turn e e' us us' b order w sessions c eds are spares out half k j there some
         m d
 
     -- its members now
@@ -134,16 +129,15 @@ module _ (change : RowsChange) (relations : List Bytes) (turn : Turn) (e e' : Ke
         all_now (m ∷ xs) within =
             one m (within m (first_there m xs m refl)) xs (all_now xs (λ i d. within i (later_there m xs i d)))
 
-    -- its members changed one way
-    pub changed : HaveChanged (e.store).relations e' ms (touched_in e'.places relations ms) came
+    -- its members changed
+    pub changed : HaveChanged (e.store).relations e' ms (touched_in e'.places relations ms)
     changed = record {
-      one_way = λ i l d at. way_of came way l.query;
       told = λ i l changes d at says.
           let mine : Contains (filter (λ m. is_touched change (qs m)) ms) i =
           subst (λ (xs : List ℕ). Contains xs i) touched_now d in
           let within = (kept_was (λ m. is_touched change (qs m)) ms i mine).0 in
           let query : qs i ≡ l.query = sym (same_query_accepted i within) ∙ ap the_query at in
-          let fs = f change relations turn e e' us us' b order w sessions c eds are spares out in
+          let fs = f change relations turn e e' us us' b order w sessions c eds are spares out half in
           let is : changes ≡ fs i = only (told_place i (listed i mine)) says in
           subst (λ (rs : List Relation). IsDelta (IsAnswer (e.store).relations l.query) (IsAnswer rs l.query) changes)
           (sym after)
@@ -151,7 +145,7 @@ module _ (change : RowsChange) (relations : List Bytes) (turn : Turn) (e e' : Ke
           cs)
           (sym is)
           (subst (λ (q : Query). IsDelta (IsAnswer (e.store).relations q) (IsAnswer change.after q) (fs i)) query
-          (deltas change relations turn e e' us us' b order w sessions c eds are spares out i (listed i mine))));
+          (deltas change relations turn e e' us us' b order w sessions c eds are spares out half i (listed i mine))));
       others = λ i l d miss at t.
           let query : qs i ≡ l.query = sym (same_query_accepted i d) ∙ ap the_query at in
           let none : is_touched change (qs i) ≡ false = untouched i d miss (is_touched change (qs i)) refl in
@@ -160,13 +154,6 @@ module _ (change : RowsChange) (relations : List Bytes) (turn : Turn) (e e' : Ke
           (answers_rest (e.store).relations change (qs i) spares none t));
     }
       where
-        way_of : (x : Bool) → GoRows x (e.store).relations change.after → (q : Query)
-            → GoOneWay x (IsAnswer (e.store).relations q) (IsAnswer (e'.store).relations q)
-        way_of true rows q = λ t h. subst (λ (rs : List Relation). IsAnswer rs q t) (sym after)
-            (answer_stays (e.store).relations change.after (a_query q) t rows h)
-        way_of false rows q = λ t h. answer_stays change.after (e.store).relations (a_query q) t rows
-            (subst (λ (rs : List Relation). IsAnswer rs q t) after h)
-
         only : {x : Option (List Change)} {ys zs : List Change} → (x ≡ None) ⊎ (x ≡ Some ys) → x ≡ Some zs → zs ≡ ys
         only (inl e) f = absurd (let g = sym e ∙ f in cc)
         only (inr e) f = let g = sym e ∙ f in cc
@@ -179,7 +166,7 @@ module _ (change : RowsChange) (relations : List Bytes) (turn : Turn) (e e' : Ke
 
     -- so what its log tells is its delta
     pub union_delta : (lines : List Line) (l : Live)
-        → TellUnion e' ms (touched_in e'.places relations ms) came lines l
+        → TellUnion e' ms (touched_in e'.places relations ms) lines l
         → IsDelta (AnswersOf (e.store).relations (union_of e.places j.union))
         (AnswersOf change.after (union_of e.places j.union)) (map (change_of (e'.store).texts l) lines)
     union_delta lines l tells =
@@ -194,24 +181,38 @@ module _ (change : RowsChange) (relations : List Bytes) (turn : Turn) (e e' : Ke
 
     -- and what it counts is no more than is asked
     pub asked_few : asking_steps e' relations ms
-        ≤ sum_by (λ m. length (f change relations turn e e' us us' b order w sessions c eds are spares out m)
+        ≤ sum_by (λ m. n change relations turn e e' us us' b order w sessions c eds are spares out half m
         * atoms_of (map qs ms)) (filter (λ m. is_touched change (qs m)) ms)
     asked_few =
-        let n = atoms_of (map qs ms) in
+        let all = atoms_of (map qs ms) in
         let hit = filter (λ m. is_touched change (qs m)) ms in
-        let fs = f change relations turn e e' us us' b order w sessions c eds are spares out in
-        let is : asking_steps e' relations ms ≡ sum_by (count_in e') hit * n =
+        let fs = f change relations turn e e' us us' b order w sessions c eds are spares out half in
+        let ns = n change relations turn e e' us us' b order w sessions c eds are spares out half in
+        let is : asking_steps e' relations ms ≡ sum_by (count_in e') hit * all =
         ap₂ (λ (xs : List ℕ) (qs : List Query). sum_by (count_in e') xs * atoms_of qs) touched_now members_now in
-        let each = sum_times (count_in e') n hit in
-        let fewer = sum_fewer (λ m. count_in e' m * n) (λ m. length (fs m) * n) hit
-        (hold_each (λ m. count_in e' m * n ≤ length (fs m) * n) hit
-        (λ m d. mul-le (count_in e' m) n (length (fs m)) n (count_few m (told_place m (listed m d))) (omega arith))) in
+        let each = sum_times (count_in e') all hit in
+        let fewer = sum_fewer (λ m. count_in e' m * all) (λ m. ns m * all) hit
+        (hold_each (λ m. count_in e' m * all ≤ ns m * all) hit
+        (λ m d. mul-le (count_in e' m) all (ns m) all (listed_few m d (count_few m (told_place m (listed m d))))
+        (omega arith))) in
         omega (arith, is, each, fewer)
       where
+        listed_few : (m : ℕ) → Contains (filter (λ m. is_touched change (qs m)) ms) m
+            → count_in e' m ≤ length (f change relations turn e e' us us' b order w sessions c eds are spares out half m)
+            → count_in e' m ≤ n change relations turn e e' us us' b order w sessions c eds are spares out half m
+        listed_few m d few =
+            let net = net_few (e.store).relations change (qs m)
+            (f change relations turn e e' us us' b order w sessions c eds are spares out half m)
+            (n change relations turn e e' us us' b order w sessions c eds are spares out half m)
+            (deltas change relations turn e e' us us' b order w sessions c eds are spares out half m (listed m d))
+            (answers_listed change relations turn e e' us us' b order w sessions c eds are spares out half m (listed m d))
+            in
+            omega (arith, few, net)
+
         count_few : (m : ℕ) → (told_at e' (record { at = m }) ≡ None)
             ⊎ (told_at e' (record { at = m })
-            ≡ Some (f change relations turn e e' us us' b order w sessions c eds are spares out m))
-            → count_in e' m ≤ length (f change relations turn e e' us us' b order w sessions c eds are spares out m)
+            ≡ Some (f change relations turn e e' us us' b order w sessions c eds are spares out half m))
+            → count_in e' m ≤ length (f change relations turn e e' us us' b order w sessions c eds are spares out half m)
         count_few m (inl none) =
             let e : count_in e' m
             ≡ 0 = ap (λ (o : Option (List Change)). length (unwrap_or o [])) none in omega (arith, e)

@@ -40,7 +40,7 @@ use Rattle.djq_engine.proofs.QueryPlaces.{map_members, find_mapped}
 use Rattle.djq_gains.specs.Gains.{TellUnion}
 use Rattle.djq_store.specs.declared.joined.Joined.{Joined}
 use Rattle.djq_store.specs.declared.settling.Turn.{Turn}
-use Rattle.djq_store.specs.declared.settling.Turn.TheVariants.{Came, Went, Lacked}
+use Rattle.djq_store.specs.declared.settling.Turn.TheVariants.{Changed, Lacked}
 use Rattle.djq_store.specs.Places.{joined_at, first_member, listed_at, registered_as, held_union_cursor}
 use Rattle.djq_store.specs.Places.{union_cursor_of, cursors_in, store_seen, told_of_union}
 use Rattle.djq_store.specs.Settling.{first_read_by, touched_in, outdated_union, TellsUnionLog, TellsWatched, SettlesLog}
@@ -225,16 +225,16 @@ module _ (o : Option RowsChange) (relations : List Bytes) (turn : Turn) (e e' : 
             (λ l. All (λ (n : Line). IsShowable (e'.store).texts l n.answer) j.log.lines))
             (sym first_now) (log_stays e e' grows b.laws.members b.laws.showable j united shown kept))
 
-        told_shown : (came : Bool) → TellsUnionLog e' relations came j j'.log → Shown j'.log
-        told_shown came tells kept =
+        told_shown : TellsUnionLog e' relations j j'.log → Shown j'.log
+        told_shown tells kept =
             subst (λ (f : Option Live). IsSomeAnd f
             (λ l. All (λ (n : Line). IsShowable (e'.store).texts l n.answer) j'.log.lines))
             (sym first_now)
             (some_as (first_member e'.places j.union)
-            (TellUnion e' j.union.members (touched_in e'.places relations j.union.members) came j'.log.lines)
+            (TellUnion e' j.union.members (touched_in e'.places relations j.union.members) j'.log.lines)
             (λ l. All (λ (n : Line). IsShowable (e'.store).texts l n.answer) j'.log.lines) (λ l t. t.shown)
             (subst (λ (f : Option Live). IsSomeAnd f
-            (TellUnion e' j.union.members (touched_in e'.places relations j.union.members) came j'.log.lines))
+            (TellUnion e' j.union.members (touched_in e'.places relations j.union.members) j'.log.lines))
             (first_get (queries_at e'.places j.union.members)) (tells kept)))
 
         empty_shown : j'.log.lines ≡ [] → Shown j'.log
@@ -246,13 +246,12 @@ module _ (o : Option RowsChange) (relations : List Bytes) (turn : Turn) (e e' : 
             (subst (λ (ns : List Line). All (λ (n : Line). IsShowable (e'.store).texts f.new n.answer) ns) (sym none)
             (All-nil (λ (n : Line). IsShowable (e'.store).texts f.new n.answer)))
 
-        watched_shown : (c came : Bool) → TellsWatched c e' relations came j j'.log → Shown j'.log
-        watched_shown true came t = told_shown came t
-        watched_shown false came t = kept_shown t
+        watched_shown : (c : Bool) → TellsWatched c e' relations j j'.log → Shown j'.log
+        watched_shown true t = told_shown t
+        watched_shown false t = kept_shown t
 
         turn_shown : (t : Turn) → SettlesLog e' relations t j j'.log → Shown j'.log
-        turn_shown Came t = watched_shown (nat_lt 0 j.watchers) true t
-        turn_shown Went t = watched_shown (nat_lt 0 j.watchers) false t
+        turn_shown Changed t = watched_shown (nat_lt 0 j.watchers) t
         turn_shown Lacked t = empty_shown t.0
 
         log_shown : (f : Option Bytes) → SettlesLogBy f e' relations turn j j'.log → Shown j'.log

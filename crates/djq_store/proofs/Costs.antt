@@ -1,6 +1,7 @@
 -- Sums over places, and what updates and the deltas of unions count.
 use Rattle.std.proofs.Common.{◌≡◌, ℕ, zero, suc, ◌+◌, ◌-◌, ◌*◌, ◌<◌, ◌≤◌, ◌^◌, List, [], ◌∷◌, length, map, Option, Some}
 use Rattle.std.proofs.Common.{sym, ap, ap₂, ◌∙◌, arith, refl, subst, inl, inr}
+use Rattle.std.specs.Prelude.{Result}
 use Rattle.std.specs.Prelude.{take, slice_get, slice_index_or, ◌++◌, ◌⊎◌, Bool, true, false, cond, filter, All}
 use Rattle.std.specs.Prelude.{AllPairs, Contains, sum_by, nat_lt, None, ◌==◌, ◌&&◌, ◌||◌, IsSomeAnd}
 use Rattle.std.proofs.lemmas.Option.{same_Some}
@@ -14,10 +15,11 @@ use Rattle.std.proofs.lemmas.List.Kept.{AllPairs-cons, AllPairs-filter}
 use Rattle.djq_model.specs.declared.relation.Relation.{Relation}
 use Rattle.djq_model.specs.Listed.{Listed, a_query}
 use Rattle.djq_protocol.specs.declared.limits.TheConstants.{QUERIES}
-use Rattle.djq_protocol.specs.declared.held.HeldRow.{HeldRow}
+use Rattle.djq_protocol.specs.declared.held.DoneRefusal.{DoneRefusal}
 use Rattle.djq_store_spec.specs.Registering.{most_steps, width_of, atoms_of}
 use Rattle.djq_store_spec.specs.Changes.{RowsChange, is_outdated}
-use Rattle.djq_store_spec.specs.Batch.{rows_held}
+use Rattle.djq_store_spec.specs.Held.{HeldLine}
+use Rattle.djq_store_spec.specs.Transaction.{lines_change}
 use Rattle.djq_answer_laws.proofs.Lists.{nothing_there, first_or_later, first_there, later_there, pairs_head}
 use Rattle.djq_answer_laws.proofs.Lists.{pairs_tail, mapped_there, hold_each, kept_there}
 use Rattle.djq_live_query.specs.Live.{Live}
@@ -26,7 +28,7 @@ use Rattle.djq_live_query.proofs.Catalogs.{nth_is}
 use Rattle.djq_reach.specs.Places.{is_reader}
 use Rattle.djq_reach.proofs.PlacedQueries.{place_below}
 use Rattle.djq_engine.specs.Kept.{Registered, Kept, AtPlace, same_query, registered_at, readers_of}
-use Rattle.djq_engine.specs.Watching.{AreBounded, IsBoundedBy, CountsUpdates, CountsBatch, bounded_steps, update_steps}
+use Rattle.djq_engine.specs.Watching.{AreBounded, IsBoundedBy, CountsUpdates, CountsLines, lines_steps, bounded_steps, update_steps}
 use Rattle.djq_engine.specs.Laws.{IsEngine}
 use Rattle.djq_engine.proofs.QueryPlaces.{reader_filter}
 use Rattle.djq_store.specs.declared.joined.Joined.{Joined}
@@ -459,20 +461,21 @@ module _ (e : Kept) (b : IsEngine e) (us : List (Option Joined)) (order : List �
         (omega (arith, low, more));
   }
 
-  pub counts_batch_seen : (times : ℕ) (held : List HeldRow) (seen : Kept) (before now : ℕ) → seen.registered ≡ all
-      → (seen.store).relations ≡ (e.store).relations → rows_held seen.store held ≡ rows_held e.store held
-      → CountsBatch times e held before now → CountsBatch times seen held before now
-  counts_batch_seen times held seen before now is relations same h = record {
+  pub counts_lines_seen : (r : Result ℕ DoneRefusal) (lines : List HeldLine) (seen : Kept) (before now : ℕ)
+      → seen.registered ≡ all → (seen.store).relations ≡ (e.store).relations → CountsLines r e lines before now
+      → CountsLines r seen lines before now
+  counts_lines_seen r lines seen before now is relations h = record {
     counted = λ n bounded.
-        let change = rows_held e.store held in
-        let bound = subst (λ (c : RowsChange). AreBounded seen c n (λ q. false)) same bounded in
+        let rs = (e.store).relations in
+        let change = lines_change rs lines in
+        let bound = subst (λ (xs : List Relation). AreBounded seen (lines_change xs lines) n (λ q. false)) relations
+        bounded in
         let low = h.counted n (bounded_seen change seen is relations n (λ q. false) bound) in
-        let more = readers_count change (λ q. times * update_steps change (n + length held) q) in
-        subst (λ (c : RowsChange). now ≤ before
-        + sum_by (λ (r : Registered). times * update_steps c (n + length held) r.query) (readers_of seen.registered c))
-        (sym same)
-        (subst (λ (rs : List Registered). now ≤ before
-        + sum_by (λ (r : Registered). times * update_steps change (n + length held) r.query) (readers_of rs change))
-        (sym is)
+        let more = readers_count change (λ q. lines_steps rs lines n r q) in
+        subst (λ (xs : List Relation). now ≤ before
+        + sum_by (λ (r' : Registered). lines_steps xs lines n r r'.query)
+        (readers_of seen.registered (lines_change xs lines))) (sym relations)
+        (subst (λ (all : List Registered). now ≤ before
+        + sum_by (λ (r' : Registered). lines_steps rs lines n r r'.query) (readers_of all change)) (sym is)
         (omega (arith, low, more)));
   }

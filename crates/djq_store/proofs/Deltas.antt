@@ -15,7 +15,7 @@ use Rattle.djq_store_spec.specs.Registering.{atoms_of}
 use Rattle.djq_store_spec.specs.Changes.{RowsChange}
 use Rattle.djq_store_spec.specs.Delta.{Change, IsDelta}
 use Rattle.djq_store_spec.specs.DeltaCost.{Part, Delta, is_touched, ArePartsOf, AreDeltas, changes_steps, parts_steps}
-use Rattle.djq_store_spec.specs.DeltaCost.{listed_steps, delta_steps}
+use Rattle.djq_store_spec.specs.DeltaCost.{listed_steps, delta_steps, ListsAnswers, ListsDelta}
 use Rattle.djq_answer_laws.proofs.Lists.{first_there, later_there, pairs_head, pairs_tail, hold_each}
 use Rattle.djq_engine.specs.Kept.{Kept, Registered, same_query, told_at}
 use Rattle.djq_engine.specs.Watching.{LogTells, LogsTell}
@@ -29,12 +29,18 @@ changes_in [] ds i = []
 changes_in (r ∷ rs) [] i = []
 changes_in (r ∷ rs) (d ∷ ds) i = cond (r.id.at == i) d.changes (changes_in rs ds i)
 
+-- and how many were listed of it
+abbrev pub listed_in : List Registered → List Delta → ℕ → ℕ
+listed_in [] ds i = 0
+listed_in (r ∷ rs) [] i = 0
+listed_in (r ∷ rs) (d ∷ ds) i = cond (r.id.at == i) d.listed (listed_in rs ds i)
+
 module _ (before : List Relation) (change : RowsChange) (h : ℕ → Query) (k : Kept) where
   -- what the deltas of registered queries say of these, by place
-  pub record ByPlace (rs : List Registered) (ds : List Delta) (f : ℕ → List Change) : Type 0 where
+  pub record ByPlace (rs : List Registered) (ds : List Delta) (f : ℕ → List Change) (n : ℕ → ℕ) : Type 0 where
     pub deltas : All (λ r. IsDelta (IsAnswer before (h r.id.at)) (IsAnswer change.after (h r.id.at)) (f r.id.at)) rs
-    pub steps : sum_by (delta_steps change) ds
-        ≡ sum_by (λ r. changes_steps change (h r.id.at) (length (f r.id.at))) rs
+    pub list : All (λ r. ListsAnswers before change (h r.id.at) (f r.id.at) (n r.id.at)) rs
+    pub steps : sum_by (delta_steps change) ds ≡ sum_by (λ r. changes_steps change (h r.id.at) (n r.id.at)) rs
     pub logs : LogsTell k rs ds → All (λ r. (told_at k r.id ≡ None) ⊎ (told_at k r.id ≡ Some (f r.id.at))) rs
 
   abbrev pub IsQuery : Registered → Type 0
@@ -43,9 +49,10 @@ module _ (before : List Relation) (change : RowsChange) (h : ℕ → Query) (k :
   abbrev pub Apart : Registered → Registered → Type 0
   Apart r s = same_query r.id s.id ≡ false
 
-  none_by_place : (ds : List Delta) → map (λ d. d.query) ds ≡ [] → ByPlace [] ds (changes_in [] ds)
+  none_by_place : (ds : List Delta) → map (λ d. d.query) ds ≡ [] → ByPlace [] ds (changes_in [] ds) (listed_in [] ds)
   none_by_place [] e = record {
     deltas = All-nil (λ r. IsDelta (IsAnswer before (h r.id.at)) (IsAnswer change.after (h r.id.at)) []);
+    list = All-nil (λ r. ListsAnswers before change (h r.id.at) [] 0);
     steps = refl;
     logs = λ l. All-nil (λ r. (told_at k r.id ≡ None) ⊎ (told_at k r.id ≡ Some []));
   }
@@ -55,9 +62,19 @@ module _ (before : List Relation) (change : RowsChange) (h : ℕ → Query) (k :
   module _ (r : Registered) (rs : List Registered) (d : Delta) (ds : List Delta) (query : IsQuery r)
       (apart : All (Apart r) rs) (of : d.query ≡ r.query)
       (delta : IsDelta (AnswersOf before d.query) (AnswersOf change.after d.query) d.changes)
-      (rest : ByPlace rs ds (changes_in rs ds)) where
+      (lists_d : ListsDelta before change d) (rest : ByPlace rs ds (changes_in rs ds) (listed_in rs ds)) where
     abbrev f : ℕ → List Change
     f = changes_in (r ∷ rs) (d ∷ ds)
+
+    abbrev n : ℕ → ℕ
+    n = listed_in (r ∷ rs) (d ∷ ds)
+
+    here_listed : n r.id.at ≡ d.listed
+    here_listed = ap (λ b. cond b d.listed (listed_in rs ds r.id.at)) (eq-eqb r.id.at r.id.at refl)
+
+    behind_listed : (s : Registered) → Contains rs s → n s.id.at ≡ listed_in rs ds s.id.at
+    behind_listed s c =
+        ap (λ b. cond b d.listed (listed_in rs ds s.id.at)) (All-contains (Apart r) rs s apart c)
 
     here : f r.id.at ≡ d.changes
     here = ap (λ b. cond b d.changes (changes_in rs ds r.id.at)) (eq-eqb r.id.at r.id.at refl)
@@ -75,6 +92,18 @@ module _ (before : List Relation) (change : RowsChange) (h : ℕ → Query) (k :
     first_delta = subst (λ cs. IsDelta (IsAnswer before (h r.id.at)) (IsAnswer change.after (h r.id.at)) cs) (sym here)
         (subst (λ (q : Listed). IsDelta (AnswersOf before q) (AnswersOf change.after q) d.changes) is_query delta)
 
+    abbrev ListsAt : Registered → (ℕ → List Change) → (ℕ → ℕ) → Type 0
+    ListsAt s g m = ListsAnswers before change (h s.id.at) (g s.id.at) (m s.id.at)
+
+    first_list : ListsAt r f n
+    first_list = subst (λ cs. ListsAnswers before change (h r.id.at) cs (n r.id.at)) (sym here)
+        (subst (λ m. ListsAnswers before change (h r.id.at) d.changes m) (sym here_listed)
+        (subst (λ (q : Listed). ListsDelta before change (record d { query = q })) is_query lists_d))
+
+    more_list : (s : Registered) → Contains rs s → ListsAt s (changes_in rs ds) (listed_in rs ds) → ListsAt s f n
+    more_list s c l = subst (λ cs. ListsAnswers before change (h s.id.at) cs (n s.id.at)) (sym (behind s c))
+        (subst (λ m. ListsAnswers before change (h s.id.at) (changes_in rs ds s.id.at) m) (sym (behind_listed s c)) l)
+
     abbrev Tells : Registered → (ℕ → List Change) → Type 0
     Tells s g = (told_at k s.id ≡ None) ⊎ (told_at k s.id ≡ Some (g s.id.at))
 
@@ -86,32 +115,35 @@ module _ (before : List Relation) (change : RowsChange) (h : ℕ → Query) (k :
     tells_first (inl e) = inl e
     tells_first (inr e) = inr (e ∙ ap Some (sym here))
 
-    abbrev steps_of : (ℕ → List Change) → Registered → ℕ
-    steps_of g s = changes_steps change (h s.id.at) (length (g s.id.at))
+    abbrev steps_of : (ℕ → ℕ) → Registered → ℕ
+    steps_of m s = changes_steps change (h s.id.at) (m s.id.at)
 
-    first_steps : delta_steps change d ≡ steps_of f r
+    first_steps : delta_steps change d ≡ steps_of n r
     first_steps =
-        ap (λ (q : Listed). listed_steps change q (length d.changes) d.parts) is_query
-        ∙ ap (λ (cs : List Change). changes_steps change (h r.id.at) (length cs)) (sym here)
+        ap (λ (q : Listed). listed_steps change q d.listed d.parts) is_query
+        ∙ ap (λ (m : ℕ). changes_steps change (h r.id.at) m) (sym here_listed)
 
-    more_by_place : ByPlace (r ∷ rs) (d ∷ ds) f
+    more_by_place : ByPlace (r ∷ rs) (d ∷ ds) f n
     more_by_place = record {
       deltas = All-cons (λ s. At s f) r rs first_delta
           (hold_each (λ s. At s f) rs (λ s c.
           subst (λ cs. IsDelta (IsAnswer before (h s.id.at)) (IsAnswer change.after (h s.id.at)) cs) (sym (behind s c))
           (All-contains (λ t. At t (changes_in rs ds)) rs s rest.deltas c)));
+      list = All-cons (λ s. ListsAt s f n) r rs first_list
+          (hold_each (λ s. ListsAt s f n) rs (λ s c.
+          more_list s c (All-contains (λ t. ListsAt t (changes_in rs ds) (listed_in rs ds)) rs s rest.list c)));
       steps = sum_by-cons (delta_steps change) d ds ∙ ap₂ (λ m n. m + n) first_steps
-          (rest.steps ∙ sum_same (steps_of (changes_in rs ds)) (steps_of f) rs
-          (hold_each (λ s. steps_of (changes_in rs ds) s ≡ steps_of f s) rs
-          (λ s c. ap (λ (cs : List Change). changes_steps change (h s.id.at) (length cs)) (sym (behind s c)))))
-          ∙ sym (sum_by-cons (steps_of f) r rs);
+          (rest.steps ∙ sum_same (steps_of (listed_in rs ds)) (steps_of n) rs
+          (hold_each (λ s. steps_of (listed_in rs ds) s ≡ steps_of n s) rs
+          (λ s c. ap (λ (m : ℕ). changes_steps change (h s.id.at) m) (sym (behind_listed s c)))))
+          ∙ sym (sum_by-cons (steps_of n) r rs);
       logs = λ l. All-cons (λ s. Tells s f) r rs (tells_first l.0)
           (hold_each (λ s. Tells s f) rs
           (λ s c. tells_more s c (All-contains (λ t. Tells t (changes_in rs ds)) rs s (rest.logs l.1) c)));
     }
 
   pub all_by_place : (rs : List Registered) (ds : List Delta) → All IsQuery rs → AllPairs Apart rs
-      → AreDeltas before change (map (λ r. r.query) rs) ds → ByPlace rs ds (changes_in rs ds)
+      → AreDeltas before change (map (λ r. r.query) rs) ds → ByPlace rs ds (changes_in rs ds) (listed_in rs ds)
   all_by_place [] ds queries apart h = none_by_place ds h.of_queries
   all_by_place (r ∷ rs) [] queries apart h = absurd (let e = h.of_queries in cc)
   all_by_place (r ∷ rs) (d ∷ ds) queries apart are =
@@ -120,11 +152,13 @@ module _ (before : List Relation) (change : RowsChange) (h : ℕ → Query) (k :
       (first_same d.query (map (λ (e : Delta). e.query) ds) r.query (map (λ (s : Registered). s.query) rs)
       are.of_queries)
       (All-head Deltas d ds are.are_deltas)
+      (All-head (ListsDelta before change) d ds are.list)
       (all_by_place rs ds (All-tail IsQuery r rs queries) (pairs_tail Apart r rs apart) (record {
         of_queries = rest_same d.query (map (λ (e : Delta). e.query) ds) r.query
             (map (λ (s : Registered). s.query) rs) are.of_queries;
         are_deltas = All-tail Deltas d ds are.are_deltas;
         have_parts = All-tail (ArePartsOf before change) d ds are.have_parts;
+        list = All-tail (ListsDelta before change) d ds are.list;
       }))
     where
       first_same : (a : Listed) (more : List Listed) (b : Listed) (bs : List Listed) → a ∷ more ≡ b ∷ bs → a ≡ b
@@ -135,7 +169,7 @@ module _ (before : List Relation) (change : RowsChange) (h : ℕ → Query) (k :
 
 -- ---- the deltas of what a store has registered
 
-module _ (before : List Relation) (change : RowsChange) (h : ℕ → Query) (f : ℕ → List Change)
+module _ (before : List Relation) (change : RowsChange) (h : ℕ → Query) (f : ℕ → List Change) (n : ℕ → ℕ)
     (members : ℕ → Option (List ℕ)) (places : List ℕ) where
   -- whether a member reads a relation that changes
   abbrev pub touched : ℕ → Bool
@@ -153,10 +187,10 @@ module _ (before : List Relation) (change : RowsChange) (h : ℕ → Query) (f :
   -- what telling a union counts, beside what its members' deltas do
   abbrev pub asking : Option (List ℕ) → ℕ
   asking None = 0
-  asking (Some ms) = sum_by (λ m. length (f m) * atoms_of (map h ms)) (filter touched ms)
+  asking (Some ms) = sum_by (λ m. n m * atoms_of (map h ms)) (filter touched ms)
 
   abbrev pub steps_at : ℕ → ℕ
-  steps_at m = changes_steps change (h m) (length (f m))
+  steps_at m = changes_steps change (h m) (n m)
 
   -- What is registered is the query in its place, or a union of queries in places.
   abbrev pub IsListedAs : Option (List ℕ) → Registered → Type 0
@@ -168,24 +202,28 @@ module _ (before : List Relation) (change : RowsChange) (h : ℕ → Query) (f :
     pub of : d.query ≡ r.query
     pub delta : IsDelta (AnswersOf before d.query) (AnswersOf change.after d.query) d.changes
     pub parts : ArePartsOf before change d
+    pub list : ListsDelta before change d
     pub log : Log r d.changes
     pub steps : sum_by steps_at (asked r) + asking (members r.id.at) ≤ delta_steps change d
 
   module _ (Log : Registered → List Change → Type 0)
-      (deltas : (m : ℕ) → Contains places m → IsDelta (IsAnswer before (h m)) (IsAnswer change.after (h m)) (f m)) where
+      (deltas : (m : ℕ) → Contains places m → IsDelta (IsAnswer before (h m)) (IsAnswer change.after (h m)) (f m))
+      (listed : (m : ℕ) → Contains places m → ListsAnswers before change (h m) (f m) (n m)) where
     -- of a query
 
     query_delta : (r : Registered) → members r.id.at ≡ None → r.query ≡ a_query (h r.id.at)
         → Contains places r.id.at → Log r (f r.id.at) → (d : Delta) × IsDeltaOf Log r d
     query_delta r none is among log = (
-      record { query = a_query (h r.id.at); changes = f r.id.at; parts = [] },
+      record { query = a_query (h r.id.at); changes = f r.id.at; listed = n r.id.at; parts = [] },
       record {
         of = sym is;
         delta = deltas r.id.at among;
         parts = record {
           of_members = refl;
           are_deltas = All-nil (λ p. IsDelta (IsAnswer before p.query) (IsAnswer change.after p.query) p.changes);
+          list = All-nil (λ p. ListsAnswers before change p.query p.changes p.listed);
         };
+        list = listed r.id.at among;
         log = log;
         steps = subst (λ (o : Option (List ℕ)).
             sum_by steps_at (asked_of o r.id.at) + asking o ≤ steps_at r.id.at) (sym none) (omega arith);
@@ -195,7 +233,7 @@ module _ (before : List Relation) (change : RowsChange) (h : ℕ → Query) (f :
     -- of a union
 
     abbrev part_at : ℕ → Part
-    part_at m = record { query = h m; changes = f m }
+    part_at m = record { query = h m; changes = f m; listed = n m }
 
     touched_mapped : (ms : List ℕ) → map h (filter touched ms) ≡ filter (is_touched change) (map h ms)
     touched_mapped [] = refl
@@ -211,19 +249,24 @@ module _ (before : List Relation) (change : RowsChange) (h : ℕ → Query) (f :
     of_parts [] = refl
     of_parts (m ∷ ms) = ap (λ qs. h m ∷ qs) (of_parts ms)
 
-    steps_of_parts : (n : ℕ) (ms : List ℕ) → parts_steps change n (map part_at ms)
-        ≡ sum_by (λ m. steps_at m + length (f m) * n) ms
-    steps_of_parts n [] = refl
-    steps_of_parts n (m ∷ ms) =
-        ap (λ k. steps_at m + length (f m) * n + k) (steps_of_parts n ms)
-        ∙ sym (sum_by-cons (λ m. steps_at m + length (f m) * n) m ms)
+    steps_of_parts : (all : ℕ) (ms : List ℕ) → parts_steps change all (map part_at ms)
+        ≡ sum_by (λ m. steps_at m + n m * all) ms
+    steps_of_parts all [] = refl
+    steps_of_parts all (m ∷ ms) =
+        ap (λ k. steps_at m + n m * all + k) (steps_of_parts all ms)
+        ∙ sym (sum_by-cons (λ m. steps_at m + n m * all) m ms)
 
     union_delta : (r : Registered) (ms : List ℕ) (name : Bytes) (changes : List Change) → members r.id.at ≡ Some ms
         → r.query ≡ a_union name (map h ms) → ((m : ℕ) → Contains (filter touched ms) m → Contains places m)
         → IsDelta (AnswersOf before r.query) (AnswersOf change.after r.query) changes → Log r changes
         → (d : Delta) × IsDeltaOf Log r d
     union_delta r ms name changes some is among delta log = (
-      record { query = a_union name (map h ms); changes = changes; parts = map part_at (filter touched ms) },
+      record {
+        query = a_union name (map h ms);
+        changes = changes;
+        listed = 0;
+        parts = map part_at (filter touched ms);
+      },
       record {
         of = sym is;
         delta = subst (λ (q : Listed). IsDelta (AnswersOf before q) (AnswersOf change.after q) changes) is delta;
@@ -234,12 +277,17 @@ module _ (before : List Relation) (change : RowsChange) (h : ℕ → Query) (f :
               (filter touched ms)
               (hold_each (λ m. IsDelta (IsAnswer before (h m)) (IsAnswer change.after (h m)) (f m))
               (filter touched ms) (λ m c. deltas m (among m c)));
+          list = All-map (λ (p : Part). ListsAnswers before change p.query p.changes p.listed) part_at
+              (filter touched ms)
+              (hold_each (λ m. ListsAnswers before change (h m) (f m) (n m)) (filter touched ms)
+              (λ m c. listed m (among m c)));
         };
+        list = tt;
         log = log;
         steps = subst (λ (o : Option (List ℕ)). sum_by steps_at (asked_of o r.id.at) + asking o
             ≤ parts_steps change (atoms_of (map h ms)) (map part_at (filter touched ms))) (sym some)
             (let a = steps_of_parts (atoms_of (map h ms)) (filter touched ms) in
-            let b = sum_plus steps_at (λ m. length (f m) * atoms_of (map h ms)) (filter touched ms) in
+            let b = sum_plus steps_at (λ m. n m * atoms_of (map h ms)) (filter touched ms) in
             omega (arith, a, b));
       },
     )
@@ -297,11 +345,15 @@ module _ (before : List Relation) (change : RowsChange) (h : ℕ → Query) (f :
     Deltas d = IsDelta (AnswersOf before d.query) (AnswersOf change.after d.query) d.changes
 
     for_deltas : (rs : List Registered) (ds : List Delta) → AreFor rs ds
-        → All Deltas ds × All (ArePartsOf before change) ds
-    for_deltas [] [] a = (All-nil Deltas, All-nil (ArePartsOf before change))
+        → All Deltas ds × All (ArePartsOf before change) ds × All (ListsDelta before change) ds
+    for_deltas [] [] a =
+        (All-nil Deltas, All-nil (ArePartsOf before change), All-nil (ListsDelta before change))
     for_deltas (r ∷ rs) (d ∷ ds) a =
-        let more = for_deltas rs ds a.1 in
-        (All-cons Deltas d ds a.0.delta more.0, All-cons (ArePartsOf before change) d ds a.0.parts more.1)
+        let more = for_deltas rs ds a.1 in (
+          All-cons Deltas d ds a.0.delta more.0,
+          All-cons (ArePartsOf before change) d ds a.0.parts more.1,
+          All-cons (ListsDelta before change) d ds a.0.list more.2,
+        )
     for_deltas [] (d ∷ ds) a = absurd a
     for_deltas (r ∷ rs) [] a = absurd a
 
@@ -346,21 +398,27 @@ module _ (before : List Relation) (change : RowsChange) (h : ℕ → Query) (f :
         let within = for_steps rs ds.0 ds.1 in
         record {
           list = ds.0;
-          are = record { of_queries = for_queries rs ds.0 ds.1; are_deltas = all.0; have_parts = all.1 };
+          are = record {
+            of_queries = for_queries rs ds.0 ds.1;
+            are_deltas = all.0;
+            have_parts = all.1;
+            list = all.2;
+          };
           each = ds.1;
           steps = omega (arith, left, covered, flat, both, within);
         }
 
 -- what the logs tell of them
 pub logs_tell : (before : List Relation) (change : RowsChange) (h : ℕ → Query) (f : ℕ → List Change)
-    (members : ℕ → Option (List ℕ)) (places : List ℕ) (k : Kept)
+    (n : ℕ → ℕ) (members : ℕ → Option (List ℕ)) (places : List ℕ) (k : Kept)
     → (deltas : (m : ℕ) → Contains places m → IsDelta (IsAnswer before (h m)) (IsAnswer change.after (h m)) (f m))
+    → (listed : (m : ℕ) → Contains places m → ListsAnswers before change (h m) (f m) (n m))
     → (rs : List Registered) (ds : List Delta)
-    → AreFor before change h f members places (λ r cs. (told_at k r.id ≡ None) ⊎ (told_at k r.id ≡ Some cs)) deltas rs
-    ds
+    → AreFor before change h f n members places (λ r cs. (told_at k r.id ≡ None) ⊎ (told_at k r.id ≡ Some cs)) deltas
+    listed rs ds
     → LogsTell k rs ds
-logs_tell before change h f members places k deltas [] [] a = tt
-logs_tell before change h f members places k deltas (r ∷ rs) (d ∷ ds) a =
-    (a.0.log, logs_tell before change h f members places k deltas rs ds a.1)
-logs_tell before change h f members places k deltas [] (d ∷ ds) a = absurd a
-logs_tell before change h f members places k deltas (r ∷ rs) [] a = absurd a
+logs_tell before change h f n members places k deltas listed [] [] a = tt
+logs_tell before change h f n members places k deltas listed (r ∷ rs) (d ∷ ds) a =
+    (a.0.log, logs_tell before change h f n members places k deltas listed rs ds a.1)
+logs_tell before change h f n members places k deltas listed [] (d ∷ ds) a = absurd a
+logs_tell before change h f n members places k deltas listed (r ∷ rs) [] a = absurd a

@@ -12,10 +12,10 @@ pub mod WantedQueries
 pub mod AffectedQueries
 pub mod Reports
 pub mod RowCommands
+pub mod LineCommands
 pub mod Lookups
 pub mod Watchers
 pub mod UnionWatchers
-pub mod RowBatches
 pub mod Registrations
 pub mod VacatedPlaces
 pub mod Drops

@@ -16,16 +16,15 @@ use Rattle.djq_protocol.specs.declared.answer.AddOutcome.{AddOutcome}
 use Rattle.djq_protocol.specs.declared.answer.AddOutcome.TheVariants.{First, More}
 use Rattle.djq_protocol.specs.declared.answer.DeleteOutcome.{DeleteOutcome}
 use Rattle.djq_protocol.specs.declared.answer.DeleteOutcome.TheVariants.{Last, Left, Absent}
-use Rattle.djq_protocol.specs.declared.held.HeldRow.{HeldRow}
+use Rattle.djq_protocol.specs.declared.held.DoneRefusal.{DoneRefusal}
 use Rattle.djq_protocol.specs.Conditions.{Answers, OutOfMemoryWhere}
 use Rattle.djq_store_spec.specs.Store.{Store}
 use Rattle.djq_store_spec.specs.Relations.{with_rows, RefusedByTexts, MakesRelation, rel_refusal}
 use Rattle.djq_store_spec.specs.Rows.{copies_of, with_copies_of, AddsAs, AddsRow, add_refusal, DeletesAs, DeletesRow}
 use Rattle.djq_store_spec.specs.Rows.{delete_refusal}
+use Rattle.djq_store_spec.specs.Held.{HeldLine}
+use Rattle.djq_store_spec.specs.Transaction.{CarriesOut, DoesAll}
 use Rattle.djq_store_spec.specs.Changes.{RowsChange, accepted, out_of_memory}
-use Rattle.djq_store_spec.specs.Batch.{SuitAll, is_there, with_held, with_all, count_came, has_come, store_behind}
-use Rattle.djq_store_spec.specs.Batch.{HavePlaces, BatchStopsAt, AddsBatch, first_read, rows_held, rows_tried}
-use Rattle.djq_store_spec.specs.Batch.{batch_outcome}
 use Rattle.djq_live_query.specs.Live.{Live}
 use Rattle.djq_reach.specs.Places.{place_at}
 use Rattle.djq_engine.specs.Kept.{Kept, Registered, registered_at, KeepsTables, KeepsQuery}
@@ -179,115 +178,18 @@ module _ (qs : List Listed) where
 
   -- ---- `done`
 
-  pub held_lifted : (st : Store) (h : HeldRow) → with_held (with_queries qs st) h ≡ with_queries qs (with_held st h)
-  held_lifted st h = by (is_there st h)
-    where
-      more : Store
-      more = record st {
-        relations = with_copies_of st.relations h.relation h.row (copies_of st h.relation h.row + 1);
-      }
+  carried_lifted : (old : Store) (lines : List HeldLine) (r : Result ℕ DoneRefusal) (new : Store)
+      → CarriesOut old lines r new → CarriesOut (with_queries qs old) lines r (with_queries qs new)
+  carried_lifted old lines (Ok n) new h = (h.0, ap (with_queries qs) h.1)
+  carried_lifted old lines (Err r) new h = (h.0, ap (with_queries qs) h.1)
 
-      one : Store
-      one = record st {
-        relations = with_rows st.relations h.relation (with_row (counted_of st.relations h.relation) h.row);
-        texts = all_learned st.texts (texts_in h.row);
-      }
-
-      by : (b : Bool) → cond b (with_queries qs more) (with_queries qs one) ≡ with_queries qs (cond b more one)
-      by true = refl
-      by false = refl
-
-  pub all_lifted : (st : Store) (held : List HeldRow)
-      → with_all (with_queries qs st) held ≡ with_queries qs (with_all st held)
-  all_lifted st [] = refl
-  all_lifted st (h ∷ hs) = ap (λ (m : Store). with_all m hs) (held_lifted st h) ∙ all_lifted (with_held st h) hs
-
-  count_lifted : (st : Store) (held : List HeldRow) → count_came (with_queries qs st) held ≡ count_came st held
-  count_lifted st [] = refl
-  count_lifted st (h ∷ hs) =
-      ap (λ (n : ℕ). cond (is_there st h) 0 1 + n)
-      (ap (λ (m : Store). count_came m hs) (held_lifted st h) ∙ count_lifted (with_held st h) hs)
-
-  pub come_lifted : (st : Store) (held : List HeldRow) (name : Bytes)
-      → has_come (with_queries qs st) held name ≡ has_come st held name
-  come_lifted st [] name = refl
-  come_lifted st (h ∷ hs) name =
-      ap (λ (b : Bool). (bytes_eq h.relation name && not (is_there st h)) || b)
-      (ap (λ (m : Store). has_come m hs name) (held_lifted st h) ∙ come_lifted (with_held st h) hs name)
-
-  places_lifted : (st : Store) (held : List HeldRow) → HavePlaces st held → HavePlaces (with_queries qs st) held
-  places_lifted st [] h = tt
-  places_lifted st (k ∷ ks) h = (
-    h.0,
-    subst (λ (m : Store). length m.texts ≤ TEXTS) (sym (held_lifted st k)) h.1,
-    subst (λ (m : Store). HavePlaces m ks) (sym (held_lifted st k)) (places_lifted (with_held st k) ks h.2),
-  )
-
-  stops_lifted : (st : Store) (h : HeldRow) (known : List Bytes) (r : Refusal) → BatchStopsAt st h known r
-      → BatchStopsAt (with_queries qs st) h known r
-  stops_lifted st h known Limit k = k
-  stops_lifted st h known NoMemory k = k
-  stops_lifted st h known _ k = absurd k
-
-  behind_lifted : (st : Store) (held : List HeldRow)
-      → store_behind (with_queries qs st) held ≡ with_queries qs (store_behind st held)
-  behind_lifted st held =
-      ap (λ (m : Store). behind m (count_came (with_queries qs st) held)) (all_lifted st held)
-      ∙ ap (λ (n : ℕ). behind (with_queries qs (with_all st held)) n) (count_lifted st held)
-      ∙ by (count_came st held)
-    where
-      behind : Store → ℕ → Store
-      behind after zero = after
-      behind after (suc n) = record after { seq = st.seq + 1 }
-
-      by : (n : ℕ) → behind (with_queries qs (with_all st held)) n ≡ with_queries qs (behind (with_all st held) n)
-      by zero = refl
-      by (suc n) = refl
-
-  pub batch_lifted : (old : Store) (held : List HeldRow) (r : Result ℕ Refusal) (new : Store)
-      → AddsBatch old held r new → AddsBatch (with_queries qs old) held r (with_queries qs new)
-  batch_lifted old held (Ok n) new h = (
-    places_lifted old held h.0,
-    h.1 ∙ sym (count_lifted old held),
-    ap (with_queries qs) h.2 ∙ sym (behind_lifted old held),
-  )
-  batch_lifted old held (Err r) new h = record {
-    front = h.front;
-    at = h.at;
-    rest = h.rest;
-    parts = h.parts;
-    places = places_lifted old h.front h.places;
-    stops = subst (λ (m : Store). BatchStopsAt m h.at new.texts r) (sym (all_lifted old h.front))
-        (stops_lifted (with_all old h.front) h.at new.texts r h.stops);
-    stays = ap (with_queries qs) h.stays;
+  pub does_lifted : (old : Store) (lines : List HeldLine) (given : Option ℕ) (r : Result ℕ DoneRefusal) (new : Store)
+      → DoesAll old lines given r new → DoesAll (with_queries qs old) lines given r (with_queries qs new)
+  does_lifted old lines given r new h = record {
+    answer = h.answer;
+    does = carried_lifted old lines r new h.does;
+    counted = h.counted;
   }
-
-  pub suit_lifted : (st : Store) (held : List HeldRow) → SuitAll (with_queries qs st) held → SuitAll st held
-  suit_lifted st held h = h
-
-  -- the change is the same
-
-  come_same : (st : Store) (held : List HeldRow) → has_come (with_queries qs st) held ≡ has_come st held
-  come_same st held = λ i name. come_lifted st held name i
-
-  pub rows_lifted : (st : Store) (held : List HeldRow) → rows_held (with_queries qs st) held ≡ rows_held st held
-  rows_lifted st held =
-      ap₂ (λ (m : Store) (come : Bytes → Bool). record {
-        after = m.relations;
-        outdater = first_read held come;
-        touches = come;
-      }) (all_lifted st held) (come_same st held)
-
-  tried_lifted : (st : Store) (held : List HeldRow) → rows_tried (with_queries qs st) held ≡ rows_tried st held
-  tried_lifted st held =
-      ap (λ (change : RowsChange). record change { outdater = first_read held (λ name. true) }) (rows_lifted st held)
-
-  pub outcome_lifted : (st : Store) (held : List HeldRow) (r : Result ℕ Refusal)
-      → batch_outcome (with_queries qs st) held r ≡ batch_outcome st held r
-  outcome_lifted st held (Ok zero) = refl
-  outcome_lifted st held (Ok (suc n)) = ap accepted (rows_lifted st held)
-  outcome_lifted st held (Err NoMemory) = ap out_of_memory (tried_lifted st held)
-  outcome_lifted st held (Err r) = refl
 
 -- ---- A relation that is made changes nothing but that.
 

@@ -40,7 +40,7 @@ use Rattle.djq_gains.specs.Gains.{TellUnion}
 use Rattle.djq_gains.proofs.DeltaLines.{twice_mapped}
 use Rattle.djq_store.specs.declared.joined.Joined.{Joined}
 use Rattle.djq_store.specs.declared.settling.Turn.{Turn}
-use Rattle.djq_store.specs.declared.settling.Turn.TheVariants.{Came, Went, Lacked}
+use Rattle.djq_store.specs.declared.settling.Turn.TheVariants.{Changed, Lacked}
 use Rattle.djq_store.specs.Places.{joined_at, first_member, told_of_union, store_seen, listed_at, registered_as}
 use Rattle.djq_store.specs.Places.{union_watchers}
 use Rattle.djq_store.specs.Whole.{IsListed, IsCounted}
@@ -50,11 +50,12 @@ use Rattle.djq_store.specs.Watching.{TellsChange, is_reached}
 use Rattle.djq_store.proofs.ChangedStores.{told_low, told_high, now, first, told_now, told_nothing, some_delta}
 use Rattle.djq_store.proofs.ChangedStores.{all_stay, Behind, first_outdates, first_get}
 use Rattle.djq_store.proofs.EngineChanges.{First, first_there}
-use Rattle.djq_store.proofs.AffectedQueries.{GoRows, told_place, union_delta, asked_few, filter_mapped}
+use Rattle.djq_store.proofs.AffectedQueries.{told_place, union_delta, asked_few, filter_mapped}
 use Rattle.djq_store.proofs.Costs.{slots_few, mapped_was, seen_there, sum_mapped, kept_was}
 use Rattle.djq_store.proofs.Deltas.{Lists, logs_tell, asking, steps_at}
 use Rattle.djq_store.proofs.Places.{Joint, order_seat, order_joint, joint_order, listed_seat, listed_joint}
 use Rattle.djq_store.proofs.Places.{registered_has, Slot, cases_place, high_place}
+use Rattle.djq_store.proofs.WantedQueries.{HalvesSpareOthers, n, listed}
 use Rattle.djq_store.proofs.WantedQueries.{rs, places, f, q_at, members_at, members_in_slot, by_places, deltas}
 use Rattle.djq_store.proofs.WantedQueries.{all_lists, low_of}
 
@@ -158,20 +159,13 @@ module _ (e : Kept) (b : IsEngine e) (us : List (Option Joined)) (order sessions
 
 -- ---- A change that was made, one for which memory was refused, and none: what a store makes known of it.
 
--- how rows changed, where they did
-abbrev pub turn_for : Bool → Turn
-turn_for true = Came
-turn_for false = Went
-
 -- the log of a watched union that is outdated tells its delta
-tells_log : (came : Bool) (e' : Kept) (relations : List Bytes) (j : Joined) (log : Log) → nat_lt 0 j.watchers ≡ true
-    → (r : Option Bytes) → is_some r ≡ true → SettlesLogBy r e' relations (turn_for came) j log
-    → TellsUnionLog e' relations came j log
-tells_log came e' relations j log watched None miss s = absurd (false≢true miss)
-tells_log true e' relations j log watched (Some r) hit s =
-    subst (λ (x : Bool). TellsWatched x e' relations true j log) watched s
-tells_log false e' relations j log watched (Some r) hit s =
-    subst (λ (x : Bool). TellsWatched x e' relations false j log) watched s
+tells_log : (e' : Kept) (relations : List Bytes) (j : Joined) (log : Log) → nat_lt 0 j.watchers ≡ true
+    → (r : Option Bytes) → is_some r ≡ true → SettlesLogBy r e' relations Changed j log
+    → TellsUnionLog e' relations j log
+tells_log e' relations j log watched None miss s = absurd (false≢true miss)
+tells_log e' relations j log watched (Some r) hit s =
+    subst (λ (x : Bool). TellsWatched x e' relations j log) watched s
 
 -- what is counted by two tests
 cond_few : (a b : Bool) (x n : ℕ) → (a ≡ true → b ≡ true → x ≤ n) → cond a (cond b x 0) 0 ≤ n
@@ -184,22 +178,17 @@ cond_some true true x h = (refl, refl)
 cond_some true false x h = absurd (omega (arith, h))
 cond_some false b x h = absurd (omega (arith, h))
 
-settling_few : (came : Bool) (e' : Kept) (relations : List Bytes) (j : Joined) (n : ℕ)
+settling_few : (e' : Kept) (relations : List Bytes) (j : Joined) (n : ℕ)
     → (nat_lt 0 j.watchers ≡ true → asking_steps e' relations j.union.members ≤ n)
-    → settling_steps e' relations (turn_for came) (Some j) ≤ n
-settling_few true e' relations j n h =
-    cond_few (is_settled e' relations (Some j)) (nat_lt 0 j.watchers) (asking_steps e' relations j.union.members) n
-    (λ a b. h b)
-settling_few false e' relations j n h =
+    → settling_steps e' relations Changed (Some j) ≤ n
+settling_few e' relations j n h =
     cond_few (is_settled e' relations (Some j)) (nat_lt 0 j.watchers) (asking_steps e' relations j.union.members) n
     (λ a b. h b)
 
-settling_some : (came : Bool) (e' : Kept) (relations : List Bytes) (j : Joined)
-    → 0 < settling_steps e' relations (turn_for came) (Some j)
+settling_some : (e' : Kept) (relations : List Bytes) (j : Joined)
+    → 0 < settling_steps e' relations Changed (Some j)
     → (is_settled e' relations (Some j) ≡ true) × (nat_lt 0 j.watchers ≡ true)
-settling_some true e' relations j h =
-    cond_some (is_settled e' relations (Some j)) (nat_lt 0 j.watchers) (asking_steps e' relations j.union.members) h
-settling_some false e' relations j h =
+settling_some e' relations j h =
     cond_some (is_settled e' relations (Some j)) (nat_lt 0 j.watchers) (asking_steps e' relations j.union.members) h
 
 settling_lacked : (e' : Kept) (relations : List Bytes) (us : List (Option Joined))
@@ -229,16 +218,16 @@ ids_of_all e us sessions order change =
 
 -- ---- a change that was made
 
-module _ (change : RowsChange) (relations : List Bytes) (came : Bool) (e e' : Kept) (us us' : List (Option Joined))
-    (b : Behind (Some change) relations (turn_for came) e e' us us') (order : List ℕ) (w : IsListed e us order)
+module _ (change : RowsChange) (relations : List Bytes) (e e' : Kept) (us us' : List (Option Joined))
+    (b : Behind (Some change) relations Changed e e' us us') (order : List ℕ) (w : IsListed e us order)
     (sessions affected affected' : List ℕ) (c : IsCounted e us sessions) (before mid last : ℕ)
     (t : engine.EngineTellsChange e (accepted change) e' before mid)
     (spares : SparesOthers (e.store).relations change)
     (out : (q : Query) → is_touched change q ≡ true → is_outdated change (a_query q) ≡ true)
+    (half : HalvesSpareOthers (e.store).relations change.halves change.touches)
     (hits : (q : Query) → is_touched change q ≡ list_any (reads q) relations)
     (after : (e'.store).relations ≡ change.after)
-    (way : GoRows came (e.store).relations change.after)
-    (counted : last ≤ mid + sum_by (settling_steps e' relations (turn_for came)) us)
+    (counted : last ≤ mid + sum_by (settling_steps e' relations Changed) us)
     (affects : affected' ≡ filter (λ at. is_outdated change (listed_at e.places us at)) order) where
   abbrev eds : List Delta
   eds = t.deltas
@@ -250,16 +239,19 @@ module _ (change : RowsChange) (relations : List Bytes) (came : Bool) (e e' : Ke
   new = store_seen e' us' order sessions affected'
 
   abbrev fs : ℕ → List Change
-  fs = f change relations (turn_for came) e e' us us' b order w sessions c eds t.listed spares out
+  fs = f change relations Changed e e' us us' b order w sessions c eds t.listed spares out half
+
+  abbrev ns : ℕ → ℕ
+  ns = n change relations Changed e e' us us' b order w sessions c eds t.listed spares out half
 
   abbrev ps : List ℕ
-  ps = places change relations (turn_for came) e e' us us' b order w sessions c eds t.listed spares out
+  ps = places change relations Changed e e' us us' b order w sessions c eds t.listed spares out half
 
   abbrev qs : ℕ → Query
-  qs = q_at change relations (turn_for came) e e' us us' b order w sessions c eds t.listed spares out
+  qs = q_at change relations Changed e e' us us' b order w sessions c eds t.listed spares out half
 
   abbrev all : List Registered
-  all = rs change relations (turn_for came) e e' us us' b order w sessions c eds t.listed spares out
+  all = rs change relations Changed e e' us us' b order w sessions c eds t.listed spares out half
 
   abbrev LogAt : ℕ → List Change → Type 0
   LogAt at cs = (told_at new (id_at at) ≡ None) ⊎ (told_at new (id_at at) ≡ Some cs)
@@ -269,10 +261,10 @@ module _ (change : RowsChange) (relations : List Bytes) (came : Bool) (e e' : Ke
       let r = mapped_was (λ (s : Registered). s.id.at) (affected_of e.registered change) at k in
       let was = kept_was (λ (s : Registered). is_outdated change s.query && is_watched s) e.registered r.0 r.1 in
       let low : at < QUERIES = subst (λ (i : ℕ). i < QUERIES) r.2
-      (low_of change relations (turn_for came) e e' us us' b order w sessions c eds t.listed spares out r.0 was.0) in
+      (low_of change relations Changed e e' us us' b order w sessions c eds t.listed spares out half r.0 was.0) in
       let same = told_low e' b.did.after us' order sessions affected' at low in
-      by same (told_place change relations (turn_for came) e e' us us' b order w sessions c eds t.listed spares out hits
-      after came way t.logs at k)
+      by same (told_place change relations Changed e e' us us' b order w sessions c eds t.listed spares out half hits
+      after t.logs at k)
     where
       by : {x y : Option (List Change)} {cs : List Change} → x ≡ y → (y ≡ None) ⊎ (y ≡ Some cs)
           → (x ≡ None) ⊎ (x ≡ Some cs)
@@ -283,22 +275,20 @@ module _ (change : RowsChange) (relations : List Bytes) (came : Bool) (e e' : Ke
   union_by : (k : ℕ) (j : Joined) (there : joined_at us k ≡ Some j) → 0 < j.watchers → (log : Log) (l : Live)
       → told_at new (id_at (QUERIES + k)) ≡ cond log.lost None (Some (map (change_of (e'.store).texts l) log.lines))
       → first_of_members (queries_at e'.places j.union.members) ≡ Some l
-      → TellsUnionLog e' relations came j log → (lost : Bool) → log.lost ≡ lost
+      → TellsUnionLog e' relations j log → (lost : Bool) → log.lost ≡ lost
       → (changes : List Change) × IsDelta (AnswersOf (e.store).relations (union_of e.places j.union))
       (AnswersOf change.after (union_of e.places j.union)) changes × LogAt (QUERIES + k) changes
   union_by k j there some log l says at tells true h =
-      let d = some_delta (Some change) relations (turn_for came) e e' us us' b order w k j there (e.store).relations
+      let d = some_delta (Some change) relations Changed e e' us us' b order w k j there (e.store).relations
       change.after in
       (d.0, d.1, inl (says ∙ ap (λ (x : Bool). cond x None (Some (map (change_of (e'.store).texts l) log.lines))) h))
   union_by k j there some log l says at tells false h =
-      let tell : TellUnion e' j.union.members (touched_in e'.places relations j.union.members) came log.lines l =
+      let tell : TellUnion e' j.union.members (touched_in e'.places relations j.union.members) log.lines l =
       subst (λ (o : Option Live). IsSomeAnd o
-      (TellUnion e' j.union.members (touched_in e'.places relations j.union.members) came log.lines))
+      (TellUnion e' j.union.members (touched_in e'.places relations j.union.members) log.lines))
       (first_get (queries_at e'.places j.union.members) ∙ at) (tells h) in (
         map (change_of (e'.store).texts l) log.lines,
-        union_delta change relations (turn_for came) e e' us us' b order w sessions c eds t.listed spares out hits after
-            came
-            way t.logs k j there some log.lines l tell,
+        union_delta change relations Changed e e' us us' b order w sessions c eds t.listed spares out half hits after t.logs k j there some log.lines l tell,
         inr (says ∙ ap (λ (x : Bool). cond x None (Some (map (change_of (e'.store).texts l) log.lines))) h),
       )
 
@@ -307,51 +297,52 @@ module _ (change : RowsChange) (relations : List Bytes) (came : Bool) (e e' : Ke
       → (changes : List Change) × IsDelta (AnswersOf (e.store).relations (union_of e.places j.union))
       (AnswersOf change.after (union_of e.places j.union)) changes × LogAt (QUERIES + k) changes
   tells_union k j there hit some =
-      let x = now (Some change) relations (turn_for came) e e' us us' b order w k j there in
-      let l = first (Some change) relations (turn_for came) e e' us us' b order w k j there in
+      let x = now (Some change) relations Changed e e' us us' b order w k j there in
+      let l = first (Some change) relations Changed e e' us us' b order w k j there in
       let reached : is_some (first_read_by e'.places relations j.union.members) ≡ true =
-      ap is_some (first_outdates (Some change) relations (turn_for came) e e' us us' b j.union (w.united k j there))
+      ap is_some (first_outdates (Some change) relations Changed e e' us us' b j.union (w.united k j there))
       ∙ hit in
       union_by k j there some (x.after).log l.new
       (told_high e' b.did.after us' order sessions affected' k
-      ∙ told_now (Some change) relations (turn_for came) e e' us us' b order w k j there)
+      ∙ told_now (Some change) relations Changed e e' us us' b order w k j there)
       l.now
-      (tells_log came e' relations j (x.after).log (lt-ltb 0 j.watchers some)
+      (tells_log e' relations j (x.after).log (lt-ltb 0 j.watchers some)
       (first_read_by e'.places relations j.union.members) reached (x.settles).log)
       (x.after).log.lost refl
 
-  list : Lists (e.store).relations change qs fs (members_at us) ps
+  list : Lists (e.store).relations change qs fs ns (members_at us) ps
       (λ r cs. LogAt r.id.at cs)
-      (deltas change relations (turn_for came) e e' us us' b order w sessions c eds t.listed spares out) all
-  list = all_lists change relations (turn_for came) e e' us us' b order w sessions c eds t.listed spares out LogAt
+      (deltas change relations Changed e e' us us' b order w sessions c eds t.listed spares out half)
+      (listed change relations Changed e e' us us' b order w sessions c eds t.listed spares out half) all
+  list = all_lists change relations Changed e e' us us' b order w sessions c eds t.listed spares out half LogAt
       tells_query tells_union
 
   -- what unions count
 
   abbrev asks : Registered → ℕ
-  asks r = asking (e.store).relations change qs fs (members_at us) ps (members_at us r.id.at)
+  asks r = asking (e.store).relations change qs fs ns (members_at us) ps (members_at us r.id.at)
 
   settling_asks : (k : ℕ) (x : Option Joined) → joined_at us k ≡ x
-      → settling_steps e' relations (turn_for came) x
-      ≤ asking (e.store).relations change qs fs (members_at us) ps (members_in_slot x)
+      → settling_steps e' relations Changed x
+      ≤ asking (e.store).relations change qs fs ns (members_at us) ps (members_in_slot x)
   settling_asks k None there = omega arith
   settling_asks k (Some j) there =
-      settling_few came e' relations j
-      (asking (e.store).relations change qs fs (members_at us) ps (Some j.union.members))
-      (λ watched. asked_few change relations (turn_for came) e e' us us' b order w sessions c eds t.listed spares out
+      settling_few e' relations j
+      (asking (e.store).relations change qs fs ns (members_at us) ps (Some j.union.members))
+      (λ watched. asked_few change relations Changed e e' us us' b order w sessions c eds t.listed spares out half
       hits
-      after came way t.logs k j there (ltb-true 0 j.watchers watched))
+      after t.logs k j there (ltb-true 0 j.watchers watched))
 
-  among : (k : ℕ) (x : Option Joined) → joined_at us k ≡ x → 0 < settling_steps e' relations (turn_for came) x
+  among : (k : ℕ) (x : Option Joined) → joined_at us k ≡ x → 0 < settling_steps e' relations Changed x
       → (r : Registered) × Contains all r × (r.id.at ≡ QUERIES + k)
   among k None there some = absurd (omega (arith, some))
   among k (Some j) there some =
-      let hits_both = settling_some came e' relations j some in
+      let hits_both = settling_some e' relations j some in
       let joint : Joint us k = record { union = j; there = there } in
       let r = registered_as e.places us sessions (QUERIES + k) in
       let reached : is_outdated change r.query ≡ true =
       ap (is_outdated change) (listed_joint e.places us k joint)
-      ∙ sym (ap is_some (first_outdates (Some change) relations (turn_for came) e e' us us' b j.union
+      ∙ sym (ap is_some (first_outdates (Some change) relations Changed e e' us us' b j.union
       (w.united k j there)))
       ∙ hits_both.0 in
       let watched : is_watched r ≡ true =
@@ -366,22 +357,22 @@ module _ (change : RowsChange) (relations : List Bytes) (came : Bool) (e e' : Ke
         refl,
       )
 
-  fewer : sum_by (settling_steps e' relations (turn_for came)) us ≤ sum_by asks all
-  fewer = slots_few (settling_steps e' relations (turn_for came)) us all asks refl
+  fewer : sum_by (settling_steps e' relations Changed) us ≤ sum_by asks all
+  fewer = slots_few (settling_steps e' relations Changed) us all asks refl
       (λ k some. among k (joined_at us k) refl some)
-      (λ k r d at. subst (λ (n : ℕ). settling_steps e' relations (turn_for came) (joined_at us k)
-      ≤ asking (e.store).relations change qs fs (members_at us) ps (members_at us n)) (sym at)
-      (subst (λ (o : Option (List ℕ)). settling_steps e' relations (turn_for came) (joined_at us k)
-      ≤ asking (e.store).relations change qs fs (members_at us) ps o)
+      (λ k r d at. subst (λ (n : ℕ). settling_steps e' relations Changed (joined_at us k)
+      ≤ asking (e.store).relations change qs fs ns (members_at us) ps (members_at us n)) (sym at)
+      (subst (λ (o : Option (List ℕ)). settling_steps e' relations Changed (joined_at us k)
+      ≤ asking (e.store).relations change qs fs ns (members_at us) ps o)
       (sym (high_place k (λ i. None) (λ i. members_in_slot (joined_at us i))))
       (settling_asks k (joined_at us k) refl)))
 
   pub tells_accepted : TellsChange old (accepted change) new before last
   tells_accepted =
       let engine_steps : sum_by (delta_steps change) eds
-      ≡ sum_by (steps_at (e.store).relations change qs fs (members_at us) ps) ps =
-      (by_places change relations (turn_for came) e e' us us' b order w sessions c eds t.listed spares out).steps
-      ∙ sym (sum_mapped (steps_at (e.store).relations change qs fs (members_at us) ps) (λ (r : Registered). r.id.at)
+      ≡ sum_by (steps_at (e.store).relations change qs fs ns (members_at us) ps) ps =
+      (by_places change relations Changed e e' us us' b order w sessions c eds t.listed spares out half).steps
+      ∙ sym (sum_mapped (steps_at (e.store).relations change qs fs ns (members_at us) ps) (λ (r : Registered). r.id.at)
       (affected_of e.registered change)) in
       let first = t.counted in
       let steps = list.steps in
@@ -391,11 +382,12 @@ module _ (change : RowsChange) (relations : List Bytes) (came : Bool) (e e' : Ke
         listed = list.are;
         counted = omega (arith, engine_steps, first, steps, less, counted);
         affected = ap (map id_at) affects ∙ sym (ids_of_all e us sessions order change);
-        logs = logs_tell (e.store).relations change qs fs (members_at us) ps new
-            (deltas change relations (turn_for came) e e' us us' b order w sessions c eds t.listed spares out) all
+        logs = logs_tell (e.store).relations change qs fs ns (members_at us) ps new
+            (deltas change relations Changed e e' us us' b order w sessions c eds t.listed spares out half)
+            (listed change relations Changed e e' us us' b order w sessions c eds t.listed spares out half) all
             list.list list.each;
         discards = tt;
-        stays = all_stay (Some change) relations (turn_for came) e e' us us' b order w sessions affected affected'
+        stays = all_stay (Some change) relations Changed e e' us us' b order w sessions affected affected'
             (λ id h. t.stays id (some_as (registered_at e.registered id) (λ r. is_reached (Some change) r ≡ false)
             (λ r. engine.reaches (accepted change) r ≡ false)
             (λ r miss. ap (λ (x : Bool). x && is_watched r) miss) h));
@@ -409,15 +401,18 @@ module _ (change : RowsChange) (relations : List Bytes) (e e' : Kept) (us us' : 
     (t : engine.EngineTellsChange e (out_of_memory change) e' before mid)
     (spares : SparesOthers (e.store).relations change)
     (out : (q : Query) → is_touched change q ≡ true → is_outdated change (a_query q) ≡ true)
+    (half : HalvesSpareOthers (e.store).relations change.halves change.touches)
     (counted : last ≤ mid + sum_by (settling_steps e' relations Lacked) us)
     (affects : affected' ≡ affected) where
   refused_list : Lists (e.store).relations change
-      (q_at change relations Lacked e e' us us' b order w sessions c t.deltas t.listed spares out)
-      (f change relations Lacked e e' us us' b order w sessions c t.deltas t.listed spares out) (members_at us)
-      (places change relations Lacked e e' us us' b order w sessions c t.deltas t.listed spares out)
-      (λ r cs. ⊤) (deltas change relations Lacked e e' us us' b order w sessions c t.deltas t.listed spares out)
-      (rs change relations Lacked e e' us us' b order w sessions c t.deltas t.listed spares out)
-  refused_list = all_lists change relations Lacked e e' us us' b order w sessions c t.deltas t.listed spares out
+      (q_at change relations Lacked e e' us us' b order w sessions c t.deltas t.listed spares out half)
+      (f change relations Lacked e e' us us' b order w sessions c t.deltas t.listed spares out half)
+      (n change relations Lacked e e' us us' b order w sessions c t.deltas t.listed spares out half) (members_at us)
+      (places change relations Lacked e e' us us' b order w sessions c t.deltas t.listed spares out half)
+      (λ r cs. ⊤) (deltas change relations Lacked e e' us us' b order w sessions c t.deltas t.listed spares out half)
+      (listed change relations Lacked e e' us us' b order w sessions c t.deltas t.listed spares out half)
+      (rs change relations Lacked e e' us us' b order w sessions c t.deltas t.listed spares out half)
+  refused_list = all_lists change relations Lacked e e' us us' b order w sessions c t.deltas t.listed spares out half
       (λ at cs. ⊤)
       (λ at k. tt)
       (λ k j there hit some.
@@ -453,13 +448,14 @@ module _ (change : RowsChange) (relations : List Bytes) (e e' : Kept) (us us' : 
   pub tells_refused : TellsChange (store_seen e us order sessions affected) (out_of_memory change)
       (store_seen e' us' order sessions affected') before last
   tells_refused =
-      let ps = places change relations Lacked e e' us us' b order w sessions c t.deltas t.listed spares out in
-      let qs = q_at change relations Lacked e e' us us' b order w sessions c t.deltas t.listed spares out in
-      let fs = f change relations Lacked e e' us us' b order w sessions c t.deltas t.listed spares out in
+      let ps = places change relations Lacked e e' us us' b order w sessions c t.deltas t.listed spares out half in
+      let qs = q_at change relations Lacked e e' us us' b order w sessions c t.deltas t.listed spares out half in
+      let fs = f change relations Lacked e e' us us' b order w sessions c t.deltas t.listed spares out half in
+      let ns = n change relations Lacked e e' us us' b order w sessions c t.deltas t.listed spares out half in
       let engine_steps : sum_by (delta_steps change) t.deltas
-      ≡ sum_by (steps_at (e.store).relations change qs fs (members_at us) ps) ps =
-      (by_places change relations Lacked e e' us us' b order w sessions c t.deltas t.listed spares out).steps
-      ∙ sym (sum_mapped (steps_at (e.store).relations change qs fs (members_at us) ps) (λ (r : Registered). r.id.at)
+      ≡ sum_by (steps_at (e.store).relations change qs fs ns (members_at us) ps) ps =
+      (by_places change relations Lacked e e' us us' b order w sessions c t.deltas t.listed spares out half).steps
+      ∙ sym (sum_mapped (steps_at (e.store).relations change qs fs ns (members_at us) ps) (λ (r : Registered). r.id.at)
       (affected_of e.registered change)) in
       let first = t.counted in
       let steps = refused_list.steps in

@@ -29,7 +29,7 @@ use Rattle.djq_store_spec.specs.Rows.{AddsRow, AddsAs, add_refusal, DeletesRow, 
 use Rattle.djq_store_spec.specs.Relations.{RefusedByTexts}
 use Rattle.djq_answer_laws.specs.Growing.{SparesOthers}
 use Rattle.djq_answer_laws.proofs.Lists.{hold_each, some_there, or_false}
-use Rattle.djq_answer_laws.proofs.Choices.{row_comes, row_goes, one_spares}
+use Rattle.djq_answer_laws.proofs.Choices.{one_spares}
 use Rattle.djq_live_query.specs.Member.{query_at}
 use Rattle.djq_reach.specs.Places.{is_reader}
 use Rattle.djq_reach.proofs.PlacedQueries.{place_below}
@@ -42,7 +42,7 @@ use Rattle.djq_engine.specs.Laws.{IsEngine}
 use Rattle.djq_store.specs.declared.joined.Joined.{Joined}
 use Rattle.djq_store.specs.declared.parts.Parts.{Parts}
 use Rattle.djq_store.specs.declared.settling.Turn.{Turn}
-use Rattle.djq_store.specs.declared.settling.Turn.TheVariants.{Lacked}
+use Rattle.djq_store.specs.declared.settling.Turn.TheVariants.{Changed, Lacked}
 use Rattle.djq_store.specs.Affecting.{is_reached_id, is_member_reached, is_affected}
 use Rattle.djq_store.specs.Following.{AffectsAll, FollowsAffected, FollowsBy, following_steps, add_turn, delete_turn}
 use Rattle.djq_store.specs.Following.{IfMade}
@@ -52,7 +52,7 @@ use Rattle.djq_store.specs.Settling.{SettlesAt, AreUnionsUnwatched}
 use Rattle.djq_store.specs.Watching.{TellsChange}
 use Rattle.djq_store.specs.Whole.{IsListed, IsCounted, StoreIsWhole, wants}
 use Rattle.djq_store.proofs.EngineChanges.{StayingLaws, grown_members, kept_shapes}
-use Rattle.djq_store.proofs.AffectedQueries.{GoRows, affected_order, affected_queries}
+use Rattle.djq_store.proofs.AffectedQueries.{affected_order, affected_queries}
 use Rattle.djq_store.proofs.UnionSlots.{SameIn, SameUnions}
 use Rattle.djq_store.proofs.ChangedStores.{Behind, Did, same, all_listed, all_counted, registered_behind}
 use Rattle.djq_store.proofs.ChangedStores.{queries_behind, outdates_behind}
@@ -60,37 +60,38 @@ use Rattle.djq_store.proofs.Costs.{mapped_was, seen_there, engine_ordered, kept_
 use Rattle.djq_store.proofs.Readers.{filter_few, filter_same}
 use Rattle.djq_store.proofs.Relations.{with_queries, adds_lifted, deletes_lifted}
 use Rattle.djq_store.proofs.Places.{joint_order, high_place, low_place, count_none}
-use Rattle.djq_store.proofs.Reports.{turn_for, tells_accepted, tells_refused, tells_none}
-use Rattle.djq_store.proofs.WantedQueries.{found_itself}
+use Rattle.djq_store.proofs.Reports.{tells_accepted, tells_refused, tells_none}
+use Rattle.djq_store.proofs.WantedQueries.{found_itself, HalvesSpareOthers}
 
 -- ---- A command of rows, as a store's engine did it and its unions followed: what it is to the store.
 
 -- ---- what is known of the change
 
 -- of one that was made
-pub record IsMade (e e' : Kept) (came : Bool) (relations : List Bytes) (change : RowsChange) : Type 0 where
+pub record IsMade (e e' : Kept) (relations : List Bytes) (change : RowsChange) : Type 0 where
   pub outdater : (q : Listed) → change.outdater q ≡ find (listed_reads q) relations
   pub spares : SparesOthers (e.store).relations change
   pub out : (q : Query) → is_touched change q ≡ true → is_outdated change (a_query q) ≡ true
   pub hits : (q : Query) → is_touched change q ≡ list_any (reads q) relations
+  pub half : HalvesSpareOthers (e.store).relations change.halves change.touches
   pub after : (e'.store).relations ≡ change.after
-  pub way : GoRows came (e.store).relations change.after
 
 -- of one for which memory was refused
 pub record IsTried (e : Kept) (relations : List Bytes) (change : RowsChange) : Type 0 where
   pub outdater : (q : Listed) → change.outdater q ≡ find (listed_reads q) relations
   pub spares : SparesOthers (e.store).relations change
   pub out : (q : Query) → is_touched change q ≡ true → is_outdated change (a_query q) ≡ true
+  pub half : HalvesSpareOthers (e.store).relations change.halves change.touches
 
-abbrev pub IsKnown : Kept → Kept → Bool → List Bytes → RowsOutcome → Type 0
-IsKnown e e' came relations (accepted change) = IsMade e e' came relations change
-IsKnown e e' came relations (out_of_memory change) = IsTried e relations change
-IsKnown e e' came relations unchanged = ⊤
+abbrev pub IsKnown : Kept → Kept → List Bytes → RowsOutcome → Type 0
+IsKnown e e' relations (accepted change) = IsMade e e' relations change
+IsKnown e e' relations (out_of_memory change) = IsTried e relations change
+IsKnown e e' relations unchanged = ⊤
 
-abbrev pub turn_by : Bool → RowsOutcome → Option Turn
-turn_by came (accepted change) = Some (turn_for came)
-turn_by came (out_of_memory change) = Some Lacked
-turn_by came unchanged = None
+abbrev pub turn_by : RowsOutcome → Option Turn
+turn_by (accepted change) = Some Changed
+turn_by (out_of_memory change) = Some Lacked
+turn_by unchanged = None
 
 -- the parts of a store over another engine
 abbrev pub over : Parts → Kept → Parts
@@ -117,11 +118,6 @@ affected_alike g us us' s at =
     by None (Some j) k = absurd k
     by (Some j) None k = absurd k
     by (Some j) (Some x) k = ap (list_any g) k.members
-
-affects_by : (came : Bool) (relations : List Bytes) (old new : Parts)
-    → FollowsAffected (turn_for came) relations old new → AffectsAll relations old new
-affects_by true relations old new h = h
-affects_by false relations old new h = h
 
 -- ---- where nothing is read, unions stay
 
@@ -180,16 +176,16 @@ module _ (p p' : Parts) (e' : Kept) (engine : p'.engine ≡ e') (order : p'.orde
 
 -- ---- by what came of it
 
-pub comes_to : (outcome : RowsOutcome) (p p' : Parts) (e' : Kept) (came : Bool) (relations : List Bytes)
+pub comes_to : (outcome : RowsOutcome) (p p' : Parts) (e' : Kept) (relations : List Bytes)
     (before mid last : ℕ) → StoreIsWhole p → StayingLaws → Did p.engine (tried outcome) e'
-    → watching.EngineTellsChange p.engine outcome e' before mid → IsKnown p.engine e' came relations outcome
-    → FollowsBy (turn_by came outcome) relations (over p e') p'
-    → last ≤ mid + following_steps (turn_by came outcome) e' relations p.unions.items
+    → watching.EngineTellsChange p.engine outcome e' before mid → IsKnown p.engine e' relations outcome
+    → FollowsBy (turn_by outcome) relations (over p e') p'
+    → last ≤ mid + following_steps (turn_by outcome) e' relations p.unions.items
     → Comes p p' e' outcome before last
-comes_to (accepted change) p p' e' came relations before mid last w laws did tells known follows counted =
+comes_to (accepted change) p p' e' relations before mid last w laws did tells known follows counted =
     let us = p.unions.items in
     let us' = p'.unions.items in
-    let b : Behind (Some change) relations (turn_for came) p.engine e' us us' = record {
+    let b : Behind (Some change) relations Changed p.engine e' us us' = record {
       laws = laws;
       did = did;
       outdater = known.outdater;
@@ -197,12 +193,12 @@ comes_to (accepted change) p p' e' came relations before mid last w laws did tel
       unions = follows.unions;
     } in
     comes p p' e' follows.engine follows.order follows.sessions (Some change) (accepted change) refl relations
-    (turn_for came) b w follows.room before last
-    (tells_accepted change relations came p.engine e' us us' b p.order.items w.listed p.sessions.items p.affected.items
-    p'.affected.items w.counted before mid last tells known.spares known.out known.hits known.after known.way counted
-    (by b (affects_by came relations (over p e') p' follows.affected)))
+    Changed b w follows.room before last
+    (tells_accepted change relations p.engine e' us us' b p.order.items w.listed p.sessions.items p.affected.items
+    p'.affected.items w.counted before mid last tells known.spares known.out known.half known.hits known.after counted
+    (by b follows.affected))
   where
-    by : Behind (Some change) relations (turn_for came) p.engine e' p.unions.items p'.unions.items
+    by : Behind (Some change) relations Changed p.engine e' p.unions.items p'.unions.items
         → AffectsAll relations (over p e') p'
         → p'.affected.items ≡ filter (λ at. is_outdated change (listed_at p.engine.places p.unions.items at))
         p.order.items
@@ -211,14 +207,14 @@ comes_to (accepted change) p p' e' came relations before mid last w laws did tel
         ∙ filter_same (is_affected (is_reached_id e'.affected) p'.unions.items)
         (is_affected (is_reached_id e'.affected) p.unions.items)
         p.order.items (λ at k. affected_alike (is_reached_id e'.affected) p.unions.items p'.unions.items
-        (same (Some change) relations (turn_for came) p.engine e' p.unions.items p'.unions.items b) at)
-        ∙ affected_order change relations (turn_for came) p.engine e' p.unions.items p'.unions.items b p.order.items
+        (same (Some change) relations Changed p.engine e' p.unions.items p'.unions.items b) at)
+        ∙ affected_order change relations Changed p.engine e' p.unions.items p'.unions.items b p.order.items
         w.listed tells.affected
     by b (inr h) =
-        h.1 ∙ affected_queries change relations (turn_for came) p.engine e' p.unions.items p'.unions.items b
+        h.1 ∙ affected_queries change relations Changed p.engine e' p.unions.items p'.unions.items b
         p.order.items
         w.listed tells.affected h.0
-comes_to (out_of_memory change) p p' e' came relations before mid last w laws did tells known follows counted =
+comes_to (out_of_memory change) p p' e' relations before mid last w laws did tells known follows counted =
     let us = p.unions.items in
     let us' = p'.unions.items in
     let b : Behind (Some change) relations Lacked p.engine e' us us' = record {
@@ -231,9 +227,9 @@ comes_to (out_of_memory change) p p' e' came relations before mid last w laws di
     comes p p' e' follows.engine follows.order follows.sessions (Some change) (out_of_memory change) refl relations
     Lacked b w follows.room before last
     (tells_refused change relations p.engine e' us us' b p.order.items w.listed p.sessions.items p.affected.items
-    p'.affected.items w.counted before mid last tells known.spares known.out counted
+    p'.affected.items w.counted before mid last tells known.spares known.out known.half counted
     (ap (λ v. v.items) follows.affected))
-comes_to unchanged p p' e' came relations before mid last w laws did tells known follows counted =
+comes_to unchanged p p' e' relations before mid last w laws did tells known follows counted =
     subst (λ (x : Parts). Comes p x e' unchanged before last) (sym follows)
     (let b : Behind None [] Lacked p.engine e' p.unions.items p.unions.items = record {
       laws = laws;
@@ -344,14 +340,14 @@ one_out name q e = ap (λ (b : Bool). is_some (cond b (Some name) None)) e
 add_made : (e e' : Kept) (name : Bytes) (row : Tuple) (r : Result AddOutcome Refusal) (o : Option Refusal)
     → Answers o r (AddsAs e.store name row e'.store)
     (λ s. (has_row (rows_of (e.store).relations name) row ≡ false) × RefusedByTexts e.store (texts_in row) e'.store s)
-    → IsKnown e e' true (name ∷ []) (add_outcome (row_in (e.store).relations name row) r)
+    → IsKnown e e' (name ∷ []) (add_outcome (row_in (e.store).relations name row) r)
 add_made e e' name row (Ok First) None h = record {
   outdater = λ q. refl;
   spares = (one_spares (e.store).relations name row).0;
   out = one_out name;
   hits = λ q. sym (or_false (reads q name));
+  half = tt;
   after = ap (λ (st : Store). st.relations) h.2;
-  way = row_comes (e.store).relations name row;
 }
 add_made e e' name row (Ok First) (Some s) h = absurd h
 add_made e e' name row (Ok (More n)) o h = tt
@@ -359,15 +355,16 @@ add_made e e' name row (Err NoMemory) o h = record {
   outdater = λ q. refl;
   spares = (one_spares (e.store).relations name row).0;
   out = one_out name;
+  half = tt;
 }
 add_made e e' name row (Err s) o h = tt
 
 pub add_known : (e e' : Kept) (name : Bytes) (row : Tuple) (r : Result AddOutcome Refusal)
     → AddsRow e.store name row r e'.store
-    → IsKnown e e' true (name ∷ []) (add_outcome (row_in (e.store).relations name row) r)
+    → IsKnown e e' (name ∷ []) (add_outcome (row_in (e.store).relations name row) r)
 add_known e e' name row r h = add_made e e' name row r (add_refusal e.store name row) h.answer
 
-pub add_turns : (change : RowsChange) (r : Result AddOutcome Refusal) → add_turn r ≡ turn_by true (add_outcome change r)
+pub add_turns : (change : RowsChange) (r : Result AddOutcome Refusal) → add_turn r ≡ turn_by (add_outcome change r)
 add_turns change (Ok First) = refl
 add_turns change (Ok (More n)) = refl
 add_turns change (Err NoMemory) = refl
@@ -408,14 +405,14 @@ add_grows law old new name row r h = add_texts law old new name row r (add_refus
 
 delete_made : (e e' : Kept) (name : Bytes) (row : Tuple) (r : Result DeleteOutcome Refusal) (o : Option Refusal)
     → Answers o r (DeletesAs e.store name row e'.store) (OutOfMemoryWhere ⊥)
-    → IsKnown e e' false (name ∷ []) (delete_outcome (row_out (e.store).relations name row) r)
+    → IsKnown e e' (name ∷ []) (delete_outcome (row_out (e.store).relations name row) r)
 delete_made e e' name row (Ok Last) None h = record {
   outdater = λ q. refl;
   spares = (one_spares (e.store).relations name row).1;
   out = one_out name;
   hits = λ q. sym (or_false (reads q name));
+  half = tt;
   after = ap (λ (st : Store). st.relations) h.2;
-  way = row_goes (e.store).relations name row;
 }
 delete_made e e' name row (Ok Last) (Some s) h = absurd h
 delete_made e e' name row (Ok (Left n)) o h = tt
@@ -424,11 +421,11 @@ delete_made e e' name row (Err s) o h = tt
 
 pub delete_known : (e e' : Kept) (name : Bytes) (row : Tuple) (r : Result DeleteOutcome Refusal)
     → DeletesRow e.store name row r e'.store
-    → IsKnown e e' false (name ∷ []) (delete_outcome (row_out (e.store).relations name row) r)
+    → IsKnown e e' (name ∷ []) (delete_outcome (row_out (e.store).relations name row) r)
 delete_known e e' name row r h = delete_made e e' name row r (delete_refusal e.store name row) h.answer
 
 pub delete_turns : (change : RowsChange) (r : Result DeleteOutcome Refusal)
-    → delete_turn r ≡ turn_by false (delete_outcome change r)
+    → delete_turn r ≡ turn_by (delete_outcome change r)
 delete_turns change (Ok Last) = refl
 delete_turns change (Ok (Left n)) = refl
 delete_turns change (Ok Absent) = refl
@@ -450,44 +447,42 @@ delete_grows old new name row r h = delete_texts old new name row r (delete_refu
 
 -- ---- what following asks for
 
-made_low : (p : Parts) (e' : Kept) → IsEngine p.engine → (came : Bool) (outcome : RowsOutcome) (before mid : ℕ)
+made_low : (p : Parts) (e' : Kept) → IsEngine p.engine → (outcome : RowsOutcome) (before mid : ℕ)
     → watching.EngineTellsChange p.engine outcome e' before mid
-    → IfMade (turn_by came outcome) (All (λ (id : QueryId). id.at < QUERIES) e'.affected)
-made_low p e' b true (accepted change) before mid t = affected_low p.engine e' b change t.affected
-made_low p e' b false (accepted change) before mid t = affected_low p.engine e' b change t.affected
-made_low p e' b came (out_of_memory change) before mid t = tt
-made_low p e' b came unchanged before mid t = tt
+    → IfMade (turn_by outcome) (All (λ (id : QueryId). id.at < QUERIES) e'.affected)
+made_low p e' b (accepted change) before mid t = affected_low p.engine e' b change t.affected
+made_low p e' b (out_of_memory change) before mid t = tt
+made_low p e' b unchanged before mid t = tt
 
-made_few : (p : Parts) (e' : Kept) → StoreIsWhole p → (came : Bool) (outcome : RowsOutcome) (before mid : ℕ)
+made_few : (p : Parts) (e' : Kept) → StoreIsWhole p → (outcome : RowsOutcome) (before mid : ℕ)
     → watching.EngineTellsChange p.engine outcome e' before mid
-    → IfMade (turn_by came outcome) (length e'.affected ≤ vec_capacity p.affected)
-made_few p e' w true (accepted change) before mid t = affected_few p e' w change t.affected
-made_few p e' w false (accepted change) before mid t = affected_few p e' w change t.affected
-made_few p e' w came (out_of_memory change) before mid t = tt
-made_few p e' w came unchanged before mid t = tt
+    → IfMade (turn_by outcome) (length e'.affected ≤ vec_capacity p.affected)
+made_few p e' w (accepted change) before mid t = affected_few p e' w change t.affected
+made_few p e' w (out_of_memory change) before mid t = tt
+made_few p e' w unchanged before mid t = tt
 
 -- with the turn that the code chose
-pub turn_low : (p : Parts) (e' : Kept) → IsEngine p.engine → (came : Bool) (outcome : RowsOutcome) (turn : Option Turn)
-    → turn ≡ turn_by came outcome → (before mid : ℕ) → watching.EngineTellsChange p.engine outcome e' before mid
+pub turn_low : (p : Parts) (e' : Kept) → IsEngine p.engine → (outcome : RowsOutcome) (turn : Option Turn)
+    → turn ≡ turn_by outcome → (before mid : ℕ) → watching.EngineTellsChange p.engine outcome e' before mid
     → IfMade turn (All (λ (id : QueryId). id.at < QUERIES) e'.affected)
-turn_low p e' b came outcome turn is before mid t =
+turn_low p e' b outcome turn is before mid t =
     subst (λ (x : Option Turn). IfMade x (All (λ (id : QueryId). id.at < QUERIES) e'.affected)) (sym is)
-    (made_low p e' b came outcome before mid t)
+    (made_low p e' b outcome before mid t)
 
-pub turn_few : (p : Parts) (e' : Kept) → StoreIsWhole p → (came : Bool) (outcome : RowsOutcome) (turn : Option Turn)
-    → turn ≡ turn_by came outcome → (before mid : ℕ) → watching.EngineTellsChange p.engine outcome e' before mid
+pub turn_few : (p : Parts) (e' : Kept) → StoreIsWhole p → (outcome : RowsOutcome) (turn : Option Turn)
+    → turn ≡ turn_by outcome → (before mid : ℕ) → watching.EngineTellsChange p.engine outcome e' before mid
     → IfMade turn (length e'.affected ≤ vec_capacity p.affected)
-turn_few p e' w came outcome turn is before mid t =
+turn_few p e' w outcome turn is before mid t =
     subst (λ (x : Option Turn). IfMade x (length e'.affected ≤ vec_capacity p.affected)) (sym is)
-    (made_few p e' w came outcome before mid t)
+    (made_few p e' w outcome before mid t)
 
-pub turn_comes : (p p' : Parts) (e' : Kept) (came : Bool) (relations : List Bytes) (outcome : RowsOutcome)
-    (turn : Option Turn) → turn ≡ turn_by came outcome → (before mid last : ℕ) → StoreIsWhole p → StayingLaws
+pub turn_comes : (p p' : Parts) (e' : Kept) (relations : List Bytes) (outcome : RowsOutcome)
+    (turn : Option Turn) → turn ≡ turn_by outcome → (before mid last : ℕ) → StoreIsWhole p → StayingLaws
     → Did p.engine (tried outcome) e' → watching.EngineTellsChange p.engine outcome e' before mid
-    → IsKnown p.engine e' came relations outcome → FollowsBy turn relations (over p e') p'
+    → IsKnown p.engine e' relations outcome → FollowsBy turn relations (over p e') p'
     → last ≤ mid + following_steps turn e' relations p.unions.items → Comes p p' e' outcome before last
-turn_comes p p' e' came relations outcome turn is before mid last w laws did t known follows counted =
-    comes_to outcome p p' e' came relations before mid last w laws did t known
+turn_comes p p' e' relations outcome turn is before mid last w laws did t known follows counted =
+    comes_to outcome p p' e' relations before mid last w laws did t known
     (subst (λ (x : Option Turn). FollowsBy x relations (over p e') p') is follows)
     (subst (λ (x : Option Turn). last ≤ mid + following_steps x e' relations p.unions.items) is counted)
 

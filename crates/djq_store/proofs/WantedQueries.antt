@@ -1,26 +1,30 @@
 -- What a change of rows makes known of queries and unions, by what the engine says of its queries.
 use Rattle.std.specs.Prelude.{ℕ, zero, suc, List, [], ◌∷◌, ◌≡◌, ◌↔◌, ◌==◌, ◌+◌, ◌-◌, ◌*◌, ◌<◌, ◌≤◌, ◌&&◌, ◌||◌, ◌⊎◌}
 use Rattle.std.specs.Prelude.{nat_lt, Bool, true, false, cond, Option, None, Some, is_some, IsSomeAnd, filter, map}
-use Rattle.std.specs.Prelude.{length, count_by, slice_index_or, AllPairs, Contains}
+use Rattle.std.specs.Prelude.{◌++◌, length, sum_by, count_by, slice_index_or, AllPairs, Contains, ⊤}
 use Rattle.std.specs.List.{list_any}
 use Rattle.std.proofs.Common.{refl, sym, ap, ap₂, ◌∙◌, subst, inl, inr, arith, get_or}
-use Rattle.std.proofs.lemmas.Bool.{eq-eqb, false≢true, lt-ltb, ltb-true, cases_lt, and_parts, and_from}
-use Rattle.std.proofs.lemmas.List.Elements.{All-head, All-contains}
+use Rattle.std.proofs.lemmas.Bool.{eq-eqb, false≢true, lt-ltb, ltb-true, cases_lt, and_parts, and_from, or_parts}
+use Rattle.std.proofs.lemmas.List.{length-map, length-append}
+use Rattle.std.proofs.lemmas.List.Elements.{All-head, All-contains, Contains-append_left, Contains-append_right}
 use Rattle.std.proofs.lemmas.List.Kept.{AllPairs-filter}
 use Rattle.std.proofs.lemmas.List.Sums.{sum_by-cons}
 use Rattle.djq_model.specs.declared.query.Query.{Query}
 use Rattle.djq_model.specs.declared.query.Atom.{Atom}
-use Rattle.djq_model.specs.Data.{Bytes, Tuple}
+use Rattle.djq_model.specs.declared.relation.Relation.{Relation}
+use Rattle.djq_model.specs.Data.{Bytes, Tuple, rows_of}
 use Rattle.djq_model.specs.Answer.{IsAnswer}
 use Rattle.djq_model.specs.Listed.{Listed, a_query, AnswersOf}
 use Rattle.djq_protocol.specs.declared.limits.TheConstants.{QUERIES}
 use Rattle.djq_protocol.specs.declared.answer.Sign.{Sign}
 use Rattle.djq_protocol.specs.declared.answer.Sign.TheVariants.{Came, Went}
-use Rattle.djq_store_spec.specs.Changes.{RowsChange, is_outdated}
+use Rattle.djq_store_spec.specs.Changes.{RowsChange, Halves, is_outdated}
 use Rattle.djq_store_spec.specs.Delta.{Change, HasChanged, IsDelta}
-use Rattle.djq_store_spec.specs.DeltaCost.{Delta, is_touched, AreDeltas}
+use Rattle.djq_store_spec.specs.DeltaCost.{Delta, is_touched, AreDeltas, ListsAnswers, ListsHalves, atoms_both}
 use Rattle.djq_answer_laws.specs.Growing.{SparesOthers}
+use Rattle.djq_answer_laws.specs.Decided.{Decided}
 use Rattle.djq_answer_laws.proofs.Choices.{answers_rest}
+use Rattle.djq_answer_laws.proofs.Decisions.{query_decided}
 use Rattle.djq_answer_laws.proofs.Lists.{nothing_there, first_or_later, first_there, later_there, kept_there}
 use Rattle.djq_answer_laws.proofs.Lists.{mapped_there, hold_each, pairs_head, pairs_tail}
 use Rattle.djq_live_query.specs.Member.{query_at}
@@ -36,7 +40,8 @@ use Rattle.djq_store.specs.Places.{joined_at, registered_as, sessions_at, union_
 use Rattle.djq_store.specs.Whole.{IsListed, IsCounted, wants}
 use Rattle.djq_store.proofs.ChangedStores.{Behind, member_there, union_is, outdated_member}
 use Rattle.djq_store.proofs.Costs.{mapped_was, pairs_mapped, pairs_weaker, in_order, order_has, engine_listed}
-use Rattle.djq_store.proofs.Costs.{engine_ordered, seen_there, kept_was}
+use Rattle.djq_store.proofs.Costs.{engine_ordered, seen_there, kept_was, sum_covered}
+use Rattle.djq_store.proofs.Deltas.{listed_in}
 use Rattle.djq_store.proofs.Deltas.{changes_in, ByPlace, all_by_place, asked, asked_of, steps_at, IsListedAs, HasDelta}
 use Rattle.djq_store.proofs.Deltas.{Lists, lists}
 use Rattle.djq_store.proofs.Places.{Seat, seat_here, listed_seat, listed_joint, order_seat, order_joint, joint_order}
@@ -123,13 +128,95 @@ members_in_slot (Some j) = Some j.union.members
 abbrev pub members_at : List (Option Joined) → ℕ → Option (List ℕ)
 members_at us at = cond (nat_lt at QUERIES) None (members_in_slot (joined_at us (at - QUERIES)))
 
+-- The halves of a change leave each relation that it doesn't touch as it was.
+abbrev pub HalvesSpareOthers : List Relation → Option Halves → (Bytes → Bool) → Type 0
+HalvesSpareOthers before None touches = ⊤
+HalvesSpareOthers before (Some h) touches = (name : Bytes) → touches name ≡ false
+    → (rows_of h.mid name ≡ rows_of before name) × (h.both name ≡ false)
+
+ones_long : {A : Type 0} (xs : List A) → sum_by (λ x. 1) xs ≡ length xs
+ones_long [] = refl
+ones_long (x ∷ xs) = let first = sum_by-cons (λ x. 1) x xs in let rest = ones_long xs in omega (arith, first, rest)
+
+-- No more answers changed than were listed of a query: one that came and went was listed twice, and each that changed
+-- came or went.
+pub net_few : (before : List Relation) (change : RowsChange) (q : Query) (changes : List Change) (n : ℕ)
+    → IsDelta (IsAnswer before q) (IsAnswer change.after q) changes → ListsAnswers before change q changes n
+    → length changes ≤ n
+net_few before change q changes n d lists = by change.halves lists
+  where
+    came_or_went : (h : Halves) (l : ListsHalves before h.mid change.after q n) (s : Sign) (t : Tuple)
+        → HasChanged (IsAnswer before q) (IsAnswer change.after q) s t → Decided (IsAnswer h.mid q t)
+        → Contains (l.came ++ l.went) (record { sign = s; answer = t })
+    came_or_went h l Came t k (inl there) = Contains-append_left l.came l.went (record { sign = Came; answer = t })
+        ((l.inserts).complete Came t (there, k.1))
+    came_or_went h l Came t k (inr not) = Contains-append_right l.came l.went (record { sign = Came; answer = t })
+        ((l.deletes).complete Came t (k.0, not))
+    came_or_went h l Went t k (inl there) = Contains-append_right l.came l.went (record { sign = Went; answer = t })
+        ((l.deletes).complete Went t (there, k.1))
+    came_or_went h l Went t k (inr not) = Contains-append_left l.came l.went (record { sign = Went; answer = t })
+        ((l.inserts).complete Went t (k.0, not))
+
+    by : (o : Option Halves) → ListsAnswers before (record change { halves = o }) q changes n → length changes ≤ n
+    by None l = omega (arith, l)
+    by (Some h) l =
+        let answers = λ (cs : List Change). map (λ (c : Change). c.answer) cs in
+        let few = sum_covered (λ (t : Tuple). 1) (answers changes) (answers (l.came ++ l.went)) d.different
+        (λ t k.
+        let c = mapped_was (λ (c : Change). c.answer) changes t k in
+        subst (Contains (answers (l.came ++ l.went))) c.2
+        (mapped_there (λ (c : Change). c.answer) (l.came ++ l.went) c.0
+        (came_or_went h l (c.0).sign (c.0).answer
+        (All-contains (λ (c : Change). HasChanged (IsAnswer before q) (IsAnswer change.after q) c.sign c.answer) changes
+        c.0 d.changed c.1)
+        (query_decided h.mid q (c.0).answer)))) in
+        let left = ones_long (answers changes) in
+        let right = ones_long (answers (l.came ++ l.went)) in
+        let left_long = length-map changes (λ (c : Change). c.answer) in
+        let right_long = length-map (l.came ++ l.went) (λ (c : Change). c.answer) in
+        let both = length-append l.came l.went in
+        let count = l.count in
+        omega (arith, few, left, right, left_long, right_long, both, count)
+
+-- a test that holds of no atom of which another does
+none_both : (touches both : Bytes → Bool) (atoms : List Atom)
+    → ((name : Bytes) → touches name ≡ false → both name ≡ false)
+    → list_any (λ (a : Atom). touches a.relation) atoms ≡ false
+    → length (filter (λ (a : Atom). both a.relation) atoms) ≡ 0
+none_both touches both [] fewer e = refl
+none_both touches both (a ∷ atoms) fewer e =
+    let parts = or_parts (touches a.relation) (list_any (λ (a : Atom). touches a.relation) atoms) e in
+    ap (λ (b : Bool). length (cond b (a ∷ filter (λ (a : Atom). both a.relation) atoms)
+    (filter (λ (a : Atom). both a.relation) atoms))) (fewer a.relation parts.0)
+    ∙ none_both touches both atoms fewer parts.1
+
+-- so of a query that reads none that it touches nothing is listed
+idle_halves : (before : List Relation) (change : RowsChange) (q : Query) (changes : List Change) (n : ℕ)
+    → SparesOthers before change → HalvesSpareOthers before change.halves change.touches
+    → is_touched change q ≡ false → changes ≡ [] → ListsAnswers before change q changes n
+    → (n ≡ 0) × (atoms_both change.halves q ≡ 0)
+idle_halves before change q changes n spares half none empty lists = by change.halves half lists
+  where
+    by : (o : Option Halves) → HalvesSpareOthers before o change.touches
+        → ListsAnswers before (record change { halves = o }) q changes n → (n ≡ 0) × (atoms_both o q ≡ 0)
+    by None half l = (l ∙ ap (λ (cs : List Change). length cs) empty, refl)
+    by (Some h) half l =
+        let to_mid = answers_rest before (record change { after = h.mid }) q (λ name k. (half name k).0) none in
+        let came : l.came ≡ [] = none_changed (IsAnswer before q) (IsAnswer h.mid q) l.came l.inserts to_mid in
+        let from_mid = answers_rest h.mid change q (λ name k. spares name k ∙ sym (half name k).0) none in
+        let went : l.went ≡ [] = none_changed (IsAnswer h.mid q) (IsAnswer change.after q) l.went l.deletes from_mid in (
+          l.count ∙ ap₂ (λ (xs ys : List Change). length xs + length ys) came went,
+          none_both change.touches h.both q.atoms (λ name k. (half name k).1) none,
+        )
+
 module _ (change : RowsChange) (relations : List Bytes) (turn : Turn) (e e' : Kept) (us us' : List (Option Joined))
     (b : Behind (Some change) relations turn e e' us us') (order : List ℕ) (w : IsListed e us order)
     (sessions : List ℕ) (c : IsCounted e us sessions) (eds : List Delta)
     (are : AreDeltas (e.store).relations change (map (λ (r : Registered). r.query) (affected_of e.registered change))
     eds)
     (spares : SparesOthers (e.store).relations change)
-    (out : (q : Query) → is_touched change q ≡ true → is_outdated change (a_query q) ≡ true) where
+    (out : (q : Query) → is_touched change q ≡ true → is_outdated change (a_query q) ≡ true)
+    (half : HalvesSpareOthers (e.store).relations change.halves change.touches) where
   abbrev pub seen_as : ℕ → Registered
   seen_as at = registered_as e.places us sessions at
 
@@ -149,6 +236,9 @@ module _ (change : RowsChange) (relations : List Bytes) (turn : Turn) (e e' : Ke
   abbrev pub f : ℕ → List Change
   f = changes_in ers eds
 
+  abbrev pub n : ℕ → ℕ
+  n = listed_in ers eds
+
   abbrev IsAffected : Registered → Bool
   IsAffected r = is_outdated change r.query && is_watched r
 
@@ -164,7 +254,7 @@ module _ (change : RowsChange) (relations : List Bytes) (turn : Turn) (e e' : Ke
       b.did.before.placed k) in
       t.2 ∙ ap a_query (sym (ap the_query t.1))
 
-  pub by_places : ByPlace (e.store).relations change q_at e' ers eds f
+  pub by_places : ByPlace (e.store).relations change q_at e' ers eds f n
   by_places = all_by_place (e.store).relations change q_at e' ers eds
       (hold_each (λ (r : Registered). r.query ≡ a_query (q_at r.id.at)) ers
       (λ r k. engine_query r (kept_was IsAffected e.registered r k).0))
@@ -179,6 +269,13 @@ module _ (change : RowsChange) (relations : List Bytes) (turn : Turn) (e e' : Ke
       (All-contains (λ (s : Registered). IsDelta (IsAnswer (e.store).relations (q_at s.id.at))
       (IsAnswer change.after (q_at s.id.at)) (f s.id.at)) ers r.0 by_places.deltas r.1)
 
+  pub listed : (m : ℕ) → Contains places m → ListsAnswers (e.store).relations change (q_at m) (f m) (n m)
+  listed m k =
+      let r = mapped_was (λ (s : Registered). s.id.at) ers m k in
+      subst (λ (i : ℕ). ListsAnswers (e.store).relations change (q_at i) (f i) (n i)) r.2
+      (All-contains (λ (s : Registered). ListsAnswers (e.store).relations change (q_at s.id.at) (f s.id.at) (n s.id.at))
+      ers r.0 by_places.list r.1)
+
   once : AllPairs (λ i j. i ≡ j → ⊥) places
   once = pairs_mapped (λ i j. i ≡ j → ⊥) (λ (r : Registered). r.id.at) ers
       (AllPairs-filter (λ (r s : Registered). r.id.at ≡ s.id.at → ⊥) IsAffected e.registered
@@ -186,18 +283,20 @@ module _ (change : RowsChange) (relations : List Bytes) (turn : Turn) (e e' : Ke
 
   -- what reads no relation that changes counts nothing
   idle : (m : ℕ) → Contains places m → is_touched change (q_at m) ≡ false
-      → steps_at (e.store).relations change q_at f (members_at us) places m ≡ 0
+      → steps_at (e.store).relations change q_at f n (members_at us) places m ≡ 0
   idle m k none =
       let same = answers_rest (e.store).relations change (q_at m) spares none in
       let empty : f m ≡ [] = none_changed (IsAnswer (e.store).relations (q_at m)) (IsAnswer change.after (q_at m)) (f m)
       (deltas m k) same in
       let atoms : filter (λ (a : Atom). change.touches a.relation) (q_at m).atoms ≡ [] =
       none_kept (λ (a : Atom). change.touches a.relation) (q_at m).atoms none in
-      ap₂ (λ (cs : List Change) (atoms : List Atom). (length cs + length atoms) * (2 * length (q_at m).head + 1)) empty
-      atoms
+      let rest = idle_halves (e.store).relations change (q_at m) (f m) (n m) spares half none empty (listed m k) in
+      ap₂ (λ (few : ℕ) (atoms : List Atom). (few + length atoms + atoms_both change.halves (q_at m))
+      * (2 * length (q_at m).head + 1)) rest.0 atoms
+      ∙ ap (λ (both : ℕ). (0 + 0 + both) * (2 * length (q_at m).head + 1)) rest.1
       ∙ zero_times (2 * length (q_at m).head + 1)
     where
-      zero_times : (n : ℕ) → (0 + 0) * n ≡ 0
+      zero_times : (n : ℕ) → (0 + 0 + 0) * n ≡ 0
       zero_times n = omega arith
 
   -- an engine's query is watched where a session watches it, or a union that wants it
@@ -226,7 +325,7 @@ module _ (change : RowsChange) (relations : List Bytes) (turn : Turn) (e e' : Ke
       high_place k (λ i. None) (λ i. members_in_slot (joined_at us i)) ∙ ap members_in_slot there
 
   abbrev asked_r : Registered → List ℕ
-  asked_r r = asked (e.store).relations change q_at f (members_at us) places r
+  asked_r r = asked (e.store).relations change q_at f n (members_at us) places r
 
   -- ---- each that the engine lists is asked for
 
@@ -247,7 +346,7 @@ module _ (change : RowsChange) (relations : List Bytes) (turn : Turn) (e e' : Ke
             (ap (λ n. nat_lt 0 n) (sessions_low at low) ∙ lt-ltb 0 (slice_index_or sessions at 0) some))
             there,
         subst (λ (o : Option (List ℕ)). Contains
-            (asked_of (e.store).relations change q_at f (members_at us) places o at) at)
+            (asked_of (e.store).relations change q_at f n (members_at us) places o at) at)
             (sym (members_low at low)) (first_there at [] at refl),
       )
 
@@ -281,7 +380,7 @@ module _ (change : RowsChange) (relations : List Bytes) (turn : Turn) (e e' : Ke
                 (ap (λ n. nat_lt 0 n) (sessions_high k ∙ ap union_watchers there) ∙ both.0))
                 (seen_there e b.did.before us order w sessions at (joint_order e b.did.before us order w k joint)),
             subst (λ (o : Option (List ℕ)). Contains
-                (asked_of (e.store).relations change q_at f (members_at us) places o at) m)
+                (asked_of (e.store).relations change q_at f n (members_at us) places o at) m)
                 (sym (members_high k j there))
                 (kept_there (λ i. is_touched change (q_at i)) j.union.members m hit mine),
           )
@@ -353,7 +452,7 @@ module _ (change : RowsChange) (relations : List Bytes) (turn : Turn) (e e' : Ke
     Log r changes = LogAt r.id.at changes
 
     abbrev Has : Registered → Type 0
-    Has r = HasDelta (e.store).relations change q_at f (members_at us) places Log deltas r
+    Has r = HasDelta (e.store).relations change q_at f n (members_at us) places Log deltas listed r
 
     has_query : (at : ℕ) → is_reader order at ≡ true → at < QUERIES → is_outdated change (seen_as at).query ≡ true
         → is_watched (seen_as at) ≡ true → Has (seen_as at)
@@ -368,12 +467,12 @@ module _ (change : RowsChange) (relations : List Bytes) (turn : Turn) (e e' : Ke
         let sum = seat_watchers at s in
         let among : Contains places at = listed_place at s out_here (omega (arith, sum, some)) in
         record {
-          is = subst (λ (o : Option (List ℕ)). IsListedAs (e.store).relations change q_at f (members_at us) places o
+          is = subst (λ (o : Option (List ℕ)). IsListedAs (e.store).relations change q_at f n (members_at us) places o
               (seen_as at))
               (sym (members_low at low)) is;
           among = λ m k. subst (λ (i : ℕ). Contains places i)
               (only at m (subst (λ (o : Option (List ℕ)). Contains
-              (asked_of (e.store).relations change q_at f (members_at us) places o at) m)
+              (asked_of (e.store).relations change q_at f n (members_at us) places o at) m)
               (members_low at low) k)) among;
           changes = f at;
           delta = subst (λ (q : Listed). IsDelta (AnswersOf (e.store).relations q) (AnswersOf change.after q) (f at))
@@ -402,13 +501,13 @@ module _ (change : RowsChange) (relations : List Bytes) (turn : Turn) (e e' : Ke
         (ap (λ n. nat_lt 0 n) (sym (sessions_high k ∙ ap union_watchers joint.there)) ∙ watched) in
         let t = tells_union k j joint.there (ap (is_outdated change) (sym named) ∙ outdated) some in
         record {
-          is = subst (λ (o : Option (List ℕ)). IsListedAs (e.store).relations change q_at f (members_at us) places o
+          is = subst (λ (o : Option (List ℕ)). IsListedAs (e.store).relations change q_at f n (members_at us) places o
               (seen_as at))
               (sym (members_high k j joint.there))
               (j.union.name, named ∙ union_is (Some change) relations turn e e' us us' b j.union united);
           among = λ m c. member_listed k j joint.there some m
               (subst (λ (o : Option (List ℕ)). Contains
-              (asked_of (e.store).relations change q_at f (members_at us) places o at) m)
+              (asked_of (e.store).relations change q_at f n (members_at us) places o at) m)
               (members_high k j joint.there) c);
           changes = t.0;
           delta = subst (λ (q : Listed). IsDelta (AnswersOf (e.store).relations q) (AnswersOf change.after q) t.0)
@@ -438,5 +537,5 @@ module _ (change : RowsChange) (relations : List Bytes) (turn : Turn) (e e' : Ke
             (subst (λ (i : ℕ). is_outdated change (seen_as i).query ≡ true) s.is outdated)
             (subst (λ (i : ℕ). is_watched (seen_as i) ≡ true) s.is watched))
 
-    pub all_lists : Lists (e.store).relations change q_at f (members_at us) places Log deltas rs
-    all_lists = lists (e.store).relations change q_at f (members_at us) places Log deltas rs once idle wanted has
+    pub all_lists : Lists (e.store).relations change q_at f n (members_at us) places Log deltas listed rs
+    all_lists = lists (e.store).relations change q_at f n (members_at us) places Log deltas listed rs once idle wanted has

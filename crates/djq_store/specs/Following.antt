@@ -1,6 +1,6 @@
 -- What the unions of a store, and the affected, are behind a change of rows.
-use Rattle.std.specs.Prelude.{ℕ, zero, suc, List, ◌≡◌, ◌≤◌, ◌⊎◌, false, Option, None, Some, Result}
-use Rattle.std.specs.Prelude.{Ok, Err, filter, length, map, sum_by, vec_capacity, ⊤}
+use Rattle.std.specs.Prelude.{ℕ, zero, suc, List, ◌≡◌, ◌≤◌, ◌⊎◌, Bool, true, false, Option, None, Some, is_some, Result}
+use Rattle.std.specs.Prelude.{Ok, Err, if◌then◌else◌, filter, length, map, sum_by, vec_capacity, ⊤}
 use Rattle.std.specs.List.{list_any}
 use Rattle.djq_model.specs.Data.{Bytes}
 use Rattle.djq_protocol.specs.declared.answer.AddOutcome.{AddOutcome}
@@ -9,11 +9,13 @@ use Rattle.djq_protocol.specs.declared.answer.DeleteOutcome.{DeleteOutcome}
 use Rattle.djq_protocol.specs.declared.answer.DeleteOutcome.TheVariants.{Last, Left, Absent}
 use Rattle.djq_protocol.specs.declared.answer.Refusal.{Refusal}
 use Rattle.djq_protocol.specs.declared.answer.Refusal.TheVariants.{NoMemory}
+use Rattle.djq_protocol.specs.declared.held.DoneRefusal.{DoneRefusal}
+use Rattle.djq_protocol.specs.Reply.{done_word}
 use Rattle.djq_engine.specs.Kept.{Kept}
 use Rattle.djq_store.specs.declared.joined.Joined.{Joined}
 use Rattle.djq_store.specs.declared.parts.Parts.{Parts}
 use Rattle.djq_store.specs.declared.settling.Turn.{Turn}
-use Rattle.djq_store.specs.declared.settling.Turn.TheVariants.{Came, Went, Lacked}
+use Rattle.djq_store.specs.declared.settling.Turn.TheVariants.{Changed, Lacked}
 use Rattle.djq_store.specs.Affecting.{is_reached_id, is_affected}
 use Rattle.djq_store.specs.Places.{joined_at}
 use Rattle.djq_store.specs.Settling.{SettlesAt, is_settled, settling_steps}
@@ -60,21 +62,31 @@ following_steps (Some turn) e relations us = sum_by (settling_steps e relations 
 
 -- how rows changed, by what came of a command
 abbrev pub add_turn : Result AddOutcome Refusal → Option Turn
-add_turn (Ok First) = Some Came
+add_turn (Ok First) = Some Changed
 add_turn (Ok (More copies)) = None
 add_turn (Err NoMemory) = Some Lacked
 add_turn (Err _) = None
 
 -- how rows changed, by what came of a row that is deleted
 abbrev pub delete_turn : Result DeleteOutcome Refusal → Option Turn
-delete_turn (Ok Last) = Some Went
+delete_turn (Ok Last) = Some Changed
 delete_turn (Ok (Left copies)) = None
 delete_turn (Ok Absent) = None
 delete_turn (Err _) = None
 
--- how rows changed, by what came of a batch
-abbrev pub batch_turn : Result ℕ Refusal → Option Turn
-batch_turn (Ok zero) = None
-batch_turn (Ok (suc n)) = Some Came
-batch_turn (Err NoMemory) = Some Lacked
-batch_turn (Err _) = None
+-- whether a refusal is for want of memory
+abbrev pub is_no_memory : Refusal → Bool
+is_no_memory NoMemory = true
+is_no_memory _ = false
+
+abbrev pub is_memory : DoneRefusal → Bool
+is_memory r = is_no_memory (done_word r)
+
+-- how rows changed if so many were inserted and deleted
+abbrev pub lines_turn : ℕ → Option Turn
+lines_turn zero = None
+lines_turn (suc n) = Some Changed
+
+-- whether a union is registered
+abbrev pub has_union : List (Option Joined) → Bool
+has_union us = list_any (λ o. is_some o) us

@@ -13,5 +13,4 @@ pub mod Settling
 pub mod Affecting
 pub mod Following
 pub mod Judging
-pub mod Batches
 pub mod Filling

@@ -1,9 +1,10 @@
 -- What a change of rows does to unions.
 use Rattle.std.specs.Prelude.{ℕ, List, [], ◌≡◌, ◌*◌, nat_lt, Bool, true, false, Option, None}
-use Rattle.std.specs.Prelude.{Some, is_some, find, filter, if◌then◌else◌, sum_by}
+use Rattle.std.specs.Prelude.{Some, is_some, find, filter, map, if◌then◌else◌, sum_by}
 use Rattle.std.specs.List.{list_any}
 use Rattle.djq_model.specs.Data.{Bytes}
 use Rattle.djq_store_spec.specs.Registering.{atoms_of}
+use Rattle.djq_store_spec.specs.Held.{HeldLine}
 use Rattle.djq_enumeration.specs.Log.{Log}
 use Rattle.djq_live_query.specs.Live.{Live}
 use Rattle.djq_live_query.specs.Member.{query_at}
@@ -17,7 +18,7 @@ use Rattle.djq_gains.specs.Gains.{AtFirstMember, TellUnion, members_at, count_in
 use Rattle.djq_store.specs.declared.joined.Joined.{Joined}
 use Rattle.djq_store.specs.declared.settling.Turn.{Turn}
 use Rattle.djq_store.specs.Places.{joined_at}
-use Rattle.djq_store.specs.declared.settling.Turn.TheVariants.{Came, Went, Lacked}
+use Rattle.djq_store.specs.declared.settling.Turn.TheVariants.{Changed, Lacked}
 
 -- ---- which relations are read
 
@@ -33,6 +34,10 @@ some_read gs members name = list_any (λ i. reads_place name (query_at gs i)) me
 abbrev pub first_read_by : List (Option Live) → List Bytes → List ℕ → Option Bytes
 first_read_by gs relations members = find (some_read gs members) relations
 
+-- the relations that lines name, in their order
+abbrev pub named_by : List HeldLine → List Bytes
+named_by lines = map (λ (h : HeldLine). h.relation) lines
+
 -- those of the places whose queries read one of these relations
 abbrev pub touched_in : List (Option Live) → List Bytes → List ℕ → List ℕ
 touched_in gs relations members = filter (λ i. reads_some relations (query_at gs i)) members
@@ -46,19 +51,18 @@ outdated_union (Some relation) n u =
     record u { cursors = outdated_slots relation n u.cursors }
 
 -- A log tells how the answers of a union changed, unless that is lost.
-abbrev pub TellsUnionLog : Kept → List Bytes → Bool → Joined → Log → Type 0
-TellsUnionLog e relations came j log = log.lost ≡ false → AtFirstMember e j.union.members
-    (TellUnion e j.union.members (touched_in e.places relations j.union.members) came log.lines)
+abbrev pub TellsUnionLog : Kept → List Bytes → Joined → Log → Type 0
+TellsUnionLog e relations j log = log.lost ≡ false → AtFirstMember e j.union.members
+    (TellUnion e j.union.members (touched_in e.places relations j.union.members) log.lines)
 
 -- It does so where a session watches the union; else it stays.
-abbrev pub TellsWatched : Bool → Kept → List Bytes → Bool → Joined → Log → Type 0
-TellsWatched true e relations came j log = TellsUnionLog e relations came j log
-TellsWatched false e relations came j log = log ≡ j.log
+abbrev pub TellsWatched : Bool → Kept → List Bytes → Joined → Log → Type 0
+TellsWatched true e relations j log = TellsUnionLog e relations j log
+TellsWatched false e relations j log = log ≡ j.log
 
 -- The log of a union that a change outdates tells of nothing where memory was refused.
 abbrev pub SettlesLog : Kept → List Bytes → Turn → Joined → Log → Type 0
-SettlesLog e relations Came j log = TellsWatched (nat_lt 0 j.watchers) e relations true j log
-SettlesLog e relations Went j log = TellsWatched (nat_lt 0 j.watchers) e relations false j log
+SettlesLog e relations Changed j log = TellsWatched (nat_lt 0 j.watchers) e relations j log
 SettlesLog e relations Lacked j log = (log.lines ≡ []) × (log.lost ≡ false)
 
 -- The log of one that no relation outdates stays.
@@ -97,7 +101,7 @@ asking_steps e relations members =
 -- what telling of a union counts at most
 abbrev pub telling_steps : Kept → List Bytes → Turn → Joined → ℕ
 telling_steps e relations Lacked j = 0
-telling_steps e relations _ j = if nat_lt 0 j.watchers then asking_steps e relations j.union.members else 0
+telling_steps e relations Changed j = if nat_lt 0 j.watchers then asking_steps e relations j.union.members else 0
 
 -- what the union in a slot counts, where it is outdated
 abbrev pub settling_steps : Kept → List Bytes → Turn → Option Joined → ℕ

@@ -4,7 +4,7 @@ ghost use Rattle.djq_model.specs.Data.{Bytes};
 ghost use Rattle.djq_model.specs.Listed.{a_query, a_union, listed_of, members_of};
 ghost use Rattle.djq_store_spec.specs.Asking.{TellsShape, TellsWhether, has_steps};
 ghost use Rattle.djq_store_spec.specs.Registering.{atoms_of};
-ghost use Rattle.djq_store_spec.specs.Batch.{TellsSuits};
+ghost use Rattle.djq_store_spec.specs.Transaction.{TellsSuits};
 ghost use Rattle.djq_live_query.specs.Member.{query_at};
 ghost use Rattle.djq_united.specs.United.{AreMembers};
 ghost use Rattle.djq_store.specs.Asking.{TellsMembership, asked_in};
@@ -121,7 +121,7 @@ impl Store {
     }
 
     /// What bounds an update of a query: `Flat` exactly where the query is flat, and then it is the
-    /// same whatever the rows. A union's updates are its members', and its shape says so.
+    /// same whatever the rows. A union's updates are its members', and its shape is `union`.
     ///
     /// # Errors
     ///

@@ -1,22 +1,23 @@
 //! Changes of relations and of their rows, and what they do to unions.
 ghost use Rattle.std.specs.Prelude.{◌≡◌, ◌<◌, ◌≤◌, length};
-ghost use Rattle.djq_protocol.specs.declared.limits.TheConstants.{HELD};
 ghost use Rattle.djq_store_spec.specs.Relations.{MakesRelation};
 ghost use Rattle.djq_store_spec.specs.Rows.{AddsRow, DeletesRow};
 ghost use Rattle.djq_store_spec.specs.Changes.{row_in, row_out, add_outcome, delete_outcome};
 ghost use Rattle.djq_store_spec.specs.Changes.{tried};
-ghost use Rattle.djq_store_spec.specs.Batch.{SuitAll, AddsBatch, batch_outcome};
+ghost use Rattle.djq_store_spec.specs.Transaction.{SuitAll, DoesAll, lines_outcome};
 ghost use Rattle.djq_engine.specs.Kept.{SameCursors, SameTellings, Outdates, IsUnwatched};
-ghost use Rattle.djq_engine.specs.Watching.{CountsUpdates, CountsBatch};
-ghost use Rattle.djq_engine.specs.Watching.{add_times, batch_times, delete_times};
+ghost use Rattle.djq_engine.specs.Watching.{CountsUpdates, CountsLines};
+ghost use Rattle.djq_engine.specs.Watching.{add_times, delete_times};
 ghost use Rattle.djq_store.specs.Watching.{TellsChange};
 
-use crate::batches::count_rows;
-use crate::following::{add_turn, batch_turn, delete_turn, follow_batch, follow_one, has_union};
+use crate::following::{
+    add_turn, delete_turn, follow, follow_lacked, follow_one, is_memory, lines_turn,
+};
 use crate::store::Store;
 use djq_counters::{Ledgers, Steps};
 use djq_model::{Name, Types, Value};
-use djq_protocol::{AddOutcome, DeleteOutcome, HeldRow, Refusal};
+use djq_protocol::{AddOutcome, DeleteOutcome, DoneRefusal, Refusal};
+use djq_transaction::Transaction;
 
 impl Store {
     /// Makes a relation without rows, of one column at least.
@@ -118,51 +119,52 @@ impl Store {
         outcome
     }
 
-    /// Adds all rows that a batch held, at once, and tells how many of them weren't there. A row that
-    /// was, or that came before it in the batch, has a further copy. Where rows came, that is one
-    /// change: cursors over a query or union become stale by the first relation of the batch that it
-    /// reads and of which a row came, and each watched one tells one delta. What updates count is
-    /// bounded for each of these queries as for one row, with the rows of the batch among those of its
-    /// relations.
+    /// Carries out the lines of a transaction as one change, and returns how many rows were inserted and deleted. Each
+    /// row that the lines name has the copies that they leave of it. If rows were inserted or deleted, cursors over a
+    /// query or union become stale by the first relation, in the order in which the lines name them, that changed and
+    /// that it reads, and each watched one has one delta, the net of all lines. What updates count is bounded for each
+    /// query by its atoms over relations of which rows are inserted, and by those over relations of which rows are
+    /// deleted; unions count nothing.
     ///
     /// # Errors
     ///
-    /// `Limit` where a row finds no place over what the rows before it leave: its copies, its relation,
-    /// the number of changes or that of known texts are at their limit. `NoMemory` out of memory, and
-    /// cursors over a query or union are stale by the first relation of the batch that it reads, and
-    /// nothing is told of it. Texts that became known stay so, and no row has changed. What the queries
-    /// took in goes out row by row then, which may count once more for each row.
+    /// `OtherNumber` exactly if `done` names another number than that of the lines; else `Line` with the first line that
+    /// has a refusal; else `LastChange` exactly if rows would be inserted or deleted at the last number of changes. Out
+    /// of memory `Line` with `NoMemory`, or `NoMemory` once all lines have passed: cursors over a query or union are
+    /// then stale by the first relation that lines name and it reads, and it has no delta. A refused transaction changes
+    /// no row; the texts of lines that passed stay known.
     pub fn done<L: Ledgers>(
         &mut self,
-        held: &[HeldRow],
+        held: &Transaction,
+        given: Option<u32>,
         steps: &mut Steps<L>,
-    ) -> Result<usize, Refusal>
-        requires suit { SuitAll self.old.store held.now }
-        requires few { length held.now ≤ HELD }
-        ensures adds { AddsBatch self.old.store held.now result self.new.store }
-        ensures outdates { Outdates self.old (tried (batch_outcome self.old.store held.now result))
-            self.new }
+    ) -> Result<usize, DoneRefusal>
+        requires { SuitAll self.old.store held.now.lines }
+        ensures does { DoesAll self.old.store held.now.lines given result self.new.store }
+        ensures outdates { Outdates self.old
+            (tried (lines_outcome self.old.store.relations held.now.lines result)) self.new }
         ensures watches { self.new.registered ≡ self.old.registered }
-        ensures tells { TellsChange self.old (batch_outcome self.old.store held.now result) self.new
+        ensures tells { TellsChange self.old (lines_outcome self.old.store.relations held.now.lines result) self.new
             steps.old.listing steps.new.listing }
         ensures unlisted { IsUnwatched self.old → steps.new.listing ≡ steps.old.listing }
-        ensures updates { CountsBatch (batch_times held.now result) self.old held.now
-            steps.old.update steps.new.update }
+        ensures updates { CountsLines result self.old held.now.lines steps.old.update steps.new.update }
     {
         self.parts.engine.laws();
-        let joined = has_union(&self.parts);
-        let counts = count_rows(&self.parts.engine, held, joined);
-        let outcome = self.parts.engine.done(held, steps);
+        let outcome = self.parts.engine.done(held, given, steps);
         self.parts.engine.laws();
-        let turn = batch_turn(&outcome);
-        follow_batch(
-            &mut self.parts,
-            held,
-            &counts,
-            joined,
-            turn,
-            &mut steps.listing,
-        );
-        outcome
+        match outcome {
+            Ok(changed) => {
+                let turn = lines_turn(changed.count);
+                let relations = changed.relations.as_slice();
+                follow(&mut self.parts, relations, turn, &mut steps.listing);
+                Ok(changed.count)
+            }
+            Err(refusal) => {
+                if is_memory(&refusal) {
+                    follow_lacked(&mut self.parts, held);
+                }
+                Err(refusal)
+            }
+        }
     }
 }

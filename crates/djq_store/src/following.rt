@@ -1,25 +1,23 @@
 //! What the unions of a store, and the affected, are behind a change of rows.
 ghost use Rattle.std.specs.Prelude.{◌≡◌, ◌+◌, ◌≤◌, ◌<◌, ◌∷◌, [], ℕ, List, Some, true, false, All};
 ghost use Rattle.std.specs.Prelude.{filter, map, length, vec_capacity};
-ghost use Rattle.djq_model.specs.declared.relation.Relation.{Relation};
 ghost use Rattle.djq_model.specs.Data.{Bytes};
-ghost use Rattle.djq_protocol.specs.declared.limits.TheConstants.{QUERIES, HELD};
+ghost use Rattle.djq_protocol.specs.declared.limits.TheConstants.{QUERIES};
 ghost use Rattle.djq_united.specs.United.{AreMembers};
 ghost use Rattle.djq_store.specs.declared.joined.Joined.{Joined as JoinedModel};
 ghost use Rattle.djq_store.specs.Places.{joined_at};
-ghost use Rattle.djq_store.specs.Following.{IfMade, FollowsBy, following_steps, add_turn, delete_turn, batch_turn};
+ghost use Rattle.djq_store.specs.Following.{IfMade, UnionsFollow, FollowsBy, has_union, following_steps, add_turn, delete_turn, lines_turn, is_memory};
 ghost use Rattle.djq_store.specs.Affecting.{is_reached_id, is_affected};
-ghost use Rattle.djq_store.specs.Batches.{AreCounts, grown_of, has_union};
-ghost use Rattle.djq_store.specs.Settling.{AreUnionsUnwatched};
+ghost use Rattle.djq_store.specs.Settling.{AreUnionsUnwatched, named_by};
+ghost use Rattle.djq_store.specs.declared.settling.Turn.TheVariants.{Lacked};
 
 use crate::affecting::{affect, affect_queries};
-use crate::batches::{changed_names, is_lacked};
 use crate::parts::Parts;
-use crate::settling::{Turn, settle_all};
+use crate::settling::{Turn, lack_all, settle_all};
 use djq_counters::Tally;
 use djq_model::Name;
-use djq_protocol::limits::HELD;
-use djq_protocol::{AddOutcome, DeleteOutcome, HeldRow, Refusal};
+use djq_protocol::{AddOutcome, DeleteOutcome, DoneRefusal, LineRefusal, Refusal};
+use djq_transaction::Transaction;
 use std::sync::ledger::Ledger;
 
 /// Behind a change of these relations, made or tried, if there was one: the unions that read one are
@@ -105,40 +103,15 @@ pub fn follow_one<L: Ledger>(
     }
 }
 
-/// The same behind a batch of these rows, of whose relations each had so many: of those that changed. They are looked
-/// for only where a union is registered.
-pub fn follow_batch<L: Ledger>(
-    parts: &mut Parts,
-    held: &[HeldRow],
-    counts: &[u64; HELD],
-    joined: bool,
-    turn: Option<Turn>,
-    listing: &mut Tally<L>,
-)
-    requires batch { length held.now ≤ HELD }
-    requires joined { joined ≡ has_union parts.old.unions.items }
-    requires members { (k : ℕ) (j : JoinedModel) → joined_at parts.old.unions.items k ≡ Some j
+/// After lines for which memory was refused: unions that read a relation that they name have stale cursors, by the first
+/// such relation, and no delta.
+pub fn follow_lacked(parts: &mut Parts, held: &Transaction)
+    requires { (k : ℕ) (j : JoinedModel) → joined_at parts.old.unions.items k ≡ Some j
         → AreMembers parts.old.engine.places j.union.members }
-    requires low { IfMade turn (All (λ id. id.at < QUERIES) parts.old.engine.affected) }
-    requires few { IfMade turn (length parts.old.engine.affected ≤ vec_capacity parts.old.affected) }
-    requires room { length parts.old.order.items ≤ vec_capacity parts.old.affected }
-    ensures follows { (before : List Relation)
-        → (joined ≡ true → AreCounts before held.now counts.now)
-        → FollowsBy turn (grown_of turn before parts.old.engine.store.relations held.now)
-        parts.old parts.new }
-    ensures counted { (before : List Relation)
-        → (joined ≡ true → AreCounts before held.now counts.now)
-        → listing.new ≤ listing.old + following_steps turn parts.old.engine
-        (grown_of turn before parts.old.engine.store.relations held.now) parts.old.unions.items }
-    ensures unlisted { AreUnionsUnwatched parts.old.unions.items → listing.new ≡ listing.old }
+    ensures { UnionsFollow (named_by held.now.lines) Lacked parts.old parts.new }
 {
-    if !joined {
-        follow_alone(parts, turn);
-        return;
-    }
-    let mut names = [Name::new(&[]); HELD];
-    let count = changed_names(&parts.engine, held, counts, is_lacked(turn), &mut names);
-    follow(parts, &names[..count], turn, listing);
+    let seq = parts.engine.seq();
+    lack_all(&parts.engine, &mut parts.unions, held, seq);
 }
 
 /// What a change that was made affects is known: by the whole order where a union reads its relations.
@@ -173,7 +146,7 @@ pub fn add_turn(outcome: &Result<AddOutcome, Refusal>) -> Option<Turn>
     ensures { result ≡ add_turn outcome.now }
 {
     match outcome {
-        Ok(AddOutcome::First) => Some(Turn::Came),
+        Ok(AddOutcome::First) => Some(Turn::Changed),
         Err(Refusal::NoMemory) => Some(Turn::Lacked),
         _ => None,
     }
@@ -184,19 +157,28 @@ pub fn delete_turn(outcome: &Result<DeleteOutcome, Refusal>) -> Option<Turn>
     ensures { result ≡ delete_turn outcome.now }
 {
     match outcome {
-        Ok(DeleteOutcome::Last) => Some(Turn::Went),
+        Ok(DeleteOutcome::Last) => Some(Turn::Changed),
         _ => None,
     }
 }
 
-/// By what came of `done`.
-pub fn batch_turn(outcome: &Result<usize, Refusal>) -> Option<Turn>
-    ensures { result ≡ batch_turn outcome.now }
+/// Whether `done` was refused memory.
+pub fn is_memory(refusal: &DoneRefusal) -> bool
+    ensures { result ≡ is_memory refusal.now }
 {
-    match outcome {
-        Ok(0) => None,
-        Ok(_) => Some(Turn::Came),
-        Err(Refusal::NoMemory) => Some(Turn::Lacked),
-        _ => None,
+    match refusal {
+        DoneRefusal::Line(line) => matches!(line.refusal, LineRefusal::NoMemory),
+        DoneRefusal::NoMemory => true,
+        DoneRefusal::OtherNumber | DoneRefusal::LastChange => false,
     }
+}
+
+/// How rows changed if so many were inserted and deleted.
+pub fn lines_turn(count: usize) -> Option<Turn>
+    ensures { result ≡ lines_turn count }
+{
+    if count == 0 {
+        return None;
+    }
+    Some(Turn::Changed)
 }

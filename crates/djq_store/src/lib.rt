@@ -28,7 +28,6 @@ pub use store::Store;
 
 mod affecting;
 mod asking;
-mod batches;
 mod change;
 mod explained;
 mod filling;

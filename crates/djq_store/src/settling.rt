@@ -10,7 +10,8 @@ ghost use Rattle.djq_store.specs.declared.joined.Joined.{Joined as JoinedModel};
 ghost use Rattle.djq_store.specs.Places.{joined_at, union_watchers};
 ghost use Rattle.djq_store.specs.Settling.{reads_some, some_read, first_read_by, touched_in, SettlesLog, Settles};
 ghost use Rattle.djq_store.specs.Settling.{SettlesAt, telling_steps, settling_steps, is_settled};
-ghost use Rattle.djq_store.specs.Settling.{AreUnionsUnwatched};
+ghost use Rattle.djq_store.specs.Settling.{AreUnionsUnwatched, named_by};
+ghost use Rattle.djq_store.specs.declared.settling.Turn.TheVariants.{Lacked};
 
 use crate::joined::Joined;
 use djq_counters::Tally;
@@ -18,17 +19,16 @@ use djq_engine::{Engine, LiveQuery};
 use djq_gains::tell_gains;
 use djq_model::{Name, Query};
 use djq_protocol::limits::MEMBERS;
+use djq_transaction::Transaction;
 use std::alloc::Global;
 use std::sync::ledger::Ledger;
 
 /// How rows changed, or were to.
 #[derive(Clone, Copy, Debug)]
 pub enum Turn {
-    /// They came.
-    Came,
-    /// They went.
-    Went,
-    /// They were to come, and memory was refused.
+    /// They were inserted or deleted.
+    Changed,
+    /// They were to be, and memory was refused.
     Lacked,
 }
 
@@ -123,14 +123,10 @@ fn tell<L: Ledger>(
         + telling_steps engine.now relations.now turn joined.old }
     ensures unlisted { joined.old.watchers ≡ 0 → listing.new ≡ listing.old }
 {
-    let came = match turn {
-        Turn::Came => true,
-        Turn::Went => false,
-        Turn::Lacked => {
-            joined.log.clear();
-            return;
-        }
-    };
+    if matches!(turn, Turn::Lacked) {
+        joined.log.clear();
+        return;
+    }
     if joined.watchers == 0 {
         return;
     }
@@ -142,7 +138,6 @@ fn tell<L: Ledger>(
         engine,
         members,
         &touched[..count],
-        came,
         &mut joined.log,
         listing,
     );
@@ -233,4 +228,56 @@ pub fn settle_all<L: Ledger>(
         read |= settled;
     }
     read
+}
+
+/// The first relation that lines name and a member reads.
+fn first_named(queries: &[Option<LiveQuery>], members: &[usize], held: &Transaction) -> Option<Name>
+    ensures { result ≡ first_read_by queries.now (named_by held.now.lines) members.now }
+{
+    for at in 0..held.len() {
+        let relation = held.relation(at);
+        if some_read(queries, members, &relation) {
+            return Some(relation);
+        }
+    }
+    None
+}
+
+/// Memory was refused for lines: if a member reads a relation that they name, the cursors of a union become stale by
+/// the first such relation, and its log is cleared.
+fn lack(engine: &Engine, joined: &mut Joined, held: &Transaction, seq: u64)
+    requires { AreMembers engine.now.places joined.old.union.members }
+    ensures { Settles engine.now (named_by held.now.lines) seq Lacked joined.old joined.new }
+{
+    match first_named(engine.places(), joined.union.members(), held) {
+        Some(relation) => {
+            joined.union.outdate(relation, seq);
+            joined.log.clear();
+        }
+        None => {}
+    }
+}
+
+/// The same of the union in a slot, if there is one.
+fn lack_slot(engine: &Engine, slot: &mut Option<Joined>, held: &Transaction, seq: u64)
+    requires { (j : JoinedModel) → slot.old ≡ Some j → AreMembers engine.now.places j.union.members }
+    ensures { SettlesAt engine.now (named_by held.now.lines) seq Lacked slot.old slot.new }
+{
+    match slot {
+        Some(joined) => lack(engine, joined, held, seq),
+        None => {}
+    }
+}
+
+/// The same of all unions.
+pub fn lack_all(engine: &Engine, unions: &mut Vec<Option<Joined>>, held: &Transaction, seq: u64)
+    requires { (k : ℕ) (j : JoinedModel) → joined_at unions.old.items k ≡ Some j
+        → AreMembers engine.now.places j.union.members }
+    ensures long { length unions.new.items ≡ length unions.old.items }
+    ensures settles { (k : ℕ) → SettlesAt engine.now (named_by held.now.lines) seq Lacked
+        (joined_at unions.old.items k) (joined_at unions.new.items k) }
+{
+    for slot in 0..unions.len() {
+        lack_slot(engine, &mut unions[slot], held, seq);
+    }
 }

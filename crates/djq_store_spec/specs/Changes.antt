@@ -13,22 +13,32 @@ use Rattle.djq_protocol.specs.declared.answer.DeleteOutcome.TheVariants.{Last, L
 use Rattle.djq_store_spec.specs.Relations.{with_rows}
 use Rattle.djq_store_spec.specs.Stale.{by_relation}
 
+-- The halves of a change that inserts rows and then deletes others.
+pub record Halves : Type 0 where
+  -- the relations between: those before, with the rows that are inserted
+  pub mid : List Relation
+  -- whether rows of a relation of this name are inserted and others deleted
+  pub both : Bytes → Bool
+
 -- What a change of rows is, of one relation or of several: rows come that weren't there, or go with
 -- their last copy.
 pub record RowsChange : Type 0 where
-  -- the relations behind it
+  -- the relations after it
   pub after : List Relation
-  -- the relation whose change outdates a query, where one does
+  -- the relation whose change outdates a query, if one does
   pub outdater : Listed → Option Bytes
   -- whether it changes the rows of a relation of this name
   pub touches : Bytes → Bool
+  -- its halves, if rows may come and others go
+  pub halves : Option Halves
 
--- the change of one relation, with the relations behind it
+-- the change of one relation, with the relations after it: rows come, or rows go
 abbrev pub one_change : Bytes → List Relation → RowsChange
 one_change name after = record {
   after = after;
   outdater = by_relation name;
   touches = λ relation. bytes_eq relation name;
+  halves = None;
 }
 
 -- the change by which one relation has other rows

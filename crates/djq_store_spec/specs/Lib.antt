@@ -7,6 +7,10 @@ pub mod Listing
 pub mod Union
 pub mod Stale
 pub mod Changes
-pub mod Batch
+pub mod Held
+pub mod Lines
+pub mod Judging
+pub mod Done
+pub mod Transaction
 pub mod Delta
 pub mod DeltaCost

@@ -1,5 +1,5 @@
 -- What a listing has still to give, and what a page of it gives.
-use Rattle.std.specs.Prelude.{ℕ, List, ◌≡◌, ◌+◌, ◌++◌, ◌≤◌, Bool, true, false, length, All, Contains}
+use Rattle.std.specs.Prelude.{ℕ, List, ◌≡◌, ◌++◌, ◌≤◌, Bool, true, false, length, All, Contains}
 use Rattle.djq_model.specs.Data.{Tuple}
 use Rattle.djq_model.specs.Answer.{AreDifferent}
 

@@ -1,5 +1,5 @@
 -- Relations with other rows, texts that become known, and making a relation.
-use Rattle.std.specs.Prelude.{List, [], ◌∷◌, ◌≡◌, ◌+◌, ◌++◌, ◌≤◌, false, nat_le, nat_lt, Option, is_some, Result}
+use Rattle.std.specs.Prelude.{List, [], ◌∷◌, ◌≡◌, ◌++◌, ◌≤◌, false, nat_le, nat_lt, Option, is_some, Result}
 use Rattle.std.specs.Prelude.{OnErr, length, ⊤}
 use Rattle.djq_model.specs.declared.relation.ColumnType.{ColumnType}
 use Rattle.djq_model.specs.declared.relation.Relation.{Relation}

@@ -11,8 +11,9 @@
 //! ```
 //!
 //! To read first: `specs/Store.antt`, what a store contains; then `Changes.antt`, what a change of rows is, and
-//! `Delta.antt`, how answers change with it. `Relations`, `Rows`, `Registering`, `Union` and `Batch` have
-//! for each command its refusals in their order and what it does; `Asking` and `Listing` what it may
+//! `Delta.antt`, how answers change with it. `Relations`, `Rows`, `Registering`, `Union` and `Transaction`
+//! have for each command its refusals in their order and what it does (of `done` `Judging`, `Done` and `Lines` say why
+//! it is refused and what it leaves); `Asking` and `Listing` what it may
 //! return; `DeltaCost` what listing a delta may cost.
 //!
 //! What surprises: what a command does is a relation and no function, so it leaves open what the

@@ -21,15 +21,15 @@ use Rattle.djq_dictionary.specs.declared.refusal.InternRefusal.{InternRefusal}
 use Rattle.djq_dictionary.specs.declared.refusal.InternRefusal.TheVariants.{Full, NoMem}
 use Rattle.djq_database.specs.Cells.{HaveCells, cells_of}
 use Rattle.djq_database.proofs.Cells.{Grown, have_grown, all_grown, grown_is}
-use Rattle.djq_transaction.specs.declared.lines.Verb.{Verb}
-use Rattle.djq_transaction.specs.declared.lines.Verb.TheVariants.{Add}
-use Rattle.djq_transaction.specs.Held.{HeldLine}
+use Rattle.djq_protocol.specs.declared.held.Verb.{Verb}
+use Rattle.djq_protocol.specs.declared.held.Verb.TheVariants.{Add}
+use Rattle.djq_store_spec.specs.Held.{HeldLine}
 use Rattle.djq_transaction.specs.declared.net.Copies.{Copies}
 use Rattle.djq_transaction.specs.declared.net.Net.{Net}
-use Rattle.djq_transaction.specs.declared.judge.LineRefusal.TheVariants.{Limit, NoMemory}
-use Rattle.djq_transaction.specs.Lines.{same_row, with_naming, first_lines, after_verb, copies_before, copies_after}
-use Rattle.djq_transaction.specs.Judging.{texts_by, texts_added, names_row_before, is_new, rows_reached, limit_if}
-use Rattle.djq_transaction.specs.Judging.{refusal_by, row_refusal, StopsAtLine, HasItsPlace}
+use Rattle.djq_protocol.specs.declared.held.LineRefusal.TheVariants.{Limit, NoMemory}
+use Rattle.djq_store_spec.specs.Lines.{same_row, with_naming, first_lines, after_verb, copies_before, copies_after}
+use Rattle.djq_store_spec.specs.Judging.{texts_by, texts_added, names_row_before, is_new, rows_reached, limit_if}
+use Rattle.djq_store_spec.specs.Judging.{refusal_by, row_refusal, StopsAtLine, HasItsPlace}
 use Rattle.djq_transaction.specs.LookUp.{AreSame, Looked}
 use Rattle.djq_transaction.specs.Net.{key_cells, SuitsAt, SetsCopies, IsNet}
 use Rattle.djq_transaction.proofs.NamedRows.{same_are, are_same, keys_stay}
@@ -49,7 +49,7 @@ all_first P seen (h ∷ rest) a b =
     by true = a
     by false = All-append P seen (h ∷ []) a (All-cons P h [] (All-head P h rest b) (All-nil P))
 
-first_among : (lines : List HeldLine) (g : HeldLine) → Contains (first_lines lines) g → Contains lines g
+pub first_among : (lines : List HeldLine) (g : HeldLine) → Contains (first_lines lines) g → Contains lines g
 first_among lines g k = All-contains (Contains lines) (first_lines lines) g
     (all_first (Contains lines) [] lines (All-nil (Contains lines))
     (hold_each (Contains lines) lines (λ h c. c))) k

@@ -5,13 +5,13 @@ use Rattle.std.proofs.Common.{refl, ap, ap₂, ◌∙◌}
 use Rattle.djq_model.specs.declared.relation.Relation.{Relation}
 use Rattle.djq_model.specs.Data.{Bytes}
 use Rattle.djq_protocol.specs.declared.limits.TheConstants.{LAST_SEQ}
-use Rattle.djq_transaction.specs.Held.{HeldLine}
-use Rattle.djq_transaction.specs.declared.judge.LineRefusal.{LineRefusal}
-use Rattle.djq_transaction.specs.declared.judge.LineRefusal.TheVariants.{Limit, Absent, NoMemory}
-use Rattle.djq_transaction.specs.declared.judge.RefusedLine.{RefusedLine}
-use Rattle.djq_transaction.specs.declared.done.DoneRefusal.TheVariants.{OtherNumber, Line, LastChange}
-use Rattle.djq_transaction.specs.Judging.{lines_refusal, AnswersAs, UnlessMemory}
-use Rattle.djq_transaction.specs.Done.{is_other, refused_if, rows_changed, seq_refusal, done_refusal, AnswersDone}
+use Rattle.djq_store_spec.specs.Held.{HeldLine}
+use Rattle.djq_protocol.specs.declared.held.LineRefusal.{LineRefusal}
+use Rattle.djq_protocol.specs.declared.held.LineRefusal.TheVariants.{Limit, Absent, NoMemory}
+use Rattle.djq_protocol.specs.declared.held.RefusedLine.{RefusedLine}
+use Rattle.djq_protocol.specs.declared.held.DoneRefusal.TheVariants.{OtherNumber, Line, LastChange}
+use Rattle.djq_store_spec.specs.Judging.{lines_refusal, AnswersAs, UnlessMemory}
+use Rattle.djq_store_spec.specs.Done.{is_other, refused_if, rows_changed, seq_refusal, done_refusal, AnswersDone}
 
 -- `done` by its number, and by its lines
 by_parts : (relations : List Relation) (texts : List Bytes) (seq : ℕ) (lines : List HeldLine) (given : Option ℕ)

@@ -13,13 +13,13 @@ use Rattle.djq_model.proofs.Copies.{no_copies}
 use Rattle.djq_answer_laws.proofs.Lists.{hold_each, pairs_head, pairs_tail}
 use Rattle.djq_store_spec.specs.Relations.{with_rows}
 use Rattle.djq_store_spec.proofs.Relations.{counted_here, counted_apart}
-use Rattle.djq_transaction.specs.Held.{HeldLine}
-use Rattle.djq_transaction.specs.Lines.{copies_before, copies_after, line_comes, first_lines, with_so_many}
-use Rattle.djq_transaction.specs.Lines.{with_copies_left, relations_between, relations_after}
+use Rattle.djq_store_spec.specs.Held.{HeldLine}
+use Rattle.djq_store_spec.specs.Lines.{copies_before, copies_after, line_comes, first_lines, with_so_many}
+use Rattle.djq_store_spec.specs.Lines.{with_copies_left, relations_between, relations_after}
 use Rattle.djq_transaction.specs.LookUp.{AreSame}
 use Rattle.djq_transaction.proofs.FirstLines.{AreApart, same_back}
 use Rattle.djq_transaction.proofs.Entries.{all_apart}
-use Rattle.djq_transaction.proofs.SoManyCopies.{many_new, many_has_others}
+use Rattle.djq_store_spec.proofs.SoManyCopies.{many_new, many_has_others}
 use Rattle.djq_transaction.proofs.Applying.{rows_twice, row_stays}
 
 -- ---- the rows of a list, one of which is changed or gone

@@ -11,11 +11,11 @@ use Rattle.djq_answer_laws.proofs.Lists.{first_holds, kept_hold, kept_there, hol
 use Rattle.djq_database.specs.Cells.{HaveCells, cells_of}
 use Rattle.djq_database.specs.Catalog.{Catalog, IsCatalog, counted_at, rows_at}
 use Rattle.djq_protocol.specs.declared.limits.TheConstants.{ROWS}
-use Rattle.djq_transaction.specs.Held.{HeldLine}
+use Rattle.djq_store_spec.specs.Held.{HeldLine}
 use Rattle.djq_transaction.specs.declared.net.Copies.{Copies}
 use Rattle.djq_transaction.specs.declared.net.Net.{Net}
-use Rattle.djq_transaction.specs.Lines.{first_lines, copies_before, copies_after, line_comes, lines_come, with_copies_left}
-use Rattle.djq_transaction.specs.Lines.{relations_between, relations_after}
+use Rattle.djq_store_spec.specs.Lines.{first_lines, copies_before, copies_after, line_comes, lines_come, with_copies_left}
+use Rattle.djq_store_spec.specs.Lines.{relations_between, relations_after}
 use Rattle.djq_transaction.specs.LookUp.{AreSame}
 use Rattle.djq_transaction.specs.Net.{IsNet, IsRowAt, Suits, relation_place, copies_by, copies_came}
 use Rattle.djq_transaction.specs.Applied.{IsJudged, headings, HasCopiesAt, SetsCopiesAt, HasFirst, HasAllInserted}
@@ -253,8 +253,17 @@ module _ (base : List Relation) (lines : List HeldLine) (net : Net) (now : Catal
   pub all_inserted : HasFirst base lines place now net → HasAllInserted base lines now net
   all_inserted f = record {
     judged = f.judged;
+    absent = f.absent;
     here = f.here ∙ ap (λ (hs : List HeldLine). fold (with_copies_left base lines) base (filter (line_comes base lines) hs))
         (all_taken f.judged);
+  }
+
+  pub from_all : HasAllInserted base lines now net → HasFirst base lines place now net
+  from_all f = record {
+    judged = f.judged;
+    absent = f.absent;
+    here = f.here ∙ ap (λ (hs : List HeldLine). fold (with_copies_left base lines) base (filter (line_comes base lines) hs))
+        (sym (all_taken f.judged));
   }
 
   pub all_changed : HasChangedFirst base lines place now net → now.relations ≡ relations_after base lines

@@ -17,12 +17,12 @@ use Rattle.djq_store_spec.specs.Relations.{with_rows}
 use Rattle.djq_store_spec.proofs.Relations.{relation_here, counted_apart}
 use Rattle.djq_database.specs.Catalog.{Catalog, relation_at, counted_at, with_rows_at}
 use Rattle.djq_database.proofs.Cells.{names, differ}
-use Rattle.djq_transaction.specs.Held.{HeldLine}
-use Rattle.djq_transaction.specs.Lines.{copies_after, with_so_many, with_copies_left}
+use Rattle.djq_store_spec.specs.Held.{HeldLine}
+use Rattle.djq_store_spec.specs.Lines.{copies_after, with_so_many, with_copies_left}
 use Rattle.djq_transaction.specs.LookUp.{AreSame}
 use Rattle.djq_transaction.specs.Net.{IsRowAt}
 use Rattle.djq_transaction.specs.Applied.{HasCopiesAt, SetsCopiesAt}
-use Rattle.djq_transaction.proofs.SoManyCopies.{many_again, many_among, many_same, many_others, many_has_others}
+use Rattle.djq_store_spec.proofs.SoManyCopies.{many_again, many_among, many_same, many_others, many_has_others}
 
 -- ---- other rows by a relation's name
 

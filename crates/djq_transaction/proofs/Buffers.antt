@@ -13,12 +13,12 @@ use Rattle.std.proofs.Math.Seq.{drop-append_seam}
 use Rattle.djq_model.specs.declared.value.Value.{Value}
 use Rattle.djq_model.specs.Data.{Bytes}
 use Rattle.djq_model.specs.declared.memory.NoMem.{NoMem}
-use Rattle.djq_transaction.specs.declared.lines.Verb.{Verb}
+use Rattle.djq_protocol.specs.declared.held.Verb.{Verb}
 use Rattle.djq_transaction.specs.declared.held.Entry.{Entry}
 use Rattle.djq_transaction.specs.declared.held.Buffer.{Buffer}
-use Rattle.djq_transaction.specs.declared.held.TheConstants.{HELD_LINES, HELD_BYTES}
-use Rattle.djq_transaction.specs.Held.{HeldLine, HeldTransaction, has_room, batch, done, log_lines}
-use Rattle.djq_transaction.specs.Buffer.{bytes_of_line, logged_in, lines_held_in, SpanIsWithin, IsBuffer, next_entry, HoldsOneMore}
+use Rattle.djq_protocol.specs.declared.limits.TheConstants.{HELD, HELD_BYTES}
+use Rattle.djq_store_spec.specs.Held.{HeldLine, HeldTransaction, has_room, batch, done, log_lines}
+use Rattle.djq_transaction.specs.Buffer.{bytes_of_line, logged_in, lines_held_in, SpanIsWithin, IsBuffer, next_entry, GetsOneMoreLine}
 use Rattle.djq_transaction.specs.Buffer.{HasTheSame}
 
 -- a part of a list is that of the list with more appended
@@ -144,7 +144,7 @@ buffer_same old new s i = record {
 }
 
 pub holds_more : (old new : Buffer) (verb : Verb) (relation : Bytes) (row : List Value) (line : Bytes) → IsBuffer old
-    → HoldsOneMore old verb relation row line new → lines_held_in new ≡ record {
+    → GetsOneMoreLine old verb relation row line new → lines_held_in new ≡ record {
       lines = (lines_held_in old).lines ++ record { verb = verb; relation = relation; row = row } ∷ [];
       logged = (lines_held_in old).logged ++ line ∷ [];
     }
@@ -157,7 +157,7 @@ holds_more old new verb relation row line i s =
     (logged_more old.values.items row old.bytes.items line old.entries.items verb relation i.within)
 
 pub buffer_more : (old new : Buffer) (verb : Verb) (relation : Bytes) (row : List Value) (line : Bytes) → IsBuffer old
-    → length old.entries.items < HELD_LINES → HoldsOneMore old verb relation row line new → IsBuffer new
+    → length old.entries.items < HELD → GetsOneMoreLine old verb relation row line new → IsBuffer new
 buffer_more old new verb relation row line i room s =
     let vs = old.values.items ++ row in
     let bs = old.bytes.items ++ line in
@@ -218,26 +218,26 @@ log_past ls (suc n) past = past_read ls done n (omega (arith, past))
 -- ---- a line that is appended, or isn't for want of memory
 
 has_space : (buffer : Buffer) (held : HeldTransaction) (line : ℕ) → lines_held_in buffer ≡ held → has_room held line ≡ true
-    → length buffer.entries.items < HELD_LINES
+    → length buffer.entries.items < HELD
 has_space buffer held line view room =
-    let fewer = (and_parts (nat_lt (length held.lines) HELD_LINES)
+    let fewer = (and_parts (nat_lt (length held.lines) HELD)
     (nat_le (sum_by (λ l. length l) held.logged + line) HELD_BYTES) room).0 in
     omega (
       arith,
-      ltb-true (length held.lines) HELD_LINES fewer,
+      ltb-true (length held.lines) HELD fewer,
       ap (λ (t : HeldTransaction). length t.lines) view,
       length-map buffer.entries.items (bytes_of_line buffer.values.items),
     )
 
 pub buffer_after : (old new : Buffer) (held : HeldTransaction) (verb : Verb) (relation : Bytes) (row : List Value) (line : Bytes)
     (r : Result ⊤ NoMem) → lines_held_in old ≡ held → has_room held (length line) ≡ true → IsBuffer old
-    → OnOk r (HoldsOneMore old verb relation row line new) → OnErr r (HasTheSame old new) → IsBuffer new
+    → OnOk r (GetsOneMoreLine old verb relation row line new) → OnErr r (HasTheSame old new) → IsBuffer new
 buffer_after old new held verb relation row line (Ok u) view room i ok err =
     buffer_more old new verb relation row line i (has_space old held (length line) view room) ok
 buffer_after old new held verb relation row line (Err e) view room i ok err = buffer_same old new err i
 
 pub holds_after : (old new : Buffer) (held : HeldTransaction) (verb : Verb) (relation : Bytes) (row : List Value) (line : Bytes)
-    (r : Result ⊤ NoMem) → lines_held_in old ≡ held → IsBuffer old → OnOk r (HoldsOneMore old verb relation row line new)
+    (r : Result ⊤ NoMem) → lines_held_in old ≡ held → IsBuffer old → OnOk r (GetsOneMoreLine old verb relation row line new)
     → OnOk r (lines_held_in new ≡ record {
       lines = held.lines ++ record { verb = verb; relation = relation; row = row } ∷ [];
       logged = held.logged ++ line ∷ [];

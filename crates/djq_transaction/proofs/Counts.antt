@@ -6,10 +6,10 @@ use Rattle.std.proofs.lemmas.List.{take_all}
 use Rattle.std.proofs.lemmas.List.Filters.{length-filter_more}
 use Rattle.djq_model.specs.declared.relation.Relation.{Relation}
 use Rattle.djq_model.specs.Data.{Bytes}
-use Rattle.djq_transaction.specs.Held.{HeldLine}
+use Rattle.djq_store_spec.specs.Held.{HeldLine}
 use Rattle.djq_transaction.specs.declared.net.Copies.{Copies}
 use Rattle.djq_transaction.specs.declared.net.Net.{Net}
-use Rattle.djq_transaction.specs.Lines.{first_lines}
+use Rattle.djq_store_spec.specs.Lines.{first_lines}
 use Rattle.djq_transaction.specs.Net.{copies_by, IsNet}
 use Rattle.djq_transaction.proofs.Full.{counted}
 

@@ -9,10 +9,10 @@ use Rattle.std.proofs.lemmas.Option.{slice_get-get_or, slice_get-map, slice_get_
 use Rattle.djq_model.specs.declared.relation.Relation.{Relation}
 use Rattle.djq_model.specs.Data.{Bytes}
 use Rattle.djq_answer_laws.proofs.Lists.{pairs_head, pairs_tail}
-use Rattle.djq_transaction.specs.Held.{HeldLine, no_line}
+use Rattle.djq_store_spec.specs.Held.{HeldLine, no_line}
 use Rattle.djq_transaction.specs.declared.net.Copies.{Copies}
 use Rattle.djq_transaction.specs.declared.net.Net.{Net}
-use Rattle.djq_transaction.specs.Lines.{first_lines}
+use Rattle.djq_store_spec.specs.Lines.{first_lines}
 use Rattle.djq_transaction.specs.LookUp.{AreSame}
 use Rattle.djq_transaction.specs.Net.{copies_by, IsNet}
 use Rattle.djq_transaction.proofs.FirstLines.{AreApart, firsts_apart}

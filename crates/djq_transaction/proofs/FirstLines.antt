@@ -10,9 +10,9 @@ use Rattle.std.proofs.lemmas.List.Folds.{Any-from_list_any, list_any-from_Any}
 use Rattle.djq_model.specs.declared.relation.Relation.{Relation}
 use Rattle.djq_answer_laws.proofs.Lists.{nothing_there, first_or_later, first_there, later_there, some_one, one_there}
 use Rattle.djq_answer_laws.proofs.Lists.{hold_each, pairs_head, pairs_tail, pairs_join}
-use Rattle.djq_transaction.specs.Held.{HeldLine}
+use Rattle.djq_store_spec.specs.Held.{HeldLine}
 use Rattle.djq_transaction.specs.declared.net.Copies.{Copies}
-use Rattle.djq_transaction.specs.Lines.{same_row, with_naming, first_lines, after_verb, copies_before, copies_after}
+use Rattle.djq_store_spec.specs.Lines.{same_row, with_naming, first_lines, after_verb, copies_before, copies_after}
 use Rattle.djq_transaction.specs.LookUp.{AreSame, IsRowNamed}
 use Rattle.djq_transaction.specs.Net.{copies_by}
 use Rattle.djq_transaction.proofs.NamedRows.{same_are, are_same, copies_step}

@@ -13,11 +13,11 @@ use Rattle.djq_model.specs.Equality.{bytes_eq-decides}
 use Rattle.djq_protocol.specs.declared.limits.TheConstants.{ROWS}
 use Rattle.djq_answer_laws.proofs.Lists.{hold_each}
 use Rattle.djq_database.specs.Catalog.{Catalog, no_relation, relation_at, rows_at}
-use Rattle.djq_transaction.specs.Held.{HeldLine}
+use Rattle.djq_store_spec.specs.Held.{HeldLine}
 use Rattle.djq_transaction.specs.declared.net.Copies.{Copies}
 use Rattle.djq_transaction.specs.declared.net.Net.{Net}
-use Rattle.djq_transaction.specs.Lines.{first_lines, copies_before}
-use Rattle.djq_transaction.specs.Judging.{rows_reached}
+use Rattle.djq_store_spec.specs.Lines.{first_lines, copies_before}
+use Rattle.djq_store_spec.specs.Judging.{rows_reached}
 use Rattle.djq_transaction.specs.Net.{keys, is_new_in, relation_place, row_key, copies_by, Suits, SuitsAt, IsNet}
 use Rattle.djq_transaction.proofs.NamedRows.{place_is, found_named}
 

@@ -1,5 +1,5 @@
 -- A line's row joins the group of its relation.
-use Rattle.std.specs.Prelude.{ℕ, zero, suc, List, [], ◌∷◌, ◌≡◌, ◌≢◌, ◌==◌, ◌&&◌, ◌||◌, ◌+◌, ◌++◌, ◌<◌, Bool, true, false, not}
+use Rattle.std.specs.Prelude.{ℕ, suc, List, [], ◌∷◌, ◌≡◌, ◌≢◌, ◌==◌, ◌||◌, ◌+◌, ◌++◌, ◌<◌, Bool, true, false, not}
 use Rattle.std.specs.Prelude.{cond, None, Some, length, map, filter, nat_lt, position, slice_get, slice_set, slice_index_or, All}
 use Rattle.std.specs.Prelude.{AllPairs, Contains}
 use Rattle.std.specs.List.{position_or_len}
@@ -12,15 +12,13 @@ use Rattle.std.proofs.lemmas.Option.{slice_get_read}
 use Rattle.djq_model.specs.declared.relation.Relation.{Relation}
 use Rattle.djq_model.specs.Data.{Bytes, bytes_eq, relation_of}
 use Rattle.djq_model.specs.Equality.{bytes_eq-decides}
-use Rattle.djq_answer_laws.proofs.Lists.{first_holds, hold_each, pairs_head, pairs_tail}
+use Rattle.djq_answer_laws.proofs.Lists.{hold_each, pairs_head, pairs_tail}
 use Rattle.djq_database.specs.declared.relation_id.RelationId.{RelationId}
 use Rattle.djq_database.specs.Cells.{cells_of}
-use Rattle.djq_transaction.specs.Held.{HeldLine}
-use Rattle.djq_transaction.specs.declared.groups.RowGroup.{RowGroup}
-use Rattle.djq_transaction.specs.declared.net.Copies.{Copies}
-use Rattle.djq_transaction.specs.Lines.{line_comes, line_goes, copies_before, copies_after}
-use Rattle.djq_transaction.specs.Net.{relation_place, copies_came, copies_went, Suits}
-use Rattle.djq_transaction.specs.Grouped.{relations_named, cells_in_relation, group_among, groups_among}
+use Rattle.djq_store_spec.specs.Held.{HeldLine}
+use Rattle.djq_reach.specs.declared.group.Group.{Group}
+use Rattle.djq_transaction.specs.Net.{relation_place, Suits}
+use Rattle.djq_transaction.specs.Grouped.{relations_named, cells_in_relation, grouped_in, grouped_rows}
 use Rattle.djq_transaction.specs.Grouped.{bare_group, HasGroupAt, IsEntryOf}
 use Rattle.djq_transaction.proofs.NamedRows.{found_named}
 use Rattle.djq_transaction.proofs.NamedRelations.{is_named, named_once, named_hold, itself_named, each_named, named_step}
@@ -31,7 +29,7 @@ abbrev pub IsFound : List Relation → Bytes → Type 0
 IsFound relations name = (r : Relation) × (relation_of relations name ≡ Some r)
 
 -- relations that are there have one place where they have one name
-places_tell : (relations : List Relation) (m n : Bytes) → IsFound relations m → IsFound relations n
+pub places_tell : (relations : List Relation) (m n : Bytes) → IsFound relations m → IsFound relations n
     → (relation_place relations m == relation_place relations n) ≡ bytes_eq m n
 places_tell relations m n f g = by (bytes_eq m n) refl
   where
@@ -55,7 +53,7 @@ abbrev pub name_at : List Bytes → Bytes → ℕ
 name_at names name = position_or_len (λ m. bytes_eq m name) names
 
 -- a position among mapped names
-mapped_position : (f : Bytes → RowGroup) (p : RowGroup → Bool) (name : Bytes) (names : List Bytes)
+mapped_position : (f : Bytes → Group) (p : Group → Bool) (name : Bytes) (names : List Bytes)
     → All (λ m. p (f m) ≡ bytes_eq m name) names → position_or_len p (map f names) ≡ name_at names name
 mapped_position f p name [] h = refl
 mapped_position f p name (m ∷ ms) h =
@@ -79,12 +77,6 @@ position_none p xs e less =
     let both : Some (position_or_len p xs) ≡ None =
     ap (λ (b : Bool). cond b (Some (position_or_len p xs)) None) (sym yes) ∙ e in
     cc both
-
--- a row that comes doesn't go
-came_stays : (before after : ℕ) → ((before == 0) && nat_lt 0 after) ≡ true → (nat_lt 0 before && (after == 0)) ≡ false
-came_stays zero after e = refl
-came_stays (suc before) after e =
-    let none = eqb-true (suc before) 0 (first_holds (suc before == 0) (nat_lt 0 after) e) in absurd (omega (arith, none))
 
 -- a name has a place exactly where it is named
 named_within : (names : List Bytes) (name : Bytes) → name_at names name < length names → is_named name names ≡ true
@@ -117,13 +109,13 @@ unnamed_at (m ∷ ms) name e = by (bytes_eq m name) e (λ k. unnamed_at ms name 
     by true k more = absurd (cc k)
     by false k more = omega (arith, more k)
 
-same_mapped : (f g : Bytes → RowGroup) (names : List Bytes) → All (λ m. f m ≡ g m) names → map f names ≡ map g names
+same_mapped : (f g : Bytes → Group) (names : List Bytes) → All (λ m. f m ≡ g m) names → map f names ≡ map g names
 same_mapped f g [] h = refl
-same_mapped f g (m ∷ ms) h = ap₂ (λ (x : RowGroup) (xs : List RowGroup). x ∷ xs)
+same_mapped f g (m ∷ ms) h = ap₂ (λ (x : Group) (xs : List Group). x ∷ xs)
     (All-head (λ (n : Bytes). f n ≡ g n) m ms h) (same_mapped f g ms (All-tail (λ (n : Bytes). f n ≡ g n) m ms h))
 
 -- the group of a name is another, and all others stay
-set_named : (f g : Bytes → RowGroup) (names : List Bytes) (name : Bytes) → AllPairs (λ m n. m ≢ n) names
+set_named : (f g : Bytes → Group) (names : List Bytes) (name : Bytes) → AllPairs (λ m n. m ≢ n) names
     → ((m : Bytes) → bytes_eq m name ≡ false → f m ≡ g m) → name_at names name < length names
     → slice_set (map f names) (name_at names name) (g name) ≡ map g names
 set_named f g [] name d other less = absurd (omega (arith, less))
@@ -143,13 +135,13 @@ set_named f g (m ∷ ms) name d other less =
         → slice_set (map f (m ∷ ms)) (cond (not b) (1 + name_at ms name) 0) (g name) ≡ map g (m ∷ ms)
     by true e k more =
         let same : m ≡ name = (bytes_eq-decides m name).0 e in
-        ap₂ (λ (x : RowGroup) (xs : List RowGroup). x ∷ xs) (ap g (sym same)) (same_mapped f g ms (rest same))
+        ap₂ (λ (x : Group) (xs : List Group). x ∷ xs) (ap g (sym same)) (same_mapped f g ms (rest same))
     by false e k more =
         let next : 1 + name_at ms name ≡ suc (name_at ms name) = omega arith in
         ap (λ (i : ℕ). slice_set (f m ∷ map f ms) i (g name)) next
-        ∙ ap₂ (λ (x : RowGroup) (xs : List RowGroup). x ∷ xs) (other m e) (more (omega (arith, k)))
+        ∙ ap₂ (λ (x : Group) (xs : List Group). x ∷ xs) (other m e) (more (omega (arith, k)))
 
-get_named : (f : Bytes → RowGroup) (names : List Bytes) (name : Bytes) → name_at names name < length names
+get_named : (f : Bytes → Group) (names : List Bytes) (name : Bytes) → name_at names name < length names
     → slice_get (map f names) (name_at names name) ≡ Some (f name)
 get_named f [] name less = absurd (omega (arith, less))
 get_named f (m ∷ ms) name less = by (bytes_eq m name) refl less (λ k. get_named f ms name k)
@@ -164,53 +156,39 @@ get_named f (m ∷ ms) name less = by (bytes_eq m name) refl less (λ k. get_nam
 
 -- ---- the rows of a relation, with one line more
 
-more_cells : (texts : List Bytes) (q : HeldLine → Bool) (some : List HeldLine) (h : HeldLine) (name : Bytes)
-    → cells_in_relation texts (filter q (some ++ h ∷ [])) name
-    ≡ cells_in_relation texts (filter q some) name
-    ++ cond (q h) (cond (bytes_eq h.relation name) (cells_of texts h.row ∷ []) []) []
-more_cells texts q some h name =
-    ap (λ (hs : List HeldLine). cells_in_relation texts hs name) (filter-append q some (h ∷ []))
-    ∙ ap (λ (hs : List HeldLine). map (λ (g : HeldLine). cells_of texts g.row) hs)
-    (filter-append (λ (g : HeldLine). bytes_eq g.relation name) (filter q some) (filter q (h ∷ [])))
-    ∙ map-append (λ (g : HeldLine). cells_of texts g.row)
-    (filter (λ (g : HeldLine). bytes_eq g.relation name) (filter q some))
-    (filter (λ (g : HeldLine). bytes_eq g.relation name) (filter q (h ∷ [])))
-    ∙ ap (λ (us : List (List ℕ)). cells_in_relation texts (filter q some) name ++ us)
-    (one (q h) (bytes_eq h.relation name) refl)
+more_cells : (texts : List Bytes) (some : List HeldLine) (h : HeldLine) (name : Bytes)
+    → cells_in_relation texts (some ++ h ∷ []) name
+    ≡ cells_in_relation texts some name ++ cond (bytes_eq h.relation name) (cells_of texts h.row ∷ []) []
+more_cells texts some h name =
+    ap (λ (hs : List HeldLine). map (λ (g : HeldLine). cells_of texts g.row) hs)
+    (filter-append (λ (g : HeldLine). bytes_eq g.relation name) some (h ∷ []))
+    ∙ map-append (λ (g : HeldLine). cells_of texts g.row) (filter (λ (g : HeldLine). bytes_eq g.relation name) some)
+    (filter (λ (g : HeldLine). bytes_eq g.relation name) (h ∷ []))
+    ∙ ap (λ (us : List (List ℕ)). cells_in_relation texts some name ++ us) (one (bytes_eq h.relation name))
   where
-    one : (a b : Bool) → bytes_eq h.relation name ≡ b
-        → cells_in_relation texts (cond a (h ∷ []) []) name ≡ cond a (cond b (cells_of texts h.row ∷ []) []) []
-    one false b e = refl
-    one true b e = ap (λ (c : Bool). map (λ (g : HeldLine). cells_of texts g.row) (cond c (h ∷ []) [])) e ∙ on b
-      where
-        on : (c : Bool) → map (λ (g : HeldLine). cells_of texts g.row) (cond c (h ∷ []) [])
-            ≡ cond c (cells_of texts h.row ∷ []) []
-        on true = refl
-        on false = refl
+    one : (b : Bool) → map (λ (g : HeldLine). cells_of texts g.row) (cond b (h ∷ []) [])
+        ≡ cond b (cells_of texts h.row ∷ []) []
+    one true = refl
+    one false = refl
 
 -- no row of a relation that no line names
-no_cells : (texts : List Bytes) (q : HeldLine → Bool) (some : List HeldLine) (name : Bytes)
-    → All (λ g. bytes_eq g.relation name ≡ false) some → cells_in_relation texts (filter q some) name ≡ []
-no_cells texts q [] name h = refl
-no_cells texts q (g ∷ gs) name h =
-    by (q g) (All-head (λ (k : HeldLine). bytes_eq k.relation name ≡ false) g gs h)
-    (no_cells texts q gs name (All-tail (λ (k : HeldLine). bytes_eq k.relation name ≡ false) g gs h))
-  where
-    by : (b : Bool) → bytes_eq g.relation name ≡ false → cells_in_relation texts (filter q gs) name ≡ []
-        → cells_in_relation texts (cond b (g ∷ filter q gs) (filter q gs)) name ≡ []
-    by false e rest = rest
-    by true e rest = ap (λ (c : Bool). map (λ (k : HeldLine). cells_of texts k.row)
-        (cond c (g ∷ filter (λ (k : HeldLine). bytes_eq k.relation name) (filter q gs))
-        (filter (λ (k : HeldLine). bytes_eq k.relation name) (filter q gs)))) e ∙ rest
+no_cells : (texts : List Bytes) (some : List HeldLine) (name : Bytes)
+    → All (λ g. bytes_eq g.relation name ≡ false) some → cells_in_relation texts some name ≡ []
+no_cells texts [] name h = refl
+no_cells texts (g ∷ gs) name h =
+    ap (λ (b : Bool). map (λ (k : HeldLine). cells_of texts k.row)
+    (cond b (g ∷ filter (λ (k : HeldLine). bytes_eq k.relation name) gs)
+    (filter (λ (k : HeldLine). bytes_eq k.relation name) gs)))
+    (All-head (λ (k : HeldLine). bytes_eq k.relation name ≡ false) g gs h)
+    ∙ no_cells texts gs name (All-tail (λ (k : HeldLine). bytes_eq k.relation name ≡ false) g gs h)
 
-module _ (relations : List Relation) (texts : List Bytes) (lines some : List HeldLine) (h : HeldLine) (id : RelationId)
-    (cells : List ℕ) (copies : Copies) (suit : All (Suits relations) some)
-    (entry : IsEntryOf relations texts lines h id cells copies) where
-  abbrev before : Bytes → RowGroup
-  before = group_among relations texts lines some
+module _ (relations : List Relation) (texts : List Bytes) (some : List HeldLine) (h : HeldLine) (id : RelationId)
+    (cells : List ℕ) (suit : All (Suits relations) some) (entry : IsEntryOf relations texts h id cells) where
+  abbrev before : Bytes → Group
+  before = grouped_in relations texts some
 
-  abbrev after : Bytes → RowGroup
-  after = group_among relations texts lines (some ++ h ∷ [])
+  abbrev after : Bytes → Group
+  after = grouped_in relations texts (some ++ h ∷ [])
 
   abbrev named : List Bytes
   named = relations_named (some ++ h ∷ [])
@@ -238,7 +216,7 @@ module _ (relations : List Relation) (texts : List Bytes) (lines some : List Hel
       (entry.suits.relation, entry.suits.found))
 
   -- the groups, with one of the line's relation, which stands at a place
-  pub record HasGroups (at : ℕ) (groups : List RowGroup) : Type 0 where
+  pub record HasItsGroup (at : ℕ) (groups : List Group) : Type 0 where
     pub groups_are : groups ≡ map before named
     pub place_is : at ≡ name_at named h.relation
 
@@ -247,7 +225,7 @@ module _ (relations : List Relation) (texts : List Bytes) (lines some : List Hel
       (hold_each (λ (g : HeldLine). IsFound relations g.relation) some
       (λ g k. let s = All-contains (Suits relations) some g suit k in (s.relation, s.found)))
 
-  abbrev is_its : RowGroup → Bool
+  abbrev is_its : Group → Bool
   is_its g = g.relation.at == id.at
 
   -- no row among the lines is of a relation that they don't name
@@ -257,14 +235,8 @@ module _ (relations : List Relation) (texts : List Bytes) (lines some : List Hel
       hold_each (λ (g : HeldLine). bytes_eq g.relation h.relation ≡ false) some
       (λ g k. no g (All-contains (λ (f : HeldLine). is_named f.relation (relations_named some) ≡ true) some g
       (each_named [] some) k) (bytes_eq g.relation h.relation) refl) in
-      ap (λ (i : ℕ). let g : RowGroup = record { relation = record { at = i }; inserted = []; removed = [] } in g)
-      entry.place
-      ∙ ap₂ (λ (xs ys : List (List ℕ)). let g : RowGroup = record {
-        relation = record { at = relation_place relations h.relation };
-        inserted = xs;
-        removed = ys;
-      } in g) (sym (no_cells texts (line_comes relations lines) some h.relation apart))
-      (sym (no_cells texts (line_goes relations lines) some h.relation apart))
+      ap₂ (λ (i : ℕ) (us : List (List ℕ)). let g : Group = record { relation = record { at = i }; rows = us } in g)
+      entry.place (sym (no_cells texts some h.relation apart))
     where
       no : (g : HeldLine) → is_named g.relation (relations_named some) ≡ true → (b : Bool)
           → bytes_eq g.relation h.relation ≡ b → b ≡ false
@@ -275,12 +247,12 @@ module _ (relations : List Relation) (texts : List Bytes) (lines some : List Hel
           subst (λ (n : Bytes). is_named n (relations_named some) ≡ true) same k in
           absurd (cc (yes, none))
 
-  pub placed : (old new : List RowGroup) (at : ℕ) → old ≡ groups_among relations texts lines some
-      → HasGroupAt id old at new → HasGroups at new
+  pub placed : (old new : List Group) (at : ℕ) → old ≡ grouped_rows relations texts some
+      → HasGroupAt id old at new → HasItsGroup at new
   placed old new at was (inl p) =
       let names = relations_named some in
       let first = position_some is_its (map before names) at
-      (ap (λ (gs : List RowGroup). position is_its gs) (sym was) ∙ p.0) in
+      (ap (λ (gs : List Group). position is_its gs) (sym was) ∙ p.0) in
       let mapped = mapped_position before is_its h.relation names (tells names some_found) in
       let less : name_at names h.relation < length names = omega (arith, first.1, mapped, length-map names before) in
       let same : named ≡ names = named_step some h
@@ -293,62 +265,31 @@ module _ (relations : List Relation) (texts : List Bytes) (lines some : List Hel
       let names = relations_named some in
       let mapped = mapped_position before is_its h.relation names (tells names some_found) in
       let nowhere : position is_its (map before names) ≡ None =
-      ap (λ (gs : List RowGroup). position is_its gs) (sym was) ∙ p.0 in
+      ap (λ (gs : List Group). position is_its gs) (sym was) ∙ p.0 in
       let none : is_named h.relation names ≡ false = false_from_ne_true (is_named h.relation names) (λ yes.
       position_none is_its (map before names) nowhere
       (omega (arith, within_named names h.relation yes, mapped, length-map names before))) in
       let same : named ≡ names ++ h.relation ∷ [] = named_step some h
       ∙ ap (λ (b : Bool). cond b names (names ++ h.relation ∷ [])) none in
       record {
-        groups_are = p.2 ∙ ap₂ (λ (gs : List RowGroup) (g : RowGroup). gs ++ g ∷ []) was (bare_before none)
+        groups_are = p.2 ∙ ap₂ (λ (gs : List Group) (g : Group). gs ++ g ∷ []) was (bare_before none)
             ∙ sym (map-append before names (h.relation ∷ [])) ∙ ap (λ (ns : List Bytes). map before ns) (sym same);
-        place_is = p.1 ∙ ap (λ (gs : List RowGroup). length gs) was ∙ length-map names before
+        place_is = p.1 ∙ ap (λ (gs : List Group). length gs) was ∙ length-map names before
             ∙ sym (unnamed_at names h.relation none) ∙ ap (λ (ns : List Bytes). name_at ns h.relation) (sym same);
       }
 
   -- ---- the line's row joins
 
-  abbrev group_with : List (List ℕ) → List (List ℕ) → Bytes → RowGroup
-  group_with xs ys name = record {
-    relation = record { at = relation_place relations name };
-    inserted = xs;
-    removed = ys;
-  }
-
-  -- a line that doesn't pass, or is of another relation, adds no row
-  not_passed : (q : HeldLine → Bool) (name : Bytes) → q h ≡ false
-      → cells_in_relation texts (filter q some) name ≡ cells_in_relation texts (filter q (some ++ h ∷ [])) name
-  not_passed q name e =
-      let all = cells_in_relation texts (filter q some) name in
-      sym (more_cells texts q some h name
-      ∙ ap (λ (b : Bool). all ++ cond b (cond (bytes_eq h.relation name) (cells_of texts h.row ∷ []) []) []) e
-      ∙ append-nil all)
-
-  elsewhere : (q : HeldLine → Bool) (name : Bytes) → bytes_eq h.relation name ≡ false
-      → cells_in_relation texts (filter q some) name ≡ cells_in_relation texts (filter q (some ++ h ∷ [])) name
-  elsewhere q name e =
-      let all = cells_in_relation texts (filter q some) name in
-      sym (more_cells texts q some h name
-      ∙ ap (λ (b : Bool). all ++ cond (q h) (cond b (cells_of texts h.row ∷ []) []) []) e
-      ∙ neither (q h) all)
-    where
-      neither : (b : Bool) (us : List (List ℕ)) → us ++ cond b [] [] ≡ us
-      neither true us = append-nil us
-      neither false us = append-nil us
-
-  passed : (q : HeldLine → Bool) → q h ≡ true → cells_in_relation texts (filter q some) h.relation ++ cells ∷ []
-      ≡ cells_in_relation texts (filter q (some ++ h ∷ [])) h.relation
-  passed q e =
-      let all = cells_in_relation texts (filter q some) h.relation in
-      ap (λ (u : List ℕ). all ++ u ∷ []) entry.cells_are
-      ∙ sym (more_cells texts q some h h.relation
-      ∙ ap₂ (λ (a b : Bool). all ++ cond a (cond b (cells_of texts h.row ∷ []) []) []) e
-      ((bytes_eq-decides h.relation h.relation).1 refl))
-
   other_group : (name : Bytes) → bytes_eq name h.relation ≡ false → before name ≡ after name
   other_group name e =
-      ap₂ (λ (xs ys : List (List ℕ)). group_with xs ys name) (elsewhere (line_comes relations lines) name no)
-      (elsewhere (line_goes relations lines) name no)
+      let all = cells_in_relation texts some name in
+      ap (λ (us : List (List ℕ)). let g : Group = record {
+        relation = record { at = relation_place relations name };
+        rows = us;
+      } in g)
+      (sym (more_cells texts some h name
+      ∙ ap (λ (b : Bool). all ++ cond b (cells_of texts h.row ∷ []) []) no
+      ∙ append-nil all))
     where
       no : bytes_eq h.relation name ≡ false
       no = false_from_ne_true (bytes_eq h.relation name) (λ k.
@@ -356,77 +297,43 @@ module _ (relations : List Relation) (texts : List Bytes) (lines some : List Hel
           (bytes_eq-decides name h.relation).1 (sym ((bytes_eq-decides h.relation name).0 k)) in
           cc (yes, e))
 
-  came_is : copies_came copies ≡ line_comes relations lines h
-  came_is = ap (λ (k : Copies). copies_came k) entry.copies_are
-
-  went_is : copies_went copies ≡ line_goes relations lines h
-  went_is = ap (λ (k : Copies). copies_went k) entry.copies_are
-
-  its_group : (at : ℕ) (mid : List RowGroup) (g : RowGroup) → HasGroups at mid → g ≡ slice_index_or mid at g
+  its_group : (at : ℕ) (mid : List Group) (g : Group) → HasItsGroup at mid → g ≡ slice_index_or mid at g
       → g ≡ before h.relation
   its_group at mid g has e =
       let less : at < length mid = omega (
         arith,
         has.place_is,
         within,
-        ap (λ (gs : List RowGroup). length gs) has.groups_are,
+        ap (λ (gs : List Group). length gs) has.groups_are,
         length-map named before,
       ) in
       let there : Some g ≡ Some (before h.relation) =
       sym (slice_get_read mid (length mid) at g refl less e)
-      ∙ ap₂ (λ (gs : List RowGroup) (i : ℕ). slice_get gs i) has.groups_are has.place_is
+      ∙ ap₂ (λ (gs : List Group) (i : ℕ). slice_get gs i) has.groups_are has.place_is
       ∙ get_named before named h.relation within in
       cc there
 
-  put : (at : ℕ) (mid : List RowGroup) (new : RowGroup) → HasGroups at mid → new ≡ after h.relation
-      → slice_set mid at new ≡ groups_among relations texts lines (some ++ h ∷ [])
-  put at mid new has e =
-      ap₂ (λ (gs : List RowGroup) (i : ℕ). slice_set gs i new) has.groups_are has.place_is
-      ∙ ap (λ (g : RowGroup). slice_set (map before named) (name_at named h.relation) g) e
+  its_rows : cells_in_relation texts some h.relation ++ cells ∷ [] ≡ cells_in_relation texts (some ++ h ∷ []) h.relation
+  its_rows =
+      let all = cells_in_relation texts some h.relation in
+      ap (λ (u : List ℕ). all ++ u ∷ []) entry.cells_are
+      ∙ sym (more_cells texts some h h.relation
+      ∙ ap (λ (b : Bool). all ++ cond b (cells_of texts h.row ∷ []) []) ((bytes_eq-decides h.relation h.relation).1 refl))
+
+  pub joined : (at : ℕ) (mid : List Group) (g : Group) (rows : List (List ℕ)) → HasItsGroup at mid
+      → g ≡ slice_index_or mid at g → rows ≡ g.rows ++ cells ∷ []
+      → slice_set mid at (record { relation = g.relation; rows = rows }) ≡ grouped_rows relations texts (some ++ h ∷ [])
+  joined at mid g rows has e more =
+      let with_these : List (List ℕ) → Group = (λ (us : List (List ℕ)). record {
+        relation = record { at = relation_place relations h.relation };
+        rows = us;
+      }) in
+      let new : Group = record { relation = g.relation; rows = rows } in
+      let is : new ≡ after h.relation =
+      ap (λ (us : List (List ℕ)). let k : Group = record { relation = g.relation; rows = us } in k) more
+      ∙ ap (λ (k : Group). let j : Group = record { relation = k.relation; rows = k.rows ++ cells ∷ [] } in j)
+      (its_group at mid g has e)
+      ∙ ap with_these its_rows in
+      ap₂ (λ (gs : List Group) (i : ℕ). slice_set gs i new) has.groups_are has.place_is
+      ∙ ap (λ (k : Group). slice_set (map before named) (name_at named h.relation) k) is
       ∙ set_named before after named h.relation once other_group within
-
-  pub joined_came : (at : ℕ) (mid : List RowGroup) (g : RowGroup) (rows : List (List ℕ)) → HasGroups at mid
-      → g ≡ slice_index_or mid at g → copies_came copies ≡ true → rows ≡ g.inserted ++ cells ∷ []
-      → slice_set mid at (record { relation = g.relation; inserted = rows; removed = g.removed })
-      ≡ groups_among relations texts lines (some ++ h ∷ [])
-  joined_came at mid g rows has e came more =
-      let its = its_group at mid g has e in
-      put at mid (record { relation = g.relation; inserted = rows; removed = g.removed }) has
-      (ap (λ (xs : List (List ℕ)). let k : RowGroup = record { relation = g.relation; inserted = xs; removed = g.removed } in k)
-      more
-      ∙ ap (λ (k : RowGroup). let j : RowGroup = record {
-        relation = k.relation;
-        inserted = k.inserted ++ cells ∷ [];
-        removed = k.removed;
-      } in j) its
-      ∙ ap₂ (λ (xs ys : List (List ℕ)). group_with xs ys h.relation)
-      (passed (line_comes relations lines) (sym came_is ∙ came))
-      (not_passed (line_goes relations lines) h.relation
-      (came_stays (copies_before relations h) (copies_after relations lines h) (sym came_is ∙ came))))
-
-  pub joined_went : (at : ℕ) (mid : List RowGroup) (g : RowGroup) (rows : List (List ℕ)) → HasGroups at mid
-      → g ≡ slice_index_or mid at g → copies_came copies ≡ false → copies_went copies ≡ true
-      → rows ≡ g.removed ++ cells ∷ []
-      → slice_set mid at (record { relation = g.relation; inserted = g.inserted; removed = rows })
-      ≡ groups_among relations texts lines (some ++ h ∷ [])
-  joined_went at mid g rows has e came went more =
-      let its = its_group at mid g has e in
-      put at mid (record { relation = g.relation; inserted = g.inserted; removed = rows }) has
-      (ap (λ (ys : List (List ℕ)). let k : RowGroup = record { relation = g.relation; inserted = g.inserted; removed = ys } in k)
-      more
-      ∙ ap (λ (k : RowGroup). let j : RowGroup = record {
-        relation = k.relation;
-        inserted = k.inserted;
-        removed = k.removed ++ cells ∷ [];
-      } in j) its
-      ∙ ap₂ (λ (xs ys : List (List ℕ)). group_with xs ys h.relation)
-      (not_passed (line_comes relations lines) h.relation (sym came_is ∙ came))
-      (passed (line_goes relations lines) (sym went_is ∙ went)))
-
-  pub joined_neither : (at : ℕ) (mid : List RowGroup) → HasGroups at mid → copies_came copies ≡ false
-      → copies_went copies ≡ false → mid ≡ groups_among relations texts lines (some ++ h ∷ [])
-  joined_neither at mid has came went =
-      has.groups_are ∙ same_mapped before after named (hold_each (λ (n : Bytes). before n ≡ after n) named
-      (λ n k. ap₂ (λ (xs ys : List (List ℕ)). group_with xs ys n)
-      (not_passed (line_comes relations lines) n (sym came_is ∙ came))
-      (not_passed (line_goes relations lines) n (sym went_is ∙ went))))

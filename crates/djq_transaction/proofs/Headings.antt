@@ -16,9 +16,9 @@ use Rattle.djq_store_spec.specs.Relations.{with_rows}
 use Rattle.djq_database.specs.Catalog.{Catalog, relation_at, no_relation}
 use Rattle.djq_database.specs.Cells.{HaveCells, cells_of}
 use Rattle.djq_database.proofs.Cells.{cells_long}
-use Rattle.djq_transaction.specs.Held.{HeldLine}
+use Rattle.djq_store_spec.specs.Held.{HeldLine}
 use Rattle.djq_transaction.specs.declared.net.Net.{Net}
-use Rattle.djq_transaction.specs.Lines.{with_so_many, with_copies_left, copies_after, first_lines}
+use Rattle.djq_store_spec.specs.Lines.{with_so_many, with_copies_left, copies_after, first_lines}
 use Rattle.djq_transaction.specs.Applied.{headings}
 use Rattle.djq_transaction.specs.Net.{keys, relation_place, row_key, Suits, IsNet, IsRowAt}
 use Rattle.djq_transaction.proofs.NamedRows.{found_named, fits_long}

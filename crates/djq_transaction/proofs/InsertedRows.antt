@@ -19,15 +19,15 @@ use Rattle.djq_answer_laws.proofs.Lists.{first_holds, kept_hold, hold_each, pair
 use Rattle.djq_database.specs.Catalog.{Catalog, IsCatalog, no_relation, relation_at}
 use Rattle.djq_store_spec.specs.Relations.{with_rows}
 use Rattle.djq_store_spec.proofs.Relations.{relation_here, relation_apart, counted_here, rows_apart}
-use Rattle.djq_transaction.specs.Held.{HeldLine}
-use Rattle.djq_transaction.specs.Lines.{copies_before, copies_after, line_comes, lines_come, first_lines, with_so_many}
-use Rattle.djq_transaction.specs.Lines.{with_copies_left}
+use Rattle.djq_store_spec.specs.Held.{HeldLine}
+use Rattle.djq_store_spec.specs.Lines.{copies_before, copies_after, line_comes, lines_come, first_lines, with_so_many}
+use Rattle.djq_store_spec.specs.Lines.{with_copies_left}
 use Rattle.djq_transaction.specs.LookUp.{AreSame}
 use Rattle.djq_transaction.specs.Net.{relation_place}
 use Rattle.djq_transaction.specs.Settled.{RowsInserted}
 use Rattle.djq_transaction.proofs.FirstLines.{AreApart}
 use Rattle.djq_transaction.proofs.Entries.{all_apart}
-use Rattle.djq_transaction.proofs.SoManyCopies.{many_new}
+use Rattle.djq_store_spec.proofs.SoManyCopies.{many_new}
 use Rattle.djq_transaction.proofs.SetCopies.{counted_some}
 use Rattle.djq_transaction.proofs.Applying.{row_stays}
 use Rattle.djq_transaction.proofs.SettledLines.{come_some}

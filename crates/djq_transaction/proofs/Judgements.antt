@@ -15,15 +15,15 @@ use Rattle.djq_database.specs.Catalog.{Catalog, rows_at}
 use Rattle.djq_database.specs.Cells.{HaveCells, cells_of}
 use Rattle.djq_database.specs.Changes.{TellsRowCells, told_cells}
 use Rattle.djq_database.proofs.Cells.{unknown_row}
-use Rattle.djq_transaction.specs.declared.lines.Verb.{Verb}
-use Rattle.djq_transaction.specs.declared.lines.Verb.TheVariants.{Delete}
-use Rattle.djq_transaction.specs.Held.{HeldLine}
+use Rattle.djq_protocol.specs.declared.held.Verb.{Verb}
+use Rattle.djq_protocol.specs.declared.held.Verb.TheVariants.{Delete}
+use Rattle.djq_store_spec.specs.Held.{HeldLine}
 use Rattle.djq_transaction.specs.declared.net.Copies.{Copies}
 use Rattle.djq_transaction.specs.declared.net.Net.{Net}
-use Rattle.djq_transaction.specs.declared.judge.LineRefusal.TheVariants.{Absent, NoMemory}
-use Rattle.djq_transaction.specs.Lines.{first_lines, after_verb, copies_before, copies_after}
-use Rattle.djq_transaction.specs.Judging.{texts_by, texts_added, names_row_before, refusal_by, row_refusal, StopsAtLine}
-use Rattle.djq_transaction.specs.Judging.{HasItsPlace}
+use Rattle.djq_protocol.specs.declared.held.LineRefusal.TheVariants.{Absent, NoMemory}
+use Rattle.djq_store_spec.specs.Lines.{first_lines, after_verb, copies_before, copies_after}
+use Rattle.djq_store_spec.specs.Judging.{texts_by, texts_added, names_row_before, refusal_by, row_refusal, StopsAtLine}
+use Rattle.djq_store_spec.specs.Judging.{HasItsPlace}
 use Rattle.djq_transaction.specs.Net.{keys, key_cells, SuitsAt, LooksUp, IsNet}
 use Rattle.djq_transaction.specs.LookUp.{AreSame, IsRowNamed, Looked}
 use Rattle.djq_transaction.proofs.FirstLines.{unnamed_copies}

@@ -15,12 +15,17 @@ mod Headings
 mod NamedRelations
 mod Grouping
 mod Entries
-mod SoManyCopies
+mod Joining
+mod CatalogSteps
+mod LineGroups
+mod FewerRows
+pub mod LeadingLines
 mod SetCopies
 mod Applying
 mod AnyOrder
 mod AppliedRows
 mod SettledLines
-mod InsertedRows
+pub mod InsertedRows
 mod RemovedRows
 mod Room
+pub mod SuitingLines

@@ -8,8 +8,8 @@ use Rattle.std.proofs.lemmas.List.Sums.{fold-append}
 use Rattle.djq_model.specs.Data.{Bytes, bytes_eq}
 use Rattle.djq_model.specs.Equality.{bytes_eq-decides}
 use Rattle.djq_answer_laws.proofs.Lists.{first_there, one_there, some_one, hold_each, pairs_join}
-use Rattle.djq_transaction.specs.Held.{HeldLine}
-use Rattle.djq_transaction.specs.Lines.{same_row, with_naming, first_lines}
+use Rattle.djq_store_spec.specs.Held.{HeldLine}
+use Rattle.djq_store_spec.specs.Lines.{same_row, with_naming, first_lines}
 use Rattle.djq_transaction.specs.LookUp.{AreSame}
 use Rattle.djq_transaction.specs.Grouped.{with_relation_named, relations_named}
 use Rattle.djq_transaction.proofs.FirstLines.{named_of}

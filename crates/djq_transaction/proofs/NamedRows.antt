@@ -14,8 +14,8 @@ use Rattle.djq_model.specs.Typed.{is_of, fits}
 use Rattle.djq_database.specs.Catalog.{relation_at}
 use Rattle.djq_database.specs.Cells.{HaveCells, cells_of}
 use Rattle.djq_database.proofs.Cells.{Grown, cells_grown, cells_long, differ}
-use Rattle.djq_transaction.specs.Held.{HeldLine}
-use Rattle.djq_transaction.specs.Lines.{same_row, with_naming, first_lines, after_verb, copies_before, copies_after}
+use Rattle.djq_store_spec.specs.Held.{HeldLine}
+use Rattle.djq_store_spec.specs.Lines.{same_row, with_naming, first_lines, after_verb, copies_before, copies_after}
 use Rattle.djq_transaction.specs.LookUp.{AreSame}
 use Rattle.djq_transaction.specs.Net.{Suits, key_cells, row_key, relation_place}
 

@@ -12,10 +12,10 @@ use Rattle.djq_model.specs.Data.{Bytes, Tuple, bytes_eq, tuple_eq, counted_in, c
 use Rattle.djq_answer_laws.proofs.Lists.{some_one, one_there, mapped_there, hold_each}
 use Rattle.djq_database.specs.Catalog.{Catalog}
 use Rattle.djq_database.specs.Cells.{HaveCells}
-use Rattle.djq_transaction.specs.Held.{HeldLine}
+use Rattle.djq_store_spec.specs.Held.{HeldLine}
 use Rattle.djq_transaction.specs.declared.net.Copies.{Copies}
 use Rattle.djq_transaction.specs.declared.net.Net.{Net}
-use Rattle.djq_transaction.specs.Lines.{same_row, with_naming, first_lines, after_verb, copies_before, copies_after}
+use Rattle.djq_store_spec.specs.Lines.{same_row, with_naming, first_lines, after_verb, copies_before, copies_after}
 use Rattle.djq_transaction.specs.LookUp.{AreSame, IsRowNamed, Looked}
 use Rattle.djq_transaction.specs.Net.{key_cells, row_key, copies_by, Suits, LooksUp, SetsCopies, RowsStand, IsNet}
 pub use Rattle.djq_transaction.specs.Net.{IsRowAt}

@@ -15,17 +15,17 @@ use Rattle.djq_answer_laws.proofs.Lists.{first_holds, kept_hold, hold_each, pair
 use Rattle.djq_database.specs.Catalog.{Catalog, IsCatalog}
 use Rattle.djq_store_spec.specs.Relations.{with_rows}
 use Rattle.djq_store_spec.proofs.Relations.{relation_here, rows_apart, rows_stay}
-use Rattle.djq_transaction.specs.Held.{HeldLine}
+use Rattle.djq_store_spec.specs.Held.{HeldLine}
 use Rattle.djq_transaction.specs.declared.net.Copies.{Copies}
 use Rattle.djq_transaction.specs.Net.{copies_came}
 use Rattle.djq_transaction.proofs.Places.{same_copies}
-use Rattle.djq_transaction.specs.Lines.{copies_before, copies_after, line_comes, line_goes, lines_come, first_lines}
-use Rattle.djq_transaction.specs.Lines.{with_so_many, with_copies_left, relations_between}
+use Rattle.djq_store_spec.specs.Lines.{copies_before, copies_after, line_comes, line_goes, lines_come, first_lines}
+use Rattle.djq_store_spec.specs.Lines.{with_so_many, with_copies_left, relations_between}
 use Rattle.djq_transaction.specs.LookUp.{AreSame}
 use Rattle.djq_transaction.specs.Settled.{RowsRemoved}
 use Rattle.djq_transaction.proofs.FirstLines.{AreApart}
 use Rattle.djq_transaction.proofs.Entries.{all_apart}
-use Rattle.djq_transaction.proofs.SoManyCopies.{many_there, without_absent}
+use Rattle.djq_store_spec.proofs.SoManyCopies.{many_there, without_absent}
 use Rattle.djq_transaction.proofs.Applying.{row_stays}
 use Rattle.djq_transaction.proofs.SettledLines.{second_true}
 use Rattle.djq_transaction.proofs.AnyOrder.{after_is}
@@ -89,7 +89,7 @@ module _ (c : Catalog) (lines : List HeldLine) (laws : IsCatalog c) (name : Byte
           (eq-eqb (copies_before base h) 0 none) (lt-ltb 0 (copies_after base lines h) (omega (arith, k))) in
           absurd (false≢true (sym (ap (λ (b : Bool). not b) yes) ∙ other))
 
-  all_removed : (now : List Relation) (hs : List HeldLine) → AreApart hs → All (λ h. IsAsBefore now h) hs
+  pub all_removed : (now : List Relation) (hs : List HeldLine) → AreApart hs → All (λ h. IsAsBefore now h) hs
       → All (λ h. not (line_comes base lines h) ≡ true) hs
       → rows_of (fold step now hs) name
       ≡ fold without_row (rows_of now name) (map (λ (h : HeldLine). h.row) (filter its (filter goes hs)))
@@ -164,6 +164,15 @@ module _ (c : Catalog) (lines : List HeldLine) (laws : IsCatalog c) (name : Byte
               (filter goes (filter (λ h. not (line_comes base lines h)) hs))) l
               ∙ ap (λ (gs : List HeldLine). cond q (h ∷ gs) gs) rest
 
+-- a line that doesn't come is of no row that comes
+pub come_others : (rs : List Relation) (ls : List HeldLine) (h : HeldLine) → not (line_comes rs ls h) ≡ true
+    → (hs : List HeldLine) → All (λ g. AreSame g h → ⊥) (filter (line_comes rs ls) hs)
+come_others rs ls h other hs =
+    kept_hold (Contains hs) (λ (g : HeldLine). AreSame g h → ⊥) (line_comes rs ls) hs
+    (λ g came k same. false≢true (sym (ap (λ (b : Bool). not b)
+    (sym (ap (λ (x : Copies). copies_came x) (same_copies rs ls g h same)) ∙ came)) ∙ other))
+    (All-contains_itself hs)
+
 pub rows_removed : RowsRemoved
 rows_removed c lines name laws =
     let base = c.relations in
@@ -182,12 +191,3 @@ rows_removed c lines name laws =
     (λ h. not (line_comes base lines h)) firsts (λ h other k. other) (All-contains_itself firsts))
     ∙ ap (λ (hs : List HeldLine). fold without_row (rows_of (relations_between base lines) name)
     (map (λ (h : HeldLine). h.row) (filter (λ h. bytes_eq h.relation name) hs))) (goes_stay c lines laws name firsts)
-  where
-    -- a line that doesn't come is of no row that comes
-    come_others : (rs : List Relation) (ls : List HeldLine) (h : HeldLine) → not (line_comes rs ls h) ≡ true
-        → (hs : List HeldLine) → All (λ g. AreSame g h → ⊥) (filter (line_comes rs ls) hs)
-    come_others rs ls h other hs =
-        kept_hold (Contains hs) (λ (g : HeldLine). AreSame g h → ⊥) (line_comes rs ls) hs
-        (λ g came k same. false≢true (sym (ap (λ (b : Bool). not b)
-        (sym (ap (λ (x : Copies). copies_came x) (same_copies rs ls g h same)) ∙ came)) ∙ other))
-        (All-contains_itself hs)

@@ -16,17 +16,17 @@ use Rattle.djq_model.specs.Equality.{bytes_eq-decides}
 use Rattle.djq_model.proofs.Copies.{tuples_with_copies}
 use Rattle.djq_protocol.specs.declared.limits.TheConstants.{ROWS, COPIES}
 use Rattle.djq_answer_laws.proofs.Lists.{first_holds, some_one, one_there}
-use Rattle.djq_transaction.specs.declared.lines.Verb.{Verb}
-use Rattle.djq_transaction.specs.declared.lines.Verb.TheVariants.{Add, Delete}
-use Rattle.djq_transaction.specs.declared.judge.LineRefusal.{LineRefusal}
-use Rattle.djq_transaction.specs.declared.judge.LineRefusal.TheVariants.{Absent}
-use Rattle.djq_transaction.specs.declared.judge.RefusedLine.{RefusedLine}
-use Rattle.djq_transaction.specs.Held.{HeldLine}
-use Rattle.djq_transaction.specs.Lines.{same_row, first_lines, copies_before, copies_after, line_comes, with_so_many}
-use Rattle.djq_transaction.specs.Lines.{with_copies_left}
+use Rattle.djq_protocol.specs.declared.held.Verb.{Verb}
+use Rattle.djq_protocol.specs.declared.held.Verb.TheVariants.{Add, Delete}
+use Rattle.djq_protocol.specs.declared.held.LineRefusal.{LineRefusal}
+use Rattle.djq_protocol.specs.declared.held.LineRefusal.TheVariants.{Absent}
+use Rattle.djq_protocol.specs.declared.held.RefusedLine.{RefusedLine}
+use Rattle.djq_store_spec.specs.Held.{HeldLine}
+use Rattle.djq_store_spec.specs.Lines.{same_row, first_lines, copies_before, copies_after, line_comes, with_so_many}
+use Rattle.djq_store_spec.specs.Lines.{with_copies_left}
 use Rattle.djq_transaction.specs.LookUp.{AreSame, IsRowNamed}
-use Rattle.djq_transaction.specs.Judging.{names_row_before, is_new, rows_reached, limit_if, refusal_by, row_refusal}
-use Rattle.djq_transaction.specs.Judging.{texts_refusal, texts_after, line_refusal, refused_at, refusal_behind, lines_refusal}
+use Rattle.djq_store_spec.specs.Judging.{names_row_before, is_new, rows_reached, limit_if, refusal_by, row_refusal}
+use Rattle.djq_store_spec.specs.Judging.{texts_refusal, texts_after, line_refusal, refused_at, refusal_behind, lines_refusal}
 use Rattle.djq_transaction.proofs.NamedRows.{same_are, firsts_step}
 use Rattle.djq_transaction.proofs.FirstLines.{not_named, lines_named, unnamed_copies, same_trans}
 use Rattle.djq_transaction.proofs.Full.{counted}

@@ -17,9 +17,9 @@ use Rattle.djq_database.specs.Cells.{StandFor}
 use Rattle.djq_database.specs.Catalog.{Catalog, IsCatalog, CopiesAreInRange, StandForRow, AreCellsOf, no_relation}
 use Rattle.djq_database.specs.Catalog.{relation_at, counted_at, rows_at, with_rows_at}
 use Rattle.djq_database.specs.Changes.{HasNoPlace, AddsRowAt, DeletesRowAt}
-use Rattle.djq_transaction.specs.Lines.{with_so_many}
+use Rattle.djq_store_spec.specs.Lines.{with_so_many}
 use Rattle.djq_transaction.specs.Applied.{HasCopiesAt, SetsCopiesAt}
-use Rattle.djq_transaction.proofs.SoManyCopies.{many_has, many_among, many_again, many_same, many_new, many_there}
+use Rattle.djq_store_spec.proofs.SoManyCopies.{many_has, many_among, many_again, many_same, many_new, many_there}
 
 -- ---- other rows at a place
 

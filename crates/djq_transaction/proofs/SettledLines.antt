@@ -14,12 +14,12 @@ use Rattle.djq_model.proofs.Copies.{no_copies}
 use Rattle.djq_answer_laws.proofs.Lists.{row_found, row_there, kept_hold, hold_each}
 use Rattle.djq_store_spec.specs.Relations.{with_rows}
 use Rattle.djq_store_spec.proofs.Relations.{relation_here, counted_apart}
-use Rattle.djq_transaction.specs.Held.{HeldLine}
-use Rattle.djq_transaction.specs.Lines.{copies_before, copies_after, line_comes, lines_come, first_lines, with_so_many}
-use Rattle.djq_transaction.specs.Lines.{with_copies_left, relations_between, relations_after}
+use Rattle.djq_store_spec.specs.Held.{HeldLine}
+use Rattle.djq_store_spec.specs.Lines.{copies_before, copies_after, line_comes, lines_come, first_lines, with_so_many}
+use Rattle.djq_store_spec.specs.Lines.{with_copies_left, relations_between, relations_after}
 use Rattle.djq_transaction.specs.Settled.{LinesInsert, LinesRemove}
 use Rattle.djq_transaction.proofs.AnyOrder.{after_is}
-use Rattle.djq_transaction.proofs.SoManyCopies.{many_has, many_has_others}
+use Rattle.djq_store_spec.proofs.SoManyCopies.{many_has, many_has_others}
 
 abbrev has : List Relation → Bytes → Tuple → Bool
 has relations name row = has_row (rows_of relations name) row

@@ -21,17 +21,17 @@ use Rattle.djq_database.specs.Catalog.{relation_at}
 use Rattle.djq_database.specs.Cells.{HaveCells}
 use Rattle.djq_database.proofs.Cells.{all_grown, grown_longer, learned_longer, all_learned-append}
 use Rattle.djq_transaction.specs.declared.key.TheConstants.{KEY_CELLS}
-use Rattle.djq_transaction.specs.declared.lines.Verb.{Verb}
-use Rattle.djq_transaction.specs.Held.{HeldLine}
+use Rattle.djq_protocol.specs.declared.held.Verb.{Verb}
+use Rattle.djq_store_spec.specs.Held.{HeldLine}
 use Rattle.djq_transaction.specs.declared.net.Net.{Net}
-use Rattle.djq_transaction.specs.declared.judge.LineRefusal.{LineRefusal}
-use Rattle.djq_transaction.specs.declared.judge.RefusedLine.{RefusedLine}
-use Rattle.djq_transaction.specs.declared.judge.LineRefusal.TheVariants.{Limit, Absent, NoMemory}
+use Rattle.djq_protocol.specs.declared.held.LineRefusal.{LineRefusal}
+use Rattle.djq_protocol.specs.declared.held.RefusedLine.{RefusedLine}
+use Rattle.djq_protocol.specs.declared.held.LineRefusal.TheVariants.{Limit, Absent, NoMemory}
 use Rattle.djq_transaction.specs.Applied.{IsJudged}
-use Rattle.djq_transaction.specs.Lines.{same_row, with_naming, first_lines}
-use Rattle.djq_transaction.specs.Judging.{texts_added, texts_after, limit_if, texts_refusal, line_refusal, refused_at}
-use Rattle.djq_transaction.specs.Judging.{refusal_behind, lines_refusal, AnswersAs, StopsAtLine, HasItsPlace}
-use Rattle.djq_transaction.specs.Judging.{UnlessMemory, RefusesLines}
+use Rattle.djq_store_spec.specs.Lines.{same_row, with_naming, first_lines}
+use Rattle.djq_store_spec.specs.Judging.{texts_added, texts_after, limit_if, texts_refusal, line_refusal, refused_at}
+use Rattle.djq_store_spec.specs.Judging.{refusal_behind, lines_refusal, AnswersAs, StopsAtLine, HasItsPlace}
+use Rattle.djq_store_spec.specs.Judging.{UnlessMemory, RefusesLines}
 use Rattle.djq_transaction.specs.Net.{keys, row_key, line_at, IsNetTable, Suits, SuitsAt, CanBeJudged, IsNet}
 use Rattle.djq_transaction.specs.Net.{PassesLine, RefusesLine}
 use Rattle.djq_transaction.proofs.NamedRows.{fits_long}

@@ -5,15 +5,15 @@ use Rattle.djq_model.specs.declared.value.Value.TheVariants.{Int}
 use Rattle.djq_model.specs.declared.relation.Relation.{Relation}
 use Rattle.djq_model.specs.declared.relation.CountedRow.{CountedRow}
 use Rattle.djq_model.specs.Data.{Bytes, Tuple}
-use Rattle.djq_transaction.specs.declared.lines.Verb.TheVariants.{Add, Delete}
-use Rattle.djq_transaction.specs.Held.{HeldLine}
-use Rattle.djq_transaction.specs.declared.judge.LineRefusal.{LineRefusal}
-use Rattle.djq_transaction.specs.declared.judge.LineRefusal.TheVariants.{Limit, Absent}
-use Rattle.djq_transaction.specs.Lines.{lines_come, lines_go, relations_after}
-use Rattle.djq_transaction.specs.declared.done.DoneRefusal.{DoneRefusal}
-use Rattle.djq_transaction.specs.declared.done.DoneRefusal.TheVariants.{OtherNumber, Line, LastChange}
-use Rattle.djq_transaction.specs.Judging.{row_refusal}
-use Rattle.djq_transaction.specs.Done.{done_refusal, rows_changed, seq_after}
+use Rattle.djq_protocol.specs.declared.held.Verb.TheVariants.{Add, Delete}
+use Rattle.djq_store_spec.specs.Held.{HeldLine}
+use Rattle.djq_protocol.specs.declared.held.LineRefusal.{LineRefusal}
+use Rattle.djq_protocol.specs.declared.held.LineRefusal.TheVariants.{Limit, Absent}
+use Rattle.djq_store_spec.specs.Lines.{lines_come, lines_go, relations_after}
+use Rattle.djq_protocol.specs.declared.held.DoneRefusal.{DoneRefusal}
+use Rattle.djq_protocol.specs.declared.held.DoneRefusal.TheVariants.{OtherNumber, Line, LastChange}
+use Rattle.djq_store_spec.specs.Judging.{row_refusal}
+use Rattle.djq_store_spec.specs.Done.{done_refusal, rows_changed, seq_after}
 
 -- a relation r of two columns
 abbrev r : Bytes

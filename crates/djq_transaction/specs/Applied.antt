@@ -3,10 +3,10 @@ use Rattle.std.specs.Prelude.{ℕ, List, [], ◌≡◌, ◌<◌, false, not, Non
 use Rattle.djq_model.specs.declared.relation.Relation.{Relation}
 use Rattle.djq_model.specs.Data.{Bytes, Tuple, rows_of, has_row, copies_among}
 use Rattle.djq_database.specs.Catalog.{Catalog, StandForRow, AreCellsOf, counted_at, with_rows_at}
-use Rattle.djq_transaction.specs.Held.{HeldLine}
+use Rattle.djq_store_spec.specs.Held.{HeldLine}
 use Rattle.djq_transaction.specs.declared.net.Net.{Net}
-use Rattle.djq_transaction.specs.Lines.{first_lines, lines_come, line_comes, with_so_many, with_copies_left, relations_between}
-use Rattle.djq_transaction.specs.Judging.{lines_refusal}
+use Rattle.djq_store_spec.specs.Lines.{first_lines, lines_come, line_comes, with_so_many, with_copies_left, relations_between}
+use Rattle.djq_store_spec.specs.Judging.{lines_refusal}
 use Rattle.djq_transaction.specs.Net.{IsNet}
 
 -- Lines were judged over relations, and this is their net. The texts are those that are known after them.
@@ -38,9 +38,10 @@ pub record HasFirst (relations : List Relation) (lines : List HeldLine) (count :
   pub here : c.relations ≡ fold (with_copies_left relations lines) relations
       (filter (line_comes relations lines) (take count (first_lines lines)))
 
--- All rows that come are inserted.
+-- All rows that come are inserted, and they weren't there before.
 pub record HasAllInserted (relations : List Relation) (lines : List HeldLine) (c : Catalog) (net : Net) : Type 0 where
   pub judged : IsJudged relations c.texts lines net
+  pub absent : All (λ h. has_row (rows_of relations h.relation) h.row ≡ false) (lines_come relations lines)
   pub here : c.relations ≡ relations_between relations lines
 
 -- And of the first so many rows that lines name the others have the copies that lines leave of them.

@@ -3,11 +3,11 @@ use Rattle.std.specs.Prelude.{ℕ, List, [], ◌∷◌, ◌≡◌, ◌≤◌, �
 use Rattle.std.specs.List.{slice_range, sum_by}
 use Rattle.djq_model.specs.declared.value.Value.{Value}
 use Rattle.djq_model.specs.Data.{Bytes, Tuple}
-use Rattle.djq_transaction.specs.declared.lines.Verb.{Verb}
+use Rattle.djq_protocol.specs.declared.held.Verb.{Verb}
 use Rattle.djq_transaction.specs.declared.held.Entry.{Entry}
 use Rattle.djq_transaction.specs.declared.held.Buffer.{Buffer}
-use Rattle.djq_transaction.specs.declared.held.TheConstants.{HELD_LINES}
-use Rattle.djq_transaction.specs.Held.{HeldLine, HeldTransaction}
+use Rattle.djq_protocol.specs.declared.limits.TheConstants.{HELD}
+use Rattle.djq_store_spec.specs.Held.{HeldLine, HeldTransaction}
 
 abbrev pub bytes_of_line : List Value → Entry → HeldLine
 bytes_of_line values e = record {
@@ -33,7 +33,7 @@ pub record SpanIsWithin (values bytes : ℕ) (e : Entry) : Type 0 where
   pub bytes_end : e.line_end ≤ bytes
 
 pub record IsBuffer (t : Buffer) : Type 0 where
-  pub few : length t.entries.items ≤ HELD_LINES
+  pub few : length t.entries.items ≤ HELD
   pub within : All (SpanIsWithin (length t.values.items) (length t.bytes.items)) t.entries.items
   pub total : length t.bytes.items ≡ sum_by (λ l. length l) (map (logged_in t.bytes.items) t.entries.items)
 
@@ -49,7 +49,7 @@ next_entry values bytes verb relation row line = record {
 }
 
 -- A buffer has one line more.
-pub record HoldsOneMore (old : Buffer) (verb : Verb) (relation : Bytes) (row : Tuple) (line : Bytes) (new : Buffer)
+pub record GetsOneMoreLine (old : Buffer) (verb : Verb) (relation : Bytes) (row : Tuple) (line : Bytes) (new : Buffer)
     : Type 0 where
   pub values : new.values.items ≡ old.values.items ++ row
   pub bytes : new.bytes.items ≡ old.bytes.items ++ line

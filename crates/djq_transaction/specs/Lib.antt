@@ -1,11 +1,9 @@
-pub mod Held
 pub mod Buffer
-pub mod Lines
-pub mod Judging
 pub mod Keys
 pub mod Net
 pub mod LookUp
-pub mod Done
 pub mod Grouped
 pub mod Applied
 pub mod Settled
+pub mod Suiting
+pub mod Leading

@@ -1,9 +1,9 @@
 -- What a look-up of a line's row among those that lines name returns.
 use Rattle.std.specs.Prelude.{ℕ, List, ◌≡◌, Option, None, Some, slice_get, Any}
 use Rattle.djq_model.specs.declared.relation.Relation.{Relation}
-use Rattle.djq_transaction.specs.Held.{HeldLine}
+use Rattle.djq_store_spec.specs.Held.{HeldLine}
 use Rattle.djq_transaction.specs.declared.net.Copies.{Copies}
-use Rattle.djq_transaction.specs.Lines.{first_lines, copies_before, copies_after}
+use Rattle.djq_store_spec.specs.Lines.{first_lines, copies_before, copies_after}
 
 -- Two lines are of the same row of the same relation.
 pub record AreSame (g h : HeldLine) : Type 0 where

@@ -10,13 +10,13 @@ use Rattle.djq_arena.specs.declared.link.TheConstants.{SLOTS}
 use Rattle.djq_database.specs.Cells.{HaveCells, cells_of}
 use Rattle.djq_database.specs.Catalog.{Catalog, StandForRow, relation_at, counted_at}
 use Rattle.djq_transaction.specs.declared.key.TheConstants.{KEY_CELLS}
-use Rattle.djq_transaction.specs.declared.lines.Verb.{Verb}
-use Rattle.djq_transaction.specs.Held.{HeldLine}
+use Rattle.djq_protocol.specs.declared.held.Verb.{Verb}
+use Rattle.djq_store_spec.specs.Held.{HeldLine}
 use Rattle.djq_transaction.specs.declared.net.Copies.{Copies}
 use Rattle.djq_transaction.specs.declared.net.Net.{Net}
-use Rattle.djq_transaction.specs.declared.judge.LineRefusal.{LineRefusal}
-use Rattle.djq_transaction.specs.Judging.{StopsAtLine, HasItsPlace}
-use Rattle.djq_transaction.specs.Lines.{first_lines, copies_before, copies_after}
+use Rattle.djq_protocol.specs.declared.held.LineRefusal.{LineRefusal}
+use Rattle.djq_store_spec.specs.Judging.{StopsAtLine, HasItsPlace}
+use Rattle.djq_store_spec.specs.Lines.{first_lines, copies_before, copies_after}
 
 -- the keys that are there, in the order in which they came
 abbrev pub keys : Net → List (List ℕ)

@@ -7,8 +7,8 @@ use Rattle.djq_store_spec.specs.Delta.{Change, IsDelta}
 use Rattle.djq_answer_laws.specs.Growing.{HaveRows}
 use Rattle.djq_answer_laws.specs.Net.{CancelsOut}
 use Rattle.djq_database.specs.Catalog.{Catalog, IsCatalog}
-use Rattle.djq_transaction.specs.Held.{HeldLine}
-use Rattle.djq_transaction.specs.Lines.{lines_come, lines_go, relations_between, relations_after}
+use Rattle.djq_store_spec.specs.Held.{HeldLine}
+use Rattle.djq_store_spec.specs.Lines.{lines_come, lines_go, relations_between, relations_after}
 
 -- Up to the relations between, rows only come.
 abbrev pub LinesInsert : Type 0

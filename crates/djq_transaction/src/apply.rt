@@ -1,8 +1,8 @@
 //! A judged net is applied to a catalog: first all new rows are inserted, then the others change.
 ghost use Rattle.std.specs.Prelude.{◌≡◌, ◌<◌, ◌≤◌, ◌+◌, List, length, OnOk, OnErr};
 ghost use Rattle.djq_model.specs.declared.relation.Relation.{Relation};
-ghost use Rattle.djq_transaction.specs.Held as spec;
-ghost use Rattle.djq_transaction.specs.Lines.{relations_after};
+ghost use Rattle.djq_store_spec.specs.Held as spec;
+ghost use Rattle.djq_store_spec.specs.Lines.{relations_after};
 ghost use Rattle.djq_transaction.specs.Applied.{IsJudged, HasFirst, HasAllInserted, HasChangedFirst};
 
 use crate::copies::{change_copies, delete_copies, insert_row};
@@ -107,6 +107,17 @@ pub fn insert_rows<L: Ledger>(
         }
     }
     Ok(())
+}
+
+/// Removes the rows again that [`insert_rows`] has inserted, the last one first. It allocates nothing.
+pub fn undo_rows<L: Ledger>(catalog: &mut Catalog, net: &Net, tally: &mut Tally<L>)
+    requires inserted { (relations : List Relation) × (lines : List spec.HeldLine)
+        × HasAllInserted relations lines catalog.old net.now }
+    ensures back { (relations : List Relation) (lines : List spec.HeldLine)
+        → HasAllInserted relations lines catalog.old net.now → catalog.new.relations ≡ relations }
+    ensures texts { catalog.new.texts ≡ catalog.old.texts }
+{
+    take_back(catalog, net, net.copies.len(), tally);
 }
 
 /// Gives the row at a place of a net its copies if it isn't new; without any it is removed. It allocates nothing.

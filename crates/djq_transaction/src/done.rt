@@ -3,39 +3,28 @@ ghost use Rattle.std.specs.Prelude.{◌≡◌, ◌≤◌, ◌&&◌, ℕ, List, A
 ghost use Rattle.djq_model.specs.declared.relation.Relation.{Relation};
 ghost use Rattle.djq_model.specs.Data.{Bytes};
 ghost use Rattle.djq_protocol.specs.declared.limits.TheConstants.{LAST_SEQ};
-ghost use Rattle.djq_transaction.specs.Held as spec;
-ghost use Rattle.djq_transaction.specs.Done.{AnswersDone, RefusesDone, done_refusal, is_other, rows_changed};
-ghost use Rattle.djq_transaction.specs.Judging.{texts_after};
+ghost use Rattle.djq_store_spec.specs.Held as spec;
+ghost use Rattle.djq_store_spec.specs.Done.{AnswersDone, RefusesDone, done_refusal, is_other, rows_changed};
+ghost use Rattle.djq_store_spec.specs.Judging.{texts_after};
 ghost use Rattle.djq_transaction.specs.Net.{IsNet, Suits};
 ghost use Rattle.djq_transaction.specs.Applied.{IsJudged};
 
 use crate::held::Transaction;
-use crate::judge::RefusedLine;
 use crate::net::Net;
 use crate::transaction::judge_all;
 use djq_counters::Tally;
 use djq_database::Catalog;
+use djq_protocol::DoneRefusal;
 use djq_protocol::limits::LAST_SEQ;
 use std::alloc::Global;
 use std::sync::ledger::Ledger;
 
-/// Why `done` is refused.
-#[derive(Clone, Copy, Debug, PartialEq, Eq)]
-pub enum DoneRefusal {
-    /// The number that it names isn't that of the held lines.
-    OtherNumber,
-    /// This is the first line that is refused.
-    Line(RefusedLine),
-    /// Rows are inserted or removed, and the number of changes is the last.
-    LastChange,
-}
-
 /// Whether `done` names another number than that of the held lines.
-fn names_other(given: Option<u64>, held: usize) -> bool
+fn names_other(given: Option<u32>, held: usize) -> bool
     ensures { result ≡ is_other given held }
 {
     match given {
-        Some(number) => number != held as u64,
+        Some(number) => number as usize != held,
         None => false,
     }
 }
@@ -56,18 +45,18 @@ fn is_past_last(net: &Net, seq: u64) -> bool
 /// over the rows that are there and what the lines before it leave; and the number of changes. It returns their net. No
 /// relation changes. The texts of rows that lines add become known.
 ///
-/// A number over [`HELD_LINES`](crate::HELD_LINES) is another number, whichever it is.
+/// A number over [`HELD`](djq_protocol::limits::HELD) is another number, whichever it is.
 ///
 /// # Errors
 ///
 /// `OtherNumber` exactly if another number is named. Else `Line` as [`judge_all`] refuses: the first line that has a
 /// refusal. Else `LastChange` exactly if a row is inserted or removed at the last number of changes. The texts of lines
-/// that passed are known.
+/// that passed are known. It never answers `NoMemory`.
 pub fn judge_done<L: Ledger>(
     catalog: &mut Catalog,
     alloc: Global,
     transaction: &Transaction,
-    given: Option<u64>,
+    given: Option<u32>,
     seq: u64,
     tally: &mut Tally<L>,
 ) -> Result<Net, DoneRefusal>

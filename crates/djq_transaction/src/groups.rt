@@ -1,29 +1,27 @@
 //! The rows that are inserted and those that are removed, by their relations.
-ghost use Rattle.std.specs.Prelude.{◌≡◌, ◌==◌, [], List, position, length, IfOk, OnOk, OnErr};
-ghost use Rattle.djq_transaction.specs.Held as spec;
+ghost use Rattle.std.specs.Prelude.{◌≡◌, ◌==◌, List, position, IfOk, OnOk};
+ghost use Rattle.djq_store_spec.specs.Held as spec;
 ghost use Rattle.djq_transaction.specs.Applied.{IsJudged};
-ghost use Rattle.djq_transaction.specs.Grouped.{HasGroupAt, JoinsGroups, grouped_rows};
+ghost use Rattle.djq_transaction.specs.Grouped.{HasGroupAt, JoinsGroups, AreItsGroups};
 
-use crate::net::{Copies, Net};
-use crate::rows::CellRows;
+use crate::net::Net;
 use djq_database::{Catalog, RelationId};
 use djq_index::Cells;
 use djq_model::NoMem;
+use djq_reach::{Group, GroupRows};
 use std::alloc::Global;
 
-/// The rows of a relation that are inserted, and those that are removed.
+/// The rows that are inserted and those that are removed, by their relations.
 #[derive(Drop)]
-pub struct RowGroup {
-    /// The relation.
-    pub relation: RelationId,
+pub struct Groups {
     /// Those that are inserted.
-    pub inserted: CellRows,
+    pub come: Vec<Group>,
     /// Those that are removed.
-    pub removed: CellRows,
+    pub gone: Vec<Group>,
 }
 
 /// The place of a relation's group; none if it has none.
-fn find_group(groups: &[RowGroup], relation: RelationId) -> Option<usize>
+fn find_group(groups: &[Group], relation: RelationId) -> Option<usize>
     ensures { result ≡ position (λ g. g.relation.at == relation.at) groups.now }
 {
     groups
@@ -36,65 +34,61 @@ fn find_group(groups: &[RowGroup], relation: RelationId) -> Option<usize>
 /// # Errors
 ///
 /// `NoMem` out of memory.
-fn place_group(
-    alloc: Global,
-    groups: &mut Vec<RowGroup>,
-    relation: RelationId,
-) -> Result<usize, NoMem>
+fn place_group(alloc: Global, groups: &mut Vec<Group>, relation: RelationId) -> Result<usize, NoMem>
     ensures { IfOk result (λ at. HasGroupAt relation groups.old.items at groups.new.items) }
 {
     if let Some(at) = find_group(groups.as_slice(), relation) {
         return Ok(at);
     }
     let at = groups.len();
-    groups.push(RowGroup {
+    groups.push(Group {
         relation,
-        inserted: CellRows::new(alloc),
-        removed: CellRows::new(alloc),
+        rows: GroupRows::new(alloc),
     })?;
     Ok(at)
 }
 
-/// A row joins the group of its relation if it is inserted or removed.
+/// A row joins the group of its relation.
 ///
 /// # Errors
 ///
 /// `NoMem` out of memory.
 fn join_group(
     alloc: Global,
-    groups: &mut Vec<RowGroup>,
+    groups: &mut Vec<Group>,
     relation: RelationId,
     cells: Cells,
-    copies: Copies,
 ) -> Result<(), NoMem>
-    ensures { OnOk result (JoinsGroups groups.old.items relation cells copies groups.new.items) }
+    ensures { OnOk result (JoinsGroups groups.old.items relation cells groups.new.items) }
 {
     let at = place_group(alloc, groups, relation)?;
-    if copies.came() {
-        groups[at].inserted.push(cells)?;
-    } else if copies.went() {
-        groups[at].removed.push(cells)?;
-    }
+    groups[at].rows.push(cells)?;
     Ok(())
 }
 
-/// The rows of a net that are inserted and those that are removed: a group of each relation that lines name, in the
-/// order in which they first do, and in it the rows, each once, in the order of their first lines. So all memory that
-/// they need is there before any row is inserted.
+/// The rows of a net that are inserted, and those that are removed: of each of the two a group of each relation of
+/// which there is a row, in the order of their first lines, and in it the rows, each once, in the order of theirs. So
+/// no group is empty, and all memory that they need is there before any row is inserted.
 ///
 /// # Errors
 ///
 /// `NoMem` out of memory.
-pub fn group_rows(alloc: Global, catalog: &Catalog, net: &Net) -> Result<Vec<RowGroup>, NoMem>
+pub fn group_rows(alloc: Global, catalog: &Catalog, net: &Net) -> Result<Groups, NoMem>
     requires { (lines : List spec.HeldLine) × IsJudged catalog.now.relations catalog.now.texts lines net.now }
     ensures { IfOk result (λ groups. (lines : List spec.HeldLine)
         → IsJudged catalog.now.relations catalog.now.texts lines net.now
-        → groups.items ≡ grouped_rows catalog.now.relations catalog.now.texts lines) }
+        → AreItsGroups catalog.now.relations catalog.now.texts lines groups) }
 {
-    let mut groups = Vec::new(alloc);
+    let mut come = Vec::new(alloc);
+    let mut gone = Vec::new(alloc);
     for place in 0..net.copies.len() {
+        let copies = net.copies[place];
         let (relation, cells) = net.row(catalog, place);
-        join_group(alloc, &mut groups, relation, cells, net.copies[place])?;
+        if copies.came() {
+            join_group(alloc, &mut come, relation, cells)?;
+        } else if copies.went() {
+            join_group(alloc, &mut gone, relation, cells)?;
+        }
     }
-    Ok(groups)
+    Ok(Groups { come, gone })
 }

@@ -2,20 +2,15 @@
 ghost use Rattle.std.specs.Prelude.{◌≡◌, ◌++◌, [], ◌∷◌, ◌<◌, ◌≤◌, ◌==◌, true, length, slice_get, OnOk, OnErr, IfOk};
 ghost use Rattle.std.specs.List.{sum_by};
 ghost use Rattle.std.specs.Option.{option_copied};
-ghost use Rattle.djq_transaction.specs.declared.held.TheConstants.{HELD_LINES};
-ghost use Rattle.djq_transaction.specs.Held.{has_room, transaction_line, log_lines};
-ghost use Rattle.djq_transaction.specs.Buffer.{HoldsOneMore, HasTheSame};
+ghost use Rattle.djq_protocol.specs.declared.limits.TheConstants.{HELD};
+ghost use Rattle.djq_store_spec.specs.Held.{nothing_held, holding, has_room, transaction_line, log_lines};
+ghost use Rattle.djq_transaction.specs.Buffer.{GetsOneMoreLine, HasTheSame};
 
-use crate::lines::Verb;
 use djq_model::{Name, NoMem, Text, Value};
+use djq_protocol::Verb;
+use djq_protocol::limits::{HELD, HELD_BYTES};
 use std::alloc::Global;
 use std::marker::Model;
-
-/// The most lines that a transaction holds.
-pub const HELD_LINES: usize = 65_536;
-
-/// The most bytes of the lines that a transaction holds.
-pub const HELD_BYTES: usize = 16_777_216;
 
 /// What a line does, to a row of which relation, and where its values and its bytes are.
 #[derive(Clone, Copy, Debug)]
@@ -54,7 +49,7 @@ pub struct Transaction {
 }
 
 impl Model for Transaction {
-    ghost use Rattle.djq_transaction.specs.Held.{HeldTransaction};
+    ghost use Rattle.djq_store_spec.specs.Held.{HeldTransaction};
 
     ghost Value = { HeldTransaction };
 
@@ -115,7 +110,7 @@ fn append_line(
     row: &[Value],
     line: &[u8],
 ) -> Result<(), NoMem>
-    ensures ok { OnOk result (HoldsOneMore buffer.old verb relation row.now line.now buffer.new) }
+    ensures ok { OnOk result (GetsOneMoreLine buffer.old verb relation row.now line.now buffer.new) }
     ensures err { OnErr result (HasTheSame buffer.old buffer.new) }
 {
     buffer.entries.reserve(1)?;
@@ -140,7 +135,7 @@ fn append_line(
 impl Transaction {
     /// A transaction that holds no line. It asks for no memory.
     pub fn new(alloc: Global) -> Transaction
-        ensures { result ≡ record { lines = []; logged = [] } }
+        ensures { result ≡ nothing_held }
     {
         Transaction {
             alloc,
@@ -155,7 +150,8 @@ impl Transaction {
     /// How many lines it holds.
     pub fn len(&self) -> usize
         ensures value { result ≡ length self.now.lines }
-        ensures few { result ≤ HELD_LINES }
+        ensures logged { result ≡ length self.now.logged }
+        ensures few { result ≤ HELD }
     {
         self.buffer.entries.len()
     }
@@ -174,12 +170,12 @@ impl Transaction {
         self.buffer.bytes.len()
     }
 
-    /// Whether it may hold one more line, of this many bytes: it holds fewer than [`HELD_LINES`], and with this one
+    /// Whether it may hold one more line, of this many bytes: it holds fewer than [`HELD`], and with this one
     /// they have at most [`HELD_BYTES`] bytes.
     pub fn has_room(&self, line: usize) -> bool
         ensures { result ≡ has_room self.now line }
     {
-        self.buffer.entries.len() < HELD_LINES
+        self.buffer.entries.len() < HELD
             && self.buffer.bytes.len() <= HELD_BYTES
             && line <= HELD_BYTES - self.buffer.bytes.len()
     }
@@ -197,10 +193,7 @@ impl Transaction {
         line: &[u8],
     ) -> Result<(), NoMem>
         requires { has_room self.old (length line.now) ≡ true }
-        ensures ok { OnOk result (self.new ≡ record {
-          lines = self.old.lines ++ record { verb = verb; relation = relation; row = row.now } ∷ [];
-          logged = self.old.logged ++ line.now ∷ [];
-        }) }
+        ensures ok { OnOk result (self.new ≡ holding self.old verb relation row.now line.now) }
         ensures err { OnErr result (self.new ≡ self.old) }
     {
         append_line(self.alloc, &mut self.buffer, verb, relation, row, line)

@@ -1,8 +1,8 @@
 //! Whether a line has its place over what the lines before it leave, and what it leaves.
 ghost use Rattle.std.specs.Prelude.{◌≡◌, ◌++◌, ◌∷◌, ◌<◌, List, false, length, nat_le, IfOk, IfErr};
-ghost use Rattle.djq_transaction.specs.Held as spec;
-ghost use Rattle.djq_transaction.specs.declared.lines.Verb.TheVariants.{Add as Adds, Delete as Deletes};
-ghost use Rattle.djq_transaction.specs.Judging.{rows_reached, row_refusal, limit_if};
+ghost use Rattle.djq_store_spec.specs.Held as spec;
+ghost use Rattle.djq_protocol.specs.declared.held.Verb.TheVariants.{Add as Adds, Delete as Deletes};
+ghost use Rattle.djq_store_spec.specs.Judging.{rows_reached, row_refusal, limit_if};
 ghost use Rattle.djq_transaction.specs.LookUp.{Looked};
 ghost use Rattle.djq_transaction.specs.Net.{IsNetTable, IsNet, SuitsAt, line_at, CanBeJudged, PassesLine, RefusesLine};
 ghost use Rattle.djq_model.specs.Data.{has_row};
@@ -18,28 +18,9 @@ use djq_database::{Catalog, RelationId};
 use djq_dictionary::InternRefusal;
 use djq_index::Cells;
 use djq_model::Value;
+use djq_protocol::LineRefusal;
 use djq_protocol::limits::{COPIES, ROWS};
 use std::sync::ledger::Ledger;
-
-/// Why a line is refused.
-#[derive(Clone, Copy, Debug, PartialEq, Eq)]
-pub enum LineRefusal {
-    /// A limit is reached: of copies of a row, of rows of a relation, or of texts.
-    Limit,
-    /// A row that is to be deleted has no copy.
-    Absent,
-    /// Out of memory.
-    NoMemory,
-}
-
-/// A line that is refused.
-#[derive(Clone, Copy, Debug, PartialEq, Eq)]
-pub struct RefusedLine {
-    /// Its place among the lines, from 0.
-    pub at: usize,
-    /// Why.
-    pub refusal: LineRefusal,
-}
 
 /// Room for the cells of a row, and for its key. It asks for no memory.
 #[derive(Drop)]

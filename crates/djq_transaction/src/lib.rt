@@ -15,18 +15,18 @@
 //!   add r 2 5                       (2, 5)                1      2   neither
 //! ```
 //!
-//! A net is then applied. [`group_rows`] lists the rows that are inserted and those that are removed, by their relations:
-//! so all memory that they need is there before any row changes. [`insert_rows`] inserts the first in a catalog, or none
-//! of them, out of memory. [`remove_rows`] then removes the others and gives the rows that stay their copies; it takes
-//! no memory, so nothing is ever to be undone. Between the two calls each row is there that is there before or after,
-//! and [`lines_settle`] is the law of what this does to answers.
+//! A net is then applied. [`group_rows`] lists the rows that are inserted and those that are removed, by their
+//! relations: so all memory that they need is there before any row changes. [`insert_rows`] inserts the first in a
+//! catalog, or none of them, out of memory. [`remove_rows`] then removes the others and gives the rows that stay their
+//! copies; it takes no memory. [`undo_rows`] removes the inserted ones again instead, and takes none either: so a
+//! transaction can be given up as long as no other row has changed. Between the two calls each row is there that is
+//! there before or after. [`lines_settle`] is the law of what this does to answers, [`lines_lead`] that of the groups.
 //!
 //! ```text
 //! before (1, 10) 1   (2, 5) 1      between (1, 10) 1   (2, 5) 1   (1, 11) 1      after (2, 5) 2   (1, 11) 1
 //! ```
 //!
-//! It updates no query and parses no line, and a line's relation and types are tested before the line is held. No
-//! command uses it yet: batches of inserts are in `djq_engine`.
+//! It updates no query and parses no line, and a line's relation and types are tested before the line is held.
 //!
 //! What surprises: a refused transaction leaves the texts of the lines before the refused one known. A row that is
 //! added and deleted again is neither inserted nor removed; but until the last line is judged it counts at the limit
@@ -46,19 +46,14 @@ mod judge;
 mod key;
 mod keys;
 mod laws;
-mod lines;
 mod net;
-mod rows;
 mod transaction;
 
-pub use apply::{insert_rows, remove_rows};
-pub use done::{DoneRefusal, judge_done};
-pub use groups::{RowGroup, group_rows};
-pub use held::{HELD_BYTES, HELD_LINES, Transaction};
-pub use judge::{LineRefusal, RefusedLine};
+pub use apply::{insert_rows, remove_rows, undo_rows};
+pub use done::judge_done;
+pub use groups::{Groups, group_rows};
+pub use held::Transaction;
 pub use keys::Keys;
-pub use laws::lines_settle;
-pub use lines::Verb;
+pub use laws::{lines_lead, lines_leave, lines_settle, lines_suit};
 pub use net::{Copies, Net};
-pub use rows::CellRows;
 pub use transaction::judge_all;

@@ -6,10 +6,10 @@ ghost use Rattle.djq_transaction.specs.Net.{IsNetTable, LooksUp, SetsCopies, key
 ghost use Rattle.djq_arena.specs.declared.link.TheConstants.{SLOTS};
 ghost use Rattle.djq_transaction.specs.declared.key.TheConstants.{KEY_CELLS};
 ghost use Rattle.djq_transaction.specs.Net.{IsNet, copies_came, copies_went};
-ghost use Rattle.djq_transaction.specs.Lines.{first_lines, lines_come, lines_go};
+ghost use Rattle.djq_store_spec.specs.Lines.{first_lines, lines_come, lines_go};
 ghost use Rattle.djq_transaction.specs.Applied.{headings};
 ghost use Rattle.djq_transaction.specs.Net.{IsRowAt, relation_place};
-ghost use Rattle.djq_transaction.specs.Held as spec;
+ghost use Rattle.djq_store_spec.specs.Held as spec;
 ghost use Rattle.djq_model.specs.declared.relation.Relation.{Relation};
 ghost use Rattle.djq_model.specs.Data.{Bytes};
 

@@ -1,22 +1,22 @@
 //! All lines of a transaction, judged one after another.
 ghost use Rattle.std.specs.Prelude.{◌≡◌, ◌+◌, [], ◌<◌, ◌≤◌, ℕ, All, None, length, IfOk, IfErr};
-ghost use Rattle.djq_transaction.specs.Judging.{AnswersAs, RefusesLines, lines_refusal, texts_after};
+ghost use Rattle.djq_store_spec.specs.Judging.{AnswersAs, RefusesLines, lines_refusal, texts_after};
 ghost use Rattle.djq_transaction.specs.Net.{IsNetTable, IsNet, Suits, PassesLine, RefusesLine, keys};
 ghost use Rattle.djq_transaction.specs.Applied.{IsJudged};
 ghost use Rattle.djq_transaction.specs.declared.key.TheConstants.{KEY_CELLS};
 ghost use Rattle.djq_arena.specs.declared.link.TheConstants.{SLOTS};
 ghost use Rattle.djq_index.specs.declared.cells.TheConstants.{CELLS};
 ghost use Rattle.djq_database.specs.Catalog.{relation_at};
-ghost use Rattle.djq_transaction.specs.Held.{transaction_line};
+ghost use Rattle.djq_store_spec.specs.Held.{transaction_line};
 
 use crate::held::Transaction;
-use crate::judge::{LineRefusal, RefusedLine, Room, judge_add, judge_delete};
+use crate::judge::{Room, judge_add, judge_delete};
 use crate::key::Key;
-use crate::lines::Verb;
 use crate::net::Net;
 use djq_counters::Tally;
 use djq_database::{Catalog, RelationId};
 use djq_index::Cells;
+use djq_protocol::{LineRefusal, RefusedLine, Verb};
 use std::alloc::Global;
 use std::sync::ledger::Ledger;
 

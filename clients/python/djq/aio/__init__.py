@@ -20,9 +20,12 @@ belongs. Errors are those of `djq`.
 time; what they share with the client that blocks knows no socket.
 """
 
-from .connection import Batch, Connection, Cursor, Pipeline, PipelinedBatch, connect
+from .connection import Connection, Cursor, Pipeline, PipelinedTransaction, Transaction, connect
 from .expiring import Expiring
 from .live import Live, Lives
 from .table import Table
 
-__all__ = ["Batch", "Connection", "Cursor", "Expiring", "Live", "Lives", "Pipeline", "PipelinedBatch", "Table", "connect"]
+__all__ = [
+    "Connection", "Cursor", "Expiring", "Live", "Lives", "Pipeline", "PipelinedTransaction", "Table", "Transaction",
+    "connect",
+]  # fmt: skip

@@ -8,12 +8,12 @@ from collections import deque
 from typing import TYPE_CHECKING, Any, AsyncIterator, Callable, Generator, Iterable, Sequence, TypeVar
 
 from .. import protocol
-from ..batch import Collected
-from ..errors import Disconnected, Error, NoCursor, NotWatched, Refused, SomeRefused, Unanswered
+from ..errors import Disconnected, Error, NoCursor, NotWatched, Refused, SomeRefused
 from ..listing import CLOSE, MOST_PAGES, WITHIN, Listing, Said
-from ..protocol import FIRST_REFUSALS, MOST_ANSWERS, Added, Answer, Change, Done, Page, Pending, Protocol, Rows, Update
+from ..protocol import FIRST_REFUSALS, MOST_ANSWERS, Added, Answer, Change, Commit, Page, Pending, Protocol, Update
 from ..protocol import Value, checked, fitting, spell_line, spell_query, spell_relation, spell_union
 from ..schema import Schema
+from ..transaction import Collected
 
 if TYPE_CHECKING:
     from .live import Live, Lives
@@ -22,7 +22,7 @@ if TYPE_CHECKING:
 T = TypeVar("T")
 
 MOST_DUE = 2000  # replies that are left due while a pipeline sends more
-ROWS_AT_ONCE = 500  # replies behind which a load tells its progress, and rows of a batch that are said together
+ROWS_AT_ONCE = 500  # replies behind which a load tells its progress
 MOST_UNTAKEN = 10000  # changes that nobody took, above which no more is read while nobody waits
 
 
@@ -49,7 +49,7 @@ class Connection:
         self._transport: asyncio.Transport | None = None
         self._order = asyncio.Lock()  # held by a listing's turn, and as a command is said
         self._listing = asyncio.Lock()  # held by a listing, since all have one cursor's name
-        self._waiting: deque[tuple[Pending[Any], asyncio.Future[None]]] = deque()
+        self._waiting: deque[tuple[Pending[Any] | Commit, asyncio.Future[None]]] = deque()
         self._sleepers: list[asyncio.Future[None]] = []  # that are woken as bytes come, or the connection is lost
         self._heard = time.monotonic()  # when bytes came last
         self._watched: set[str] = set()
@@ -203,19 +203,19 @@ class Connection:
 
     # Many at once, and changes
 
-    def batch(self) -> Batch:
-        """Rows that are added in the block go in at its end, all at once and as one change, or none of them does:
+    def transaction(self) -> Transaction:
+        """What the block adds, deletes and updates is carried out at its end as one change, or not at all:
 
-        async with server.batch() as batch:
-            batch.add("orders", 7, "bo")
-            batch.add("lines", 7, 1, "bolt")
-        came = batch.result().rows
+        async with server.transaction() as change:
+            change.add("orders", 8, "al")
+            change.update("states", (7, "new"), (7, "paid"))
+            change.delete("open", 7)
+        done = change.result()
 
-        Up to `MOST_HELD` rows. Until the block's end nothing is sent, and where the block raises nothing is. At its end
-        `SomeRefused` is raised where the server refused rows, and what it refused the batch with; then none is in. What
-        other tasks say meanwhile is said behind it.
+        It promises what `djq.Connection.transaction` does. It is sent in one write, so no other task's command is in it;
+        if the task is cancelled as it waits for the replies, it is carried out nevertheless.
         """
-        return Batch(self)
+        return Transaction(self)
 
     def pipeline(self, raises: bool = True) -> Pipeline:
         """Commands of the block are sent together, and their replies read by its end:
@@ -296,43 +296,22 @@ class Connection:
         await self._done(pending)
         return pending.result()
 
-    async def _put_in(self, rows: list[str]) -> Done:
-        """Puts the rows of these lines in by a batch, which is abandoned where that goes wrong."""
+    def _say_transaction(self, lines: list[str], failed: Callable[[Error], None] | None = None) -> Commit:
+        """Queues a transaction of these lines."""
+        self._check()
+        commit = self._protocol.say_transaction(lines, failed)
+        self._resume()
+        return commit
+
+    async def _carry_out(self, lines: list[str]) -> Commit:
+        """Sends a transaction of these lines, and waits for its replies."""
         async with self._order:
-            try:
-                await self._hold(rows)
-                done = self._say("done", protocol.READ_DONE)
-            except Unanswered as error:
-                raise Disconnected("the connection was lost; the batch wasn't done") from error
-            except BaseException:
-                if self._protocol.ended is None:
-                    self._say("abandon", protocol.READ_OK)
-                raise
-            finally:
-                self._flush()
-        await self._done(done)
-        return done.result()
+            commit = self._say_transaction(lines)
+            self._flush()
+        await self._done(commit)
+        return commit
 
-    async def _hold(self, rows: list[str]) -> None:
-        """Opens a batch that holds the rows of these lines. Raises what was refused."""
-        opened = self._say("batch", protocol.READ_OK)
-        self._flush()
-        await self._done(opened)
-        opened.result()
-        held: list[Rows] = []
-        for at in range(0, len(rows), ROWS_AT_ONCE):
-            lines = rows[at : at + ROWS_AT_ONCE]
-            held.append(self._protocol.say_rows(lines, ("\n".join(lines) + "\n").encode()))
-            await self._settle(MOST_DUE)
-            if any(some.refused for some in held):
-                break
-        await self._settle()
-        refused = sum(some.refused for some in held)
-        if refused:
-            first = [error for some in held for error in some.first]
-            raise SomeRefused(sum(len(some.lines) for some in held), refused, first[:FIRST_REFUSALS])
-
-    async def _done(self, pending: Pending[Any]) -> None:
+    async def _done(self, pending: Pending[Any] | Commit) -> None:
         """Waits for a reply, and loses the connection where nothing comes for too long."""
         if pending.done:
             return
@@ -482,36 +461,37 @@ class Cursor:
         return self.answers()
 
 
-class Batch(Collected):
-    """Rows that go in at once: see `Connection.batch`."""
+class Transaction(Collected):
+    """Rows that are inserted and deleted as one change: see `Connection.transaction`."""
 
     def __init__(self, connection: Connection) -> None:
         super().__init__()
         self._connection = connection
 
-    async def __aenter__(self) -> Batch:
+    async def __aenter__(self) -> Transaction:
         return self
 
     async def __aexit__(self, kind: type | None, error: BaseException | None, trace: object) -> None:
         lines = self._end()
         if error is None:
-            self._result = await self._connection._put_in(lines)
+            self._commit = await self._connection._carry_out(lines)
+            self._commit.result()
 
 
-class PipelinedBatch(Collected):
-    """Rows that go in at once, within a pipeline: see `Pipeline.batch`."""
+class PipelinedTransaction(Collected):
+    """Rows that are inserted and deleted as one change, within a pipeline: see `Pipeline.transaction`."""
 
     def __init__(self, pipeline: Pipeline) -> None:
         super().__init__()
         self._pipeline = pipeline
 
-    async def __aenter__(self) -> PipelinedBatch:
+    async def __aenter__(self) -> PipelinedTransaction:
         return self
 
     async def __aexit__(self, kind: type | None, error: BaseException | None, trace: object) -> None:
         lines = self._end()
         if error is None:
-            self._reply = await self._pipeline._put_in(lines)
+            self._commit = await self._pipeline._say_transaction(lines)
 
 
 class Pipeline:
@@ -560,37 +540,18 @@ class Pipeline:
         """Registers a union."""
         return await self._say(spell_union(name, members), protocol.READ_UNION)
 
-    def batch(self) -> PipelinedBatch:
-        """Rows that are added in the block go in at its end, all at once or none of them, as `djq.Pipeline.batch`."""
-        return PipelinedBatch(self)
+    def transaction(self) -> PipelinedTransaction:
+        """A transaction among the commands of the pipeline, as `djq.Pipeline.transaction`."""
+        return PipelinedTransaction(self)
 
-    async def _put_in(self, rows: list[str]) -> Pending[Done]:
-        """Puts the rows of these lines in by a batch, without waiting for what becomes of it."""
+    async def _say_transaction(self, lines: list[str]) -> Commit:
         own = self._connection
         async with own._order:
-            try:
-                await own._hold(rows)
-                done = own._say("done", protocol.READ_DONE, self._failed)
-            except (SomeRefused, Refused) as error:
-                if isinstance(error, SomeRefused):
-                    own._say("abandon", protocol.READ_OK)
-                self._count(error, len(rows))
-                return Pending.failed("done", error)
-            except BaseException:
-                if own._protocol.ended is None:
-                    own._say("abandon", protocol.READ_OK)
-                raise
-            finally:
-                own._flush()
-        self.sent += len(rows) + 2
-        return done
-
-    def _count(self, error: SomeRefused | Refused, rows: int) -> None:
-        """Counts what was refused of a batch."""
-        refused = error.first if isinstance(error, SomeRefused) else [error]
-        self.sent += 1 + (rows if isinstance(error, SomeRefused) else 0)
-        self.refused += error.refused if isinstance(error, SomeRefused) else 1
-        self.first += refused[: FIRST_REFUSALS - len(self.first)]
+            commit = own._say_transaction(lines, self._failed)
+        self.sent += len(commit.lines)
+        if own._protocol.due > MOST_DUE:
+            await own._settle(MOST_DUE // 2)
+        return commit
 
     async def _say(self, line: str, read: Callable[[list[str]], T | None]) -> Pending[T]:
         own = self._connection

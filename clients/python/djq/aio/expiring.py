@@ -7,11 +7,12 @@ import contextlib
 import time
 from collections.abc import Callable, Generator, Iterable, Sequence
 
-from ..errors import Error, Taken
-from ..expiry import FEWEST_HELD, LONGEST_WAIT, Expiry
+from ..errors import Error, RowAbsent, SomeRefused, Taken
+from ..expiry import LONGEST_WAIT, Edit, Expiry
 from ..listing import WITHIN
 from ..live import log
-from ..protocol import MOST_HELD, Answer, Value
+from ..protocol import Answer, Done, Value
+from ..table import of_one
 from .connection import list_whole
 from .table import Table
 
@@ -55,8 +56,8 @@ class Expiring(Expiry):
         return await self.renew_all([row]) == 1
 
     async def renew_all(self, rows: Iterable[Sequence[Value]]) -> int:
-        """As `renew` for each of these rows, of which no two have one key, by a few round trips for all. Gives how many
-        weren't there."""
+        """As `renew` for each of these rows, of which no two have one key, by a transaction for each thousand. Gives how
+        many weren't there."""
         return await asyncio.shield(self._renew_all(list(rows)))
 
     async def left(self, *key: Value) -> float | None:
@@ -84,59 +85,75 @@ class Expiring(Expiry):
             await own.query(self._text)
         self._dues._listed(await list_whole(own, self._dues.query, WITHIN, watch=True), own._protocol)
         self._dues._restarted()
-        await self._send(self._due, self._undated(), [])
+        await self._date()
 
     async def _renew_all(self, rows: list[Sequence[Value]]) -> int:
         async with self._writing:
-            self._catch_up()
-            renewal = self._renewal(rows)
-            come = renewal.come
-            if renewal.missing:
-                # the time before the row: a row without one would stay
-                await self._send(self._due, come, [])
-                await self._put_in(renewal.missing)
-                come = []
-            await self._send(self._due, come, renewal.go)
-            self._catch_up()
-            await self._put_in(self._missing(renewal.wanted))  # those that were taken out meanwhile
-            return len(renewal.missing)
+            missing = 0
+            for some in self._in_parts(rows):
+                missing += await self._renew_some(some)
+            return missing
 
     async def _expire(self) -> list[Answer]:
         async with self._writing:
-            self._catch_up()
-            await self._send(self._due, self._undated(), [])
-            now = self._now()
-            rows, past = self._over(now)
-            await self._send(self.table.relation, [], rows)
-            self._catch_up()
-            # behind the replies each renewal is known that came before its row went
-            back = self._renewed(rows, now)
-            await self._send(self.table.relation, back, [])
-            await self._send(self._due, [], past)
-            self._catch_up()
-            return [row for row in rows if row not in back]
+            await self._date()
+            now, gone = self._now(), list[Answer]()
+            while True:
+                self._catch_up()
+                edit = self._expiry(now)
+                if not edit.deletes:
+                    return gone
+                done = await self._carry_out(edit)
+                if done is not None:
+                    back = await self._take_copies(edit, done, now)
+                    gone += [row for row in edit.rows if row not in back]
 
-    async def _put_in(self, rows: list[Answer]) -> None:
-        """Makes these the rows of their keys."""
-        replacing = [row for row in rows if self._replacing(row)]
-        await self._send(self.table.relation, [row for row in rows if not self._replacing(row)], [])
-        for row in replacing:
-            await self.table.upsert(*row)
+    async def _date(self) -> None:
+        """Gives rows without a time the whole of it."""
+        self._catch_up()
+        for some in self._in_parts(self._undated()):
+            await self._carry_out(self._dating(some))
 
-    async def _send(self, relation: str, come: Sequence[Answer], go: Sequence[Answer]) -> None:
-        """Adds rows, and then takes others out with all their copies. Raises `SomeRefused`."""
-        if len(come) >= FEWEST_HELD:
-            for at in range(0, len(come), MOST_HELD):
-                async with self._connection.batch() as batch:
-                    for row in come[at : at + MOST_HELD]:
-                        batch.add(relation, *row)
-            come = ()
-        while come or go:
-            async with self._connection.pipeline() as many:
-                for row in come:
-                    await many.add(relation, *row)
-                gone = [await many.delete(relation, *row) for row in go]
-            come, go = (), [row for row, reply in zip(go, gone) if reply.result().copies]
+    async def _renew_some(self, rows: list[Answer]) -> int:
+        """Renews rows by one transaction. If another process was first, it is made anew of what is there then."""
+        while True:
+            self._catch_up()
+            edit = self._renewal(rows)
+            done = await self._carry_out(edit)
+            if done is not None:
+                if done.rows < len(edit.deletes) + len(edit.adds):
+                    self._catch_up()
+                    await self.table._take_rest(self._left_over(edit))
+                return len(edit.rows)
+
+    async def _take_copies(self, edit: Edit, done: Done, now: int) -> list[Answer]:
+        """Removes further copies of rows that were due, which others gave them. Gives those that were renewed meanwhile,
+        which are added again."""
+        if done.rows == len(edit.deletes):
+            return []
+        self._catch_up()
+        left = self._left_over(edit)
+        left = [row for row in left if row not in self._renewed(left, now)]
+        await self.table._take_rest(left)
+        self._catch_up()
+        back = self._renewed(left, now)
+        if back:
+            await self._carry_out(Edit([], [(self.table.relation, row) for row in back], back))
+        return back
+
+    async def _carry_out(self, edit: Edit) -> Done | None:
+        """One transaction; none if it is refused, as another process has deleted one of these rows first."""
+        try:
+            async with self._connection.transaction() as change:
+                for relation, row in edit.deletes:
+                    change.delete(relation, *row)
+                for relation, row in edit.adds:
+                    change.add(relation, *row)
+        except RowAbsent:
+            return None
+        except SomeRefused as error:
+            raise of_one(error) from None
+        return change.result()
 
     def _catch_up(self) -> None:
         """Takes the changes that have come."""

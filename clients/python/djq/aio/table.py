@@ -3,12 +3,12 @@
 from __future__ import annotations
 
 import asyncio
-from typing import Any, Iterator, Sequence
+from typing import Iterable, Iterator, Sequence
 
-from ..errors import Refused, Taken
+from ..errors import RowAbsent, SomeRefused, Taken
 from ..listing import WITHIN
-from ..protocol import READ_ADDED, READ_REMOVED, Answer, Pending, Value
-from ..table import MOST_AT_ONCE, Keyed, took
+from ..protocol import Answer, Value
+from ..table import MOST_AT_ONCE, Keyed, of_one
 from .connection import Connection, list_whole
 
 
@@ -56,47 +56,64 @@ class Table(Keyed):
 
     async def upsert(self, *row: Value) -> bool:
         """Makes this the row of its key. False where it is already."""
-        return await asyncio.shield(self._replace(row[: self.key], row))
+        return await asyncio.shield(self._make(row[: self.key], row))
+
+    async def update(self, old: Sequence[Value], new: Sequence[Value]) -> None:
+        """Replaces the row of a key by another one. Raises `RowAbsent` if another client, or task, has replaced or
+        deleted the old one: so what is computed from it overwrites nothing."""
+        away, row = self._same_key(old, new)
+        await asyncio.shield(self._update(away, row))
 
     async def remove(self, *key: Value) -> bool:
         """Takes the row of a key out. False where there is none."""
-        return await asyncio.shield(self._replace(key, None))
+        return await asyncio.shield(self._make(key, None))
 
     # Inside
 
-    async def _replace(self, key: Answer, row: Answer | None) -> bool:
-        """Makes this the one row of a key, or none, in one write. Where it is refused, the old ones come back."""
+    async def _make(self, key: Answer, row: Answer | None) -> bool:
+        """Makes this the one row of a key, or none."""
         async with self._writing:
-            self._catch_up()
-            there, new = self._replacing(row) if row is not None else (self._rows.get(key, set()), [])
-            old, connection = list(there), self._connection
-            dels, adds = self._lines("del", old), self._lines("add", new)
-            async with connection._order:
-                gone = [connection._say(line, READ_REMOVED) for line in dels]
-                came = [connection._say(line, READ_ADDED) for line in adds]
-                connection._flush()
-            pending: list[Pending[Any]] = [*gone, *came]
-            for reply in pending:
-                await connection._done(reply)
-            try:
-                left = [reply.result().copies for reply in gone]
-                for added in came:
-                    added.result()
-            except Refused:
-                for away, removed in zip(old, gone):
-                    if took(removed):
-                        await connection.add(self.relation, *away)
-                raise
-            for away, copies in zip(old, left):
-                await self._take_rest(away, copies)
-            return bool(gone or came)
+            while True:
+                self._catch_up()
+                old, new = self._replacing(row) if row is not None else (set(self._rows.get(key, ())), [])
+                if not old and not new:
+                    return False
+                if await self._replace(old, new):
+                    return True
 
-    async def _take_rest(self, row: Answer, copies: int) -> None:
-        """Takes the copies that are left of a row, which others gave it."""
-        while copies > 0:
-            async with self._connection.pipeline() as many:
-                replies = [await many.delete(self.relation, *row) for _ in range(min(copies, MOST_AT_ONCE))]
-            copies = replies[-1].result().copies
+    async def _update(self, old: Answer, new: Answer) -> None:
+        async with self._writing:
+            await self._carry_out([old], [new])
+
+    async def _replace(self, old: Iterable[Answer], new: Iterable[Answer]) -> bool:
+        """Deletes rows and adds others, as one change. False if another client has deleted one of them first; then its
+        change has arrived."""
+        try:
+            await self._carry_out(old, new)
+        except RowAbsent:
+            return False
+        return True
+
+    async def _carry_out(self, old: Iterable[Answer], new: Iterable[Answer]) -> None:
+        try:
+            async with self._connection.transaction() as change:
+                for row in old:
+                    change.delete(self.relation, *row)
+                for row in new:
+                    change.add(self.relation, *row)
+        except SomeRefused as error:
+            raise of_one(error) from None
+        self._catch_up()
+        await self._take_rest(self._still({*old} - {*new}))
+
+    async def _take_rest(self, rows: Iterable[Answer]) -> None:
+        """Removes the copies that are left of rows, which others gave them."""
+        for row in rows:
+            copies = 1
+            while copies > 0:
+                async with self._connection.pipeline() as many:
+                    replies = [await many.delete(self.relation, *row) for _ in range(min(copies, MOST_AT_ONCE))]
+                copies = replies[-1].result().copies
 
     def _catch_up(self) -> None:
         """Takes the changes that have come."""

@@ -8,7 +8,7 @@ from typing import Callable
 
 from .. import syntax
 from ..errors import BadColumns, NotFreeConnex, Refused, Stale
-from ..protocol import MOST_ANSWERS, MOST_HELD, MOST_MEMBERS
+from ..protocol import ENDING, HELD_BYTES, MOST_ANSWERS, MOST_HELD, MOST_MEMBERS
 from .names import Names
 from .queries import MOST_ATOMS, MOST_COLUMNS, MOST_HEAD, Query, cures, read_query, ring
 
@@ -16,9 +16,9 @@ FORMS = {
     "rel": f"rel NAME int text ..              a relation with 1 to {MOST_COLUMNS} columns",
     "add": 'add NAME 1 "a text" ..            puts a row in, or gives it one copy more',
     "del": 'del NAME 1 "a text" ..            takes a copy of a row; the last takes it out',
-    "batch": "batch                             then: add .., and done or abandon",
-    "done": "done                              puts the rows of the batch in",
-    "abandon": "abandon                           drops the rows of the batch",
+    "batch": "batch                             then: add .. and del .., and done or abandon",
+    "done": "done, or done 3                   carries out the lines of the batch; 3: if it holds so many",
+    "abandon": "abandon                           discards the lines of the batch",
     "query": "query NAME(x,y) <- REL(x,z), REL(z,y,3), x >= 5",
     "union": f"union NAME QUERY QUERY ..         2 to {MOST_MEMBERS} queries",
     "drop": "drop QUERY",
@@ -43,7 +43,8 @@ LIMITS = {
     " needed",
     "open": "a session has at most 16 cursors: close one",
 }
-LIMITS["done"] = f"no row of the batch came: {LIMITS['add']}"
+NOTHING_DONE = "nothing of the batch was carried out"
+LIMITS["done"] = f"{NOTHING_DONE}: {LIMITS['add']}"
 
 Columns = Callable[[str], "tuple[str, ...] | None"]
 
@@ -69,24 +70,38 @@ def advice(error: Exception, line: str, names: Names, columns: Columns) -> list[
     if error.number in (8, 9, 10, 16):
         return _of_head(error.number, line, columns)
     if error.number == 11:
-        if command == "add" and names.held is not None:
-            return [f"a batch holds at most {MOST_HELD:,} rows: say done, and batch for the next ones"]
+        if command in ("add", "del") and names.held is not None:
+            most = f"a batch holds at most {MOST_HELD:,} lines, of {HELD_BYTES:,} bytes"
+            return [f"{most}: say done, and batch for the next ones"]
         return [LIMITS.get(command, "a limit is reached")]
     if error.number == 12:
         more = "the server has no memory left: delete rows, drop queries, or give its machine more"
-        return ["no row of the batch came"] * (command == "done") + [more]
+        return [NOTHING_DONE] * (command == "done") + [more]
     if error.number == 17:
         return _of_members(words[2:], names)
     if error.number == 18:
-        return _of_batch(names)
+        return _of_batch(command, names)
+    if error.number == 19:
+        rows = [deleted.partition(" ")[2] for deleted in names.deletes]
+        which = rows[0] if len(rows) == 1 else f"one of the {len(rows):,} rows that del names"
+        return [f"no copy of {which} is there: look at what is, and begin again with batch"]
+    if error.number == 20:
+        return [f"{NOTHING_DONE}: {held_lines(names)} held; begin again with batch"]
     return []
 
 
-def _of_batch(names: Names) -> list[str]:
+def held_lines(names: Names) -> str:
+    """How many lines the batch holds, in words."""
+    return f"{names.held or 0:,} {'line was' if names.held == 1 else 'lines were'}"
+
+
+def _of_batch(command: str, names: Names) -> list[str]:
+    if command in ENDING:
+        return [f"{held_lines(names)} held, and {NOTHING_DONE}"]
     if names.held is None:
         return ["batch opens one"]
-    rows = f"{names.held:,} {'row' if names.held == 1 else 'rows'}"
-    return [f"it holds {rows}: done puts them in, abandon drops them; add holds a further one"]
+    lines = f"{names.held:,} {'line' if names.held == 1 else 'lines'}"
+    return [f"it holds {lines}: done carries them out, abandon discards them; add and del hold further ones"]
 
 
 def _of_members(members: list[str], names: Names) -> list[str]:

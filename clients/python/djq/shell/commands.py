@@ -24,8 +24,9 @@ HELP = """\
 rel NAME int text ..              a relation with 1 to 16 columns
 add NAME 1 "a text" ..            puts a row in, or gives it one copy more
 del NAME 1 "a text" ..            takes a copy of a row; the last takes it out
-batch                             from now on rows that are added are held, up to 1,000
-done, abandon                     puts all that are held in at once, or none where one has no place; drops them
+batch                             begins a transaction: add and del lines are held from now on, up to 65,536
+done, done 3, abandon             carries all of them out as one change, or none where one doesn't fit, as a del of a row
+                                  that isn't there; with 3 only where 3 lines are held; discards them
 query NAME(x,y) <- REL(x,z), REL(z,y,3), x >= 5, z != "a"
                                   registers a query: equal names stand for equal values, _ for any; a variable is
                                   compared with a constant by < <= > >= = !=, a text by = and != alone; where columns
@@ -158,13 +159,13 @@ class Shell:
         elif told.lost is not None:
             self._lose(told.lost, told)
         else:
-            self.names.saw_of_batch(told.line, told.reply[0])
             error = told.refused(self.names.columns)
             if error is not None:
                 self._refuse(error, told)
-                return
-            self.names.saw(told.line)
-            self._tell_reply(told)
+            self.names.saw_of_batch(told.line, told.reply[0])
+            if error is None:
+                self.names.saw(told.line)
+                self._tell_reply(told)
             self.done = self.done or told.reply[-1] == "bye"
 
     def _lose(self, error: Error, told: Said) -> None:
@@ -244,10 +245,10 @@ class Shell:
             self.screen.line(f"the row has {int(copies):,} {'copy' if copies == '1' else 'copies'} now", "quiet")
 
     def _tell_rows(self, reply: str) -> None:
-        """Says what a batch has brought."""
+        """Says what a transaction has changed."""
         rows = int(reply.split(" ")[3])
-        came = f"{rows:,} {'row' if rows == 1 else 'rows'} came, as one change"
-        self.screen.line(came if rows else "no row came: each was there, and has a copy more", "quiet")
+        changed = f"{rows:,} {'row' if rows == 1 else 'rows'} came or went, as one change"
+        self.screen.line(changed if rows else "no row came or went: only copies were counted", "quiet")
 
     def _tell_page(self, told: Said) -> None:
         page = read_page(told.reply) or Page([], True)
@@ -366,7 +367,7 @@ class Shell:
         if names.watched:
             self.screen.line("* is watched", "quiet")
         if names.held is not None:
-            self.screen.line(f"batch, which holds {names.held:,}")
+            self.screen.line(f"batch, which holds {names.held:,} {'line' if names.held == 1 else 'lines'}")
 
     def _columns(self, relation: str, *names: str) -> None:
         kinds = self._kinds(relation)
@@ -474,9 +475,9 @@ class Shell:
     def _load_whole(
         self, path: str, relation: str, header: bool, only_new: bool, stamp: object, progress: Callable[[int], None]
     ) -> Load:
-        """Sends a file's rows, by batches unless it has to be known of each whether it was there. Where that goes wrong
-        it is taken back as far as it can."""
-        load = Load(self.session, relation, by_batches=not only_new)
+        """Sends a file's rows, by transactions unless it has to be known of each whether it was there. Where that goes
+        wrong it is taken back as far as it can."""
+        load = Load(self.session, relation, at_once=not only_new)
         try:
             load.run(read_rows(path, relation, self._kinds(relation), header), progress)
             return load

@@ -1,8 +1,8 @@
 """Rows from CSV files, and answers into them.
 
 A file is read twice: first each row is looked at, so that nothing is sent of a file with a row that doesn't fit; then
-the rows are sent, by batches, of which each is one change and one entry of the server's log. Where the server refuses a
-row even so, or where it is interrupted, the copies that it had added are taken again.
+the rows are sent, by transactions, of which each is one change. Where the server refuses a row even so, or where it is
+interrupted, the copies that it had added are taken again.
 """
 
 from __future__ import annotations
@@ -15,12 +15,13 @@ import tempfile
 from typing import Callable, Iterator, Sequence
 
 from ..errors import Error, SomeRefused
-from ..protocol import MOST_HELD, MOST_LINE, MOST_TEXT, Answer, Rows, Value, spell
+from ..protocol import MOST_LINE, MOST_TEXT, Answer, Rows, Value, spell
 from .session import Session
 
-# what became of a row: its first copy came; or one copy more; or either, by a batch
+# what became of a row: its first copy came; or one copy more; or either, by a transaction
 FIRST, FURTHER, EITHER = 1, 2, 3
 ROWS_AT_ONCE = 500  # that are made lines of before they are sent
+HELD_AT_ONCE = 1000  # rows of a transaction: for so long other sessions wait
 MOST_DUE = 2000  # replies that are left due while more is sent
 _INTEGER = re.compile("-?[0-9]+")
 
@@ -102,16 +103,22 @@ class _Adds(Rows):
         return end
 
 
-class _Batch(Rows):
-    """Rows that are sent as a batch, and what became of each: `EITHER`, or 0 where it was refused or the batch was.
+class _Transaction(Rows):
+    """Rows that are added by a transaction, and what became of each: `EITHER`, or 0 where it was refused.
 
-    A server that has no memory to open a batch takes each row alone.
+    A server that has no memory to begin one takes each row alone.
     """
 
     def __init__(self, rows: list[str], load: Load) -> None:
-        super().__init__(["batch", *rows, "done"], {})
+        super().__init__(["batch", *rows, f"done {len(rows)}"], {})
         self._load = load
         self._replies: list[str] = []
+
+    def _refuse(self, reply: str) -> None:
+        if self.refused and self.replies == len(self.lines) - 1:
+            self.replies += 1  # of `done`, which names more lines than are held
+        else:
+            super()._refuse(reply)
 
     def take(self, lines: list[str], at: int) -> int:
         end = super().take(lines, at)
@@ -136,10 +143,10 @@ def _became(reply: str) -> int:
 class Load:
     """A file on its way into a relation: of each row that was answered, what became of it."""
 
-    def __init__(self, session: Session, relation: str, by_batches: bool) -> None:
+    def __init__(self, session: Session, relation: str, at_once: bool) -> None:
         self.came = bytearray()
         self.further = 0  # how many rows were given one copy more
-        self._session, self._relation, self._by_batches = session, relation, by_batches
+        self._session, self._relation, self._at_once = session, relation, at_once
         self._sent = 0
         self._open: list[Rows] = []
 
@@ -148,7 +155,7 @@ class Load:
         lines: list[str] = []
         for row in rows:
             lines.append(f"add {self._relation} " + " ".join(map(spell, row)))
-            if len(lines) == (MOST_HELD if self._by_batches else ROWS_AT_ONCE):
+            if len(lines) == (HELD_AT_ONCE if self._at_once else ROWS_AT_ONCE):
                 self._add(lines, progress)
                 lines = []
         self._add(lines, progress)
@@ -179,7 +186,7 @@ class Load:
     def _add(self, lines: list[str], progress: Callable[[int], None]) -> None:
         self._sent += len(lines)
         if lines:
-            self._send(_Batch(lines, self) if self._by_batches else _Adds(lines, self), progress)
+            self._send(_Transaction(lines, self) if self._at_once else _Adds(lines, self), progress)
 
     def _send(self, rows: Rows, progress: Callable[[int], None]) -> None:
         if not rows.lines:

@@ -5,6 +5,7 @@ from __future__ import annotations
 import re
 from typing import TYPE_CHECKING
 
+from ..protocol import ENDING
 from ..schema import Schema
 from .queries import MOST_COLUMNS, Query, read_query
 
@@ -25,7 +26,8 @@ class Names:
         self.unions: dict[str, tuple[str, ...]] = {}  # each union's members
         self.cursors: dict[str, str] = {}  # each cursor's query
         self.watched: set[str] = set()
-        self.held: int | None = None  # how many rows the open batch holds; none where no batch is open
+        self.held: int | None = None  # how many lines the open batch holds; none where no batch is open
+        self.deletes: list[str] = []  # those of them that delete a row
 
     def saw(self, line: str) -> None:
         """Takes what a line tells that the server accepted."""
@@ -71,11 +73,15 @@ class Names:
 
     def saw_of_batch(self, line: str, reply: str) -> None:
         """Takes what the reply to a line tells of the batch. Also a `done` that is refused ends it."""
+        command = line.split()[0]
         if reply == "ok batch":
-            self.held = 0
+            self.held, self.deletes = 0, []
         elif reply.startswith("ok held "):
             self.held = int(reply.removeprefix("ok held "))
-        elif line.split()[0] in ("done", "abandon") and not reply.startswith(("err 1 ", "err 18 ")):
+            self.deletes += [line.strip(" ")] * (command == "del")
+        elif command in ("done", "abandon") and not reply.startswith(("err 1 ", "err 18 ")):
+            self.held = None
+        elif command in ENDING:
             self.held = None
 
     def head(self, query: str, width: int) -> list[str]:

@@ -6,6 +6,7 @@ import os
 import select
 import sys
 
+from .advice import NOTHING_DONE, held_lines
 from .commands import MAKING, Shell
 
 PIECE = 1 << 16
@@ -60,6 +61,10 @@ def _move(shell: Shell, lines: _Lines, more: bool) -> None:
 
 
 def _status(shell: Shell, lines: _Lines) -> int:
+    if shell.names.held and shell.session.ended is None:
+        lost = f"{held_lines(shell.names)} held, and {NOTHING_DONE}"
+        print(f"djq-shell: the input ended within a batch: {lost}", file=sys.stderr)
+        return 1
     if shell.done or shell.session.ended is None:
         return 1 if shell.refused else 0
     if shell.lost is None:

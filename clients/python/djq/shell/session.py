@@ -9,7 +9,7 @@ from typing import Iterator, Union
 
 from ..connection import Connection
 from ..errors import Error
-from ..protocol import Change, fitting, refusal
+from ..protocol import ENDING, LOST, Change, fitting, refusal
 
 MOST_MOVES = 16  # of bytes, before what came is told
 MORE = ("= ", "n ", "m ")  # what begins a line behind which the reply goes on
@@ -31,7 +31,8 @@ class Said:
         """Takes lines of the reply, the first of them that at `at`. Gives the place behind the last that it took."""
         while at < len(lines) and not self.done and not lines[at].startswith("end "):
             self.reply.append(lines[at])
-            self.done = lines[at] != "=" and not lines[at].startswith(MORE)
+            lost = lines[at] == LOST and self.line.strip(" ") in ENDING
+            self.done = lines[at] != "=" and not lines[at].startswith(MORE) and not lost
             at += 1
         self.replies = int(self.done)
         return at

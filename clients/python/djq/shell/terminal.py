@@ -10,7 +10,7 @@ import sys
 from typing import Callable, Iterator
 
 from ..errors import Error
-from .advice import FORMS
+from .advice import FORMS, NOTHING_DONE, held_lines
 from .commands import HELP, Shell
 from .queries import incomplete, lines_of
 
@@ -29,7 +29,7 @@ except ImportError:  # lines are read without it then
 HAS_PROMPT = PromptSession is not None
 OWN = [line.split()[0] for line in HELP.split("\n") if line.startswith("\\")]
 OF_RELATIONS = ("add", "del", "\\columns")
-IN_BATCH = ("add", "done", "abandon", "quit", "stop")
+IN_BATCH = ("add", "del", "done", "abandon", "quit", "stop")
 VARIABLE = re.compile(r"[(,] *([a-z][a-z0-9_]*)(?= *[,)])")  # that a query names, in its head or in an atom
 OPEN_ATOM = re.compile(r"([a-z][a-z0-9_]*) *\([^()]*\Z")  # that the cursor is in
 OF_QUERIES = ("watch", "unwatch", "has", "explain", "shape", "drop", "\\show", "\\explain", "\\dump")
@@ -51,6 +51,8 @@ def run(shell: Shell, fancy: bool) -> None:
             if len(lines) > 1:
                 shell.screen.line(f"> {line}", "quiet")
             _run(shell, line)
+    if shell.names.held:
+        shell.screen.line(f"{held_lines(shell.names)} held, and {NOTHING_DONE}", "error")
 
 
 def _run(shell: Shell, line: str) -> None:
@@ -70,7 +72,7 @@ def _agreed() -> bool:
 
 
 def prompt(shell: Shell) -> str:
-    """What stands before a line that is typed: also how many rows an open batch holds."""
+    """What stands before a line that is typed: also how many lines an open batch holds."""
     return "djq> " if shell.names.held is None else f"[{shell.names.held:,} held] djq> "
 
 

@@ -10,14 +10,14 @@ from __future__ import annotations
 import time
 from typing import Callable, Protocol
 
-from ..protocol import Change
+from ..protocol import Answer, Change
 from .feeds import LINGER, WAITING, Feed
 from .lines import Chart
 from .page import Page, Panel
 from .rows import Newest, Table, clock, shown_row
 from .track import Track, View
 
-LONGEST_NEWS = 240  # characters of the newest change
+LONGEST_NEWS = 200  # characters of an answer in the newest change
 
 
 class Shown(Protocol):
@@ -72,11 +72,9 @@ class Board:
         for panel in self._of(feed.query):
             panel.change(feed, change)
         if (title := self._titles.get(feed.query)) is not None:
-            came = change.came or change.went
-            more = f", and {len(came) - 1} more" if len(came) > 1 else ""
-            word = "new" if change.came else "gone"
-            text = f"{clock()} {title}, {word}: {shown_row(max(came))}"
-            self._news = text[:LONGEST_NEWS] + ("…" if len(text) > LONGEST_NEWS else "") + more
+            both = (("new", change.came), ("gone", change.went))
+            news = "; ".join(f"{word}: {_some(answers)}" for word, answers in both if answers)
+            self._news = f"{clock()} {title}, {news}"
 
     def state(self, feed: Feed) -> None:
         """Whether a feed is up to date has changed."""
@@ -154,6 +152,12 @@ class Viewer:
                 pieces.append(track.since(seen))
                 self._seen[track] = track.version
         return b"".join(pieces)
+
+
+def _some(answers: frozenset[Answer]) -> str:
+    """One of some answers, and how many more there are."""
+    row, more = shown_row(max(answers)), len(answers) - 1
+    return row[:LONGEST_NEWS] + "…" * (len(row) > LONGEST_NEWS) + (f", and {more} more" if more else "")
 
 
 def _titles(page: Page) -> dict[str, str]:

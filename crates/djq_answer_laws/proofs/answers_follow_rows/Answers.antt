@@ -1,5 +1,5 @@
 -- An assignment that finds its rows finds them among more rows too, and added rows are more, deleted fewer.
-use Rattle.djq_answer_laws.proofs.Choices.{answer_stays, answers_come, answers_go, row_comes, rows_come, row_goes}
+use Rattle.djq_answer_laws.proofs.Choices.{answer_stays, answers_come, answers_go, row_comes, row_goes}
 use Rattle.djq_answer_laws.proofs.answers_follow_rows.Goals as goal
 
 pub returns-clause-come : goal.returns-clause-come
@@ -10,9 +10,6 @@ returns-clause-go c = answers_go
 
 pub returns-clause-added : goal.returns-clause-added
 returns-clause-added c = row_comes
-
-pub returns-clause-batched : goal.returns-clause-batched
-returns-clause-batched c = rows_come
 
 pub returns-clause-deleted : goal.returns-clause-deleted
 returns-clause-deleted c = row_goes

@@ -1,24 +1,25 @@
 //! Lines of the log, loaded while no session is open: nobody is answered or sent a delta.
 ghost use Rattle.std.specs.Prelude.{◌≡◌, [], is_some, None, Some};
-ghost use Rattle.djq_machine.specs.Loading.{LoadStep, StoreLoads, refused_by};
+ghost use Rattle.djq_machine.specs.Loading.{LoadStep, StoreLoads, done_loaded, refused_by};
 ghost use Rattle.djq_commands.specs.Views.{loading_in};
-ghost use Rattle.djq_core.specs.Loading.{IsUnused, LoadsRow, LoadsLine, comes_to, is_batch};
+ghost use Rattle.djq_core.specs.Loading.{IsUnused, HoldsInBatch, LoadsLine, comes_to, is_batch};
 ghost use Rattle.djq_commands.specs.Sound.{BatchSuits};
 ghost use Rattle.djq_commands.specs.Stepping.{IsRunnable};
 
 use super::Core;
-use djq_commands::{BatchLine, is_registered, is_removal, new_row, read_in_batch};
+use djq_commands::{BatchLine, is_registered, is_removal, read_in_batch};
 use djq_counters::{Ledgers, Steps};
 use djq_machine::Loaded;
-use djq_model::{Name, Sequence, Value};
+use djq_model::{Name, Value};
 use djq_parser::{LineRefusal, read_command};
-use djq_protocol::{Command, HeldRow, Refusal};
+use djq_protocol::{Command, DoneRefusal, LineRefusal as HeldRefusal, Refusal, Verb};
 use djq_store::Store;
+use djq_transaction::Transaction;
 use std::alloc::Global;
 
 impl Core {
     /// Loads a line that was kept, while no session is open: it does to the relations, their rows and
-    /// copies, and the queries what it did as it was run, and the rows of a batch are held until it is
+    /// copies, and the queries what it did as it was run, and the lines of a batch are held until it is
     /// done. A line that wouldn't be kept is refused, and does nothing, as out of memory.
     pub fn load<L: Ledgers>(&mut self, line: &[u8], steps: &mut Steps<L>) -> Loaded
         requires none { self.old.state.sessions ≡ [] }
@@ -62,7 +63,7 @@ fn load_alone<L: Ledgers>(
     engine: &mut Store,
     line: &[u8],
     steps: &mut Steps<L>,
-) -> (Loaded, Option<Sequence<HeldRow>>)
+) -> (Loaded, Option<Transaction>)
     requires { IsUnused engine.old }
     ensures loads { LoadsLine line.now result.0 engine.old None engine.new result.1 }
     ensures listing { steps.new.listing ≡ steps.old.listing }
@@ -70,7 +71,7 @@ fn load_alone<L: Ledgers>(
     match read_command(alloc, line) {
         Ok(command) => {
             if is_batch(&command) {
-                return (Loaded::Ran, Some(Sequence::new(alloc)));
+                return (Loaded::Ran, Some(Transaction::new(alloc)));
             }
             (load_command(engine, command, steps), None)
         }
@@ -124,29 +125,30 @@ fn load_command<L: Ledgers>(engine: &mut Store, command: Command, steps: &mut St
     }
 }
 
-/// Loads a line where a batch is open, which holds these rows; and the batch that is open then.
+/// Loads a line while a batch is open, which holds these lines; and returns the batch that is open then.
 fn load_in_batch<L: Ledgers>(
     alloc: Global,
     engine: &mut Store,
-    held: Sequence<HeldRow>,
+    held: Transaction,
     line: &[u8],
     row: &mut Vec<Value>,
     steps: &mut Steps<L>,
-) -> (Loaded, Option<Sequence<HeldRow>>)
+) -> (Loaded, Option<Transaction>)
     requires idle { IsUnused engine.old }
     requires suits { BatchSuits engine.old.store (Some held) }
     ensures loads { LoadsLine line.now result.0 engine.old (Some held) engine.new result.1 }
     ensures listing { steps.new.listing ≡ steps.old.listing }
 {
     match read_in_batch(alloc, line, row) {
-        BatchLine::Hold(name) => {
-            let made = new_row(alloc, engine, held.len(), line, &Name::new(name), row);
-            let (loaded, held) = load_row(held, made);
-            (loaded, Some(held))
+        BatchLine::Hold(verb, name) => {
+            let name = Name::new(name);
+            let mut held = held;
+            let outcome = hold(engine, &mut held, verb, &name, row.as_slice(), line);
+            (loaded(&outcome, outcome.is_ok()), Some(held))
         }
-        BatchLine::Done => {
-            let outcome = engine.done(held.as_slice(), steps);
-            (loaded(&outcome, outcome.is_ok()), None)
+        BatchLine::Done(given) => {
+            let outcome = engine.done(&held, given, steps);
+            (done_loaded(&outcome), None)
         }
         BatchLine::Abandon => (Loaded::Ran, None),
         BatchLine::Quit => (Loaded::Refused, Some(held)),
@@ -155,17 +157,43 @@ fn load_in_batch<L: Ledgers>(
     }
 }
 
-/// Holds a row that was made behind the others.
-fn load_row(held: Sequence<HeldRow>, made: Result<HeldRow, Refusal>) -> (Loaded, Sequence<HeldRow>)
-    ensures { LoadsRow held made result.0 result.1 }
+/// A line of a batch is held after the others.
+///
+/// # Errors
+///
+/// Why it isn't held: its row doesn't suit a relation, or the batch has no room for it; or out of memory.
+fn hold(
+    engine: &Store,
+    held: &mut Transaction,
+    verb: Verb,
+    name: &Name,
+    row: &[Value],
+    line: &[u8],
+) -> Result<(), Refusal>
+    ensures { HoldsInBatch engine.now.store held.old line.now verb name.now row.now result held.new }
 {
-    let mut rows = held;
-    match made {
-        Ok(row) => match rows.push(row) {
-            Ok(()) => (Loaded::Ran, rows),
-            Err(_) => (Loaded::NoMem, rows),
+    engine.held_ok(name, row)?;
+    if !held.has_room(line.len()) {
+        return Err(Refusal::Limit);
+    }
+    match held.hold(verb, *name, row, line) {
+        Ok(()) => Ok(()),
+        Err(_) => Err(Refusal::NoMemory),
+    }
+}
+
+/// What the outcome of `done` means.
+fn done_loaded(outcome: &Result<usize, DoneRefusal>) -> Loaded
+    ensures { result ≡ done_loaded outcome.now }
+{
+    match outcome {
+        Ok(_) => Loaded::Ran,
+        Err(DoneRefusal::NoMemory) => Loaded::NoMem,
+        Err(DoneRefusal::Line(line)) => match line.refusal {
+            HeldRefusal::NoMemory => Loaded::NoMem,
+            HeldRefusal::Limit | HeldRefusal::Absent => Loaded::Refused,
         },
-        Err(refusal) => (refused(refusal), rows),
+        Err(DoneRefusal::OtherNumber | DoneRefusal::LastChange) => Loaded::Refused,
     }
 }
 

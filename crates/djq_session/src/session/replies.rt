@@ -9,7 +9,7 @@ ghost use Rattle.djq_session.specs.Dialog.{MayQueue, Replies};
 
 use super::Session;
 use djq_model::{Answered, Name, NoMem};
-use djq_protocol::{AddOutcome, DeleteOutcome, QueryOutcome, Refusal, Shape};
+use djq_protocol::{AddOutcome, DeleteOutcome, DoneRefusal, QueryOutcome, Refusal, Shape};
 use djq_reply::{
     put_answer, put_explained, put_last, put_registered, say_added, say_batch, say_batch_done,
     say_deleted, say_done, say_has, say_held, say_opened, say_refused, say_shape, say_stale,
@@ -49,7 +49,7 @@ impl<C: Copy, Q: Copy + PartialEq> Session<C, Q> {
         say_batch(&mut self.output, outcome);
     }
 
-    /// `add` in a batch is answered, by how many rows it holds then.
+    /// `add` and `del` in a batch are answered, by how many lines it holds then.
     pub fn answer_held(&mut self, outcome: Result<(), Refusal>, held: usize)
         requires { REPLY_BYTES + LAST_LINE_BYTES ≤ self.old.room }
         ensures { Replies self.old self.new (held_reply outcome held) }
@@ -57,8 +57,8 @@ impl<C: Copy, Q: Copy + PartialEq> Session<C, Q> {
         say_held(&mut self.output, outcome, held);
     }
 
-    /// `done` is answered, at a number of changes, by how many rows came.
-    pub fn answer_batch_done(&mut self, outcome: Result<usize, Refusal>, seq: u64)
+    /// `done` is answered, at a number of changes, by how many rows came and went.
+    pub fn answer_batch_done(&mut self, outcome: Result<usize, DoneRefusal>, seq: u64)
         requires { REPLY_BYTES + LAST_LINE_BYTES ≤ self.old.room }
         ensures { Replies self.old self.new (done_reply outcome seq) }
     {

@@ -1,34 +1,26 @@
--- The rows that are lent are those that the session held, so they suit the store and are few enough.
-use Rattle.std.proofs.Common.{◌≡◌, ◌≤◌, List, length, ◌∙◌, sym, ap, subst, refl}
-use Rattle.djq_protocol.specs.declared.held.HeldRow.{HeldRow}
-use Rattle.djq_protocol.specs.declared.limits.TheConstants.{HELD}
-use Rattle.djq_store_spec.specs.Batch.{SuitAll}
-use Rattle.djq_session.specs.Dialog.{batch_rows}
-use Rattle.djq_commands.specs.Changing.{AddsAll}
+-- What is carried out is what the session held, so its rows suit the store.
+use Rattle.std.proofs.Common.{◌∙◌, sym, ap, subst, refl}
+use Rattle.djq_store_spec.specs.Held.{HeldTransaction}
+use Rattle.djq_session.specs.Dialog.{held_in_batch}
+use Rattle.djq_commands.specs.Changing.{CarriesOutAll}
 use Rattle.djq_commands.specs.Sound.{BatchSuits}
 use Rattle.djq_commands.specs.declared.change.Outcome.TheVariants.{Done}
 use Rattle.djq_commands.proofs.batch.run_done.Goals as goal
 
-pub done-result-requires-clause-suit : goal.done-result-requires-clause-suit
-done-result-requires-clause-suit g c =
-    let suits = subst (BatchSuits (c.args.engine.now).store) (sym c.take_batch.ensures.rows ∙ c.in-Some.is)
-    c.requires.suits in
-    subst (λ (rows : List HeldRow). SuitAll (c.args.engine.now).store rows) (sym c.as_slice.ensures) suits.1
+pub done-result-requires : goal.done-result-requires
+done-result-requires g c = subst (BatchSuits (c.args.engine.now).store)
+    (sym c.take_batch.ensures.lines ∙ c.in-Some.is) c.requires.suits
 
-pub done-result-requires-clause-few : goal.done-result-requires-clause-few
-done-result-requires-clause-few g c =
-    let suits = subst (BatchSuits (c.args.engine.now).store) (sym c.take_batch.ensures.rows ∙ c.in-Some.is)
-    c.requires.suits in
-    subst (λ (rows : List HeldRow). length rows ≤ HELD) (sym c.as_slice.ensures) suits.0
-
-pub returns-clause-adds : goal.returns-clause-adds
-returns-clause-adds g c =
-    let sliced : AddsAll c.args.engine.now c.as_slice.result.now (Done c.done-result.result c.as_slice.result.now)
-    c.done-result.new.self c.args.steps.now.listing c.done-result.new.steps.listing
-    = record {
+pub returns-clause-carries_out : goal.returns-clause-carries_out
+returns-clause-carries_out g c =
+    subst (λ (held : HeldTransaction). CarriesOutAll c.args.engine.now held c.args.given
+    (Done c.done-result.result c.in-Some.held) c.done-result.new.self c.args.steps.now.listing
+    c.done-result.new.steps.listing)
+    (sym (ap held_in_batch (sym c.take_batch.ensures.lines ∙ c.in-Some.is)))
+    (record {
       result = c.done-result.result;
       is = refl;
-      done = c.done-result.ensures.adds;
+      done = c.done-result.ensures.does;
       changed = record {
         outdated = c.done-result.ensures.outdates;
         registered = c.done-result.ensures.watches;
@@ -36,10 +28,4 @@ returns-clause-adds g c =
         apart = c.laws.ensures.apart;
         tells = c.done-result.ensures.tells;
       };
-    } in
-    let rows : batch_rows c.args.session.now.batch
-    ≡ c.in-Some.held = ap batch_rows (sym c.take_batch.ensures.rows ∙ c.in-Some.is) in
-    subst (λ (held : List HeldRow). AddsAll c.args.engine.now held (Done c.done-result.result c.in-Some.held)
-    c.done-result.new.self c.args.steps.now.listing c.done-result.new.steps.listing) (sym rows)
-    (subst (λ (held : List HeldRow). AddsAll c.args.engine.now held (Done c.done-result.result held)
-    c.done-result.new.self c.args.steps.now.listing c.done-result.new.steps.listing) c.as_slice.ensures sliced)
+    })

@@ -1,8 +1,8 @@
--- What was read is the front of the session's bytes; what is done behind a line so taken is in Holding.
+-- What was read is the front of the session's bytes; what is done after a line so taken is in TakenLines.
 use Rattle.std.proofs.Common.{true, false, subst, take, drop, refl, arith}
-use Rattle.djq_model.specs.Data.{Bytes}
+use Rattle.djq_model.specs.Data.{Bytes, Tuple}
 use Rattle.djq_protocol.specs.declared.command.Command.TheVariants.{Abandon, Quit, Stop}
-use Rattle.djq_commands.specs.Batching.{MakesRow, ReadsInBatch}
+use Rattle.djq_commands.specs.Batching.{HoldsLine, ReadsInBatch}
 use Rattle.djq_commands.specs.declared.reading.BatchLine.{BatchLine}
 use Rattle.djq_commands.proofs.TakenLines.{does_abandon, done_leaves, hold_leaves, placed_leaves, refused_leaves}
 use Rattle.djq_commands.proofs.TakenLines.{stop_leaves}
@@ -18,15 +18,14 @@ returns-in-Hold g c =
     let read = subst (λ (bs : Bytes). ReadsInBatch (take c.args.end bs) c.read_in_batch.result row) c.held.ensures
     c.read_in_batch.ensures in
     let said = subst (λ (b : BatchLine). ReadsInBatch line b row) c.in-Hold.is read in
-    let makes = subst (λ (n : Bytes). MakesRow (c.args.engine.now).store c.rows_held.result
-    (take c.args.end c.held-in-Hold.result.now) n row c.new_row-made.result) c.new-name.ensures
-    c.new_row-made.ensures in
-    let of_line = subst (λ (bs : Bytes). MakesRow (c.args.engine.now).store c.rows_held.result (take c.args.end bs)
-    c.in-Hold.name.now row c.new_row-made.result) c.held-in-Hold.ensures makes in
-    hold_leaves old c.take_line.new.self line (drop c.args.rest old.held) c.requires.front c.take_line.ensures
-    c.requires.said c.requires.few c.requires.open
-    c.args.engine.now c.in-Hold.name.now row c.new_row-made.result c.rows_held.result c.hold.new.session
-    c.args.steps.now.listing said.0 c.rows_held.ensures of_line c.hold.ensures
+    let named = subst (λ (n : Bytes). HoldsLine (c.args.engine.now).store old line c.in-Hold.verb n
+    c.as_slice.result.now c.hold-outcome.result c.hold-outcome.new.session) c.new-name.ensures c.hold-outcome.ensures in
+    let holds = subst (λ (values : Tuple). HoldsLine (c.args.engine.now).store old line c.in-Hold.verb
+    c.in-Hold.name.now values c.hold-outcome.result c.hold-outcome.new.session) c.as_slice.ensures.value named in
+    hold_leaves old c.hold-outcome.new.session c.take_line.new.self c.answer_held.new.self line c.args.rest
+    c.args.engine.now c.in-Hold.verb c.in-Hold.name.now row c.hold-outcome.result c.lines_held.result
+    c.args.steps.now.listing c.requires.front c.requires.said c.requires.few c.requires.open said.0 holds
+    c.take_line.ensures c.lines_held.ensures c.answer_held.ensures
 
 pub returns-in-Done : goal.returns-in-Done
 returns-in-Done g c =
@@ -39,8 +38,8 @@ returns-in-Done g c =
     done_leaves old c.take_line-in-Done.new.self line (drop c.args.rest old.held) c.requires.front
     c.take_line-in-Done.ensures c.requires.said c.requires.few c.requires.open
     c.args.engine.now c.run_done.result c.run_done.new.engine c.run_done.new.session c.args.steps.now.listing
-    c.run_done.new.steps.listing c.requires.ready.running c.requires.ready.room said
-    c.run_done.ensures.adds c.run_done.ensures.closed
+    c.run_done.new.steps.listing c.in-Done.given c.requires.ready.running c.requires.ready.room said
+    c.run_done.ensures.carries_out c.run_done.ensures.closed
 
 pub returns-in-Abandon : goal.returns-in-Abandon
 returns-in-Abandon g c =

@@ -2,7 +2,7 @@
 use Rattle.std.proofs.Common.{◌≡◌, ◌∙◌, ◌∷◌, [], None, Some, refl, sym, ap, subst, ℕ}
 use Rattle.std.specs.Prelude.{slice_get, slice_range}
 use Rattle.djq_commands.specs.declared.commit.Entry.{Entry}
-use Rattle.djq_commands.specs.Logging.{entry_lines, batch_lines}
+use Rattle.djq_commands.specs.Logging.{entry_lines}
 use Rattle.djq_commands.proofs.CommitLines.{past_one}
 use Rattle.djq_commands.proofs.commit.line_of.Goals as goal
 
@@ -20,5 +20,5 @@ returns-else-nth-eq0 c =
 
 pub returns-in-Batch : goal.returns-in-Batch
 returns-in-Batch c =
-    c.line_of_batch.ensures ∙ ap (λ (rows : _). slice_get (batch_lines rows) c.args.nth) c.as_slice.ensures
+    c.line.ensures
     ∙ ap (λ (e : Entry). slice_get (entry_lines c.args.bytes.now e) c.args.nth) (sym c.in-Batch.is)

@@ -1,12 +1,12 @@
 -- Only `done` and `abandon` need an open batch, and a line that begins with no row's word isn't on a row.
-use Rattle.std.proofs.Common.{◌∙◌, List, Option, ap, sym, subst, take, drop, false, Ok, Err}
+use Rattle.std.proofs.Common.{◌∙◌, Option, ap, sym, subst, take, drop, false, Ok, Err}
 use Rattle.djq_model.specs.Data.{Bytes}
 use Rattle.djq_protocol.specs.Reply.{refusal_line}
 use Rattle.djq_protocol.specs.declared.answer.Refusal.{Refusal}
 use Rattle.djq_parser.specs.Reading.{LineReadsAs}
 use Rattle.djq_session.specs.Dialog.{Replies}
 use Rattle.djq_protocol.specs.declared.answer.Refusal.TheVariants.{Misplaced}
-use Rattle.djq_protocol.specs.declared.held.HeldRow.{HeldRow}
+use Rattle.djq_store_spec.specs.Held.{HeldTransaction}
 use Rattle.djq_machine.specs.Command.{is_misplaced}
 use Rattle.djq_commands.specs.Stepping.{refused_as}
 use Rattle.djq_commands.specs.Views.{Talk}
@@ -37,7 +37,7 @@ returns-else-is_for_batch g c =
     (λ h. (
       other line c.in-Ok.command said c.requires.other,
       ap
-          (λ (o : Option (List HeldRow)). is_misplaced o c.in-Ok.command) c.requires.alone
+          (λ (o : Option HeldTransaction). is_misplaced o c.in-Ok.command) c.requires.alone
           ∙ (sym c.is_for_batch.ensures ∙ c.if-is_for_batch.false),
     )) c.run_command.ensures
 
@@ -69,6 +69,6 @@ returns-then-is_for_batch g c =
     c.requires.front c.take_line.ensures c.requires.said c.requires.few
     (reads_refused c.args.engine.now c.take_line.new.self c.refuse.new.self line Misplaced c.args.steps.now.listing
     (misplaced_said c.take_line.new.self.batch line c.in-Ok.command said
-    (ap (λ (o : Option (List HeldRow)). is_misplaced o c.in-Ok.command)
+    (ap (λ (o : Option HeldTransaction). is_misplaced o c.in-Ok.command)
     (ap (λ (d : Talk). d.batch) c.take_line.ensures ∙ c.requires.alone)
     ∙ (sym c.is_for_batch.ensures ∙ c.if-is_for_batch.true))) c.refuse.ensures)

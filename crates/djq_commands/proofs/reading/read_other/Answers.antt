@@ -1,7 +1,8 @@
 -- A line with no row's word says no command on a row, and what else it says the machine has in a batch too.
-use Rattle.std.proofs.Common.{sym, subst, Some, []}
+use Rattle.std.proofs.Common.{sym, subst, Some}
 use Rattle.djq_protocol.specs.Grammar.{reading_of}
 use Rattle.djq_protocol.specs.declared.answer.Refusal.{Refusal}
+use Rattle.djq_store_spec.specs.Held.{nothing_held}
 use Rattle.djq_commands.specs.Batching.{ReadsInBatch, RefusedBy}
 use Rattle.djq_commands.specs.declared.reading.BatchLine.{BatchLine}
 use Rattle.djq_commands.proofs.ReadLines.{refused_other, said_in_batch}
@@ -14,5 +15,5 @@ returns-in-Ok c row =
 
 pub returns-in-Err : goal.returns-in-Err
 returns-in-Err c row =
-    subst (λ (r : Refusal). RefusedBy (Some []) (reading_of c.args.line.now) r) (sym c.misplaced_of.ensures)
+    subst (λ (r : Refusal). RefusedBy (Some nothing_held) (reading_of c.args.line.now) r) (sym c.misplaced_of.ensures)
     (refused_other c.args.line.now c.in-Err.refusal c.requires c.in-Err.ensures)

@@ -9,5 +9,5 @@ abbrev pub invariant-loop-at : goal.invariant-loop-at
 invariant-loop-at l = record {
   long : length l.logs.items ≡ length l.fn.logs.items;
   cleared : (gs : List (Option Live)) → AreReaders l.catalog.relations l.readers.items gs
-      → ClearsLogs (λ i. reads_held (take l.at l.held) (place_at gs i)) l.fn.logs.items l.logs.items;
+      → ClearsLogs (λ i. reads_held (take l.at l.held.lines) (place_at gs i)) l.fn.logs.items l.logs.items;
 }

@@ -1,4 +1,4 @@
-use Rattle.std.proofs.Common.{◌≡◌, ℕ, ◌*◌, ◌≤◌, take}
+use Rattle.std.proofs.Common.{◌≡◌, ◌*◌, ◌≤◌, take}
 use Rattle.djq_engine.specs.Sizes.{rows_together}
 use Rattle.djq_engine.proofs.sizes.row_total.Given as goal
 

@@ -1,5 +1,6 @@
 -- By the arena's laws no other row lies in the new slot, so all others keep their marks.
-use Rattle.std.proofs.Common.{Bool, List, ap, ◌∙◌}
+use Rattle.std.proofs.Common.{List, ap, ◌∙◌}
+use Rattle.djq_gains.specs.declared.marks.Marks.{Marks}
 use Rattle.djq_gains.specs.Gathered.{marks_at}
 use Rattle.djq_gains.proofs.DeltaTuples.{laid_rows}
 use Rattle.djq_gains.proofs.gains.lay.Goals as goal
@@ -10,4 +11,4 @@ returns-clause-gained c =
     c.in_ok-slot.slot c.args.cells.now c.laws.ensures c.in_ok-slot.ensures.pushed
     c.unmark.ensures.none
     (λ k other. c.unmark.ensures.others k other
-    ∙ ap (λ (marks : List (List Bool)). marks_at marks k) c.in_ok-reserve.ensures.items)
+    ∙ ap (λ (marks : List Marks). marks_at marks k) c.in_ok-reserve.ensures.items)

@@ -55,7 +55,7 @@ loop-nth-preserved c = elim c.if-is_among.branch [
             (collects_touched c.args.engine.now c.args.members.now c.args.touched.now c.loop-nth.nth
             c.loop-nth.gains.gains w.gather_from.new.gains.gains c.loop-nth.invariant.collects
             c.loop-nth-test.true (sym c.is_among.ensures ∙ w.if-is_among.true)
-            (λ k t. w.in_ok-gather_from.ensures.gathered k t) w.in_ok-gather_from.ensures.told
+            w.in_ok-gather_from.ensures.gathered w.in_ok-gather_from.ensures.told
             w.in_ok-gather_from.ensures.few);
         wide = subst (λ (n : ℕ). AtFirstMember c.args.engine.now c.args.members.now
             (λ q. n ≡ length q.query.head)) (sym same) c.loop-nth.invariant.wide;

@@ -22,10 +22,10 @@ pub loop-done-preserved : goal.loop-done-preserved
 loop-done-preserved g c =
     let ls = queries_at c.args.group.now.queries.now c.args.group.now.places.now in
     record {
-      tells = tells_more c.args.came ls c.args.gains.now.gains c.loop-done._done c.in-Some.slot
+      tells = tells_more ls c.args.gains.now.gains c.loop-done._done c.in-Some.slot
           c.loop-done.log.lines c.tell_one.new.log.lines c.loop-done.log.lost c.tell_one.new.log.lost
           c.next-at.result
-          (subst (λ (o : Option ℕ). Telling c.args.came ls c.args.gains.now.gains o c.loop-done._done
+          (subst (λ (o : Option ℕ). Telling ls c.args.gains.now.gains o c.loop-done._done
           c.loop-done.log.lines c.loop-done.log.lost) c.in-Some.is c.loop-done.invariant.tells)
           c.tell_one.ensures.lost c.tell_one.ensures.told c.next-at.ensures;
       counted = counts_one c.args.listing.now c.loop-done.listing c.tell_one.new.listing c.loop-done._done
@@ -36,6 +36,6 @@ pub returns-clause-told : goal.returns-clause-told
 returns-clause-told g c =
     let last = c.loop-done-test.false in
     let count = c.len-done-end.ensures in
-    tells_all c.args.came (queries_at c.args.group.now.queries.now c.args.group.now.places.now)
+    tells_all (queries_at c.args.group.now.queries.now c.args.group.now.places.now)
     c.args.gains.now.gains c.loop-done.at c.loop-done._done c.loop-done.log.lines c.loop-done.log.lost
     c.loop-done.invariant.tells (omega arith)

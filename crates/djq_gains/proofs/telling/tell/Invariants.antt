@@ -6,7 +6,7 @@ use Rattle.djq_gains.proofs.telling.tell.Given as goal
 
 abbrev pub invariant-loop-done : goal.invariant-loop-done
 invariant-loop-done g l = record {
-  tells : Telling l.came (queries_at l.group.queries.now l.group.places.now) l.gains.gains l.at l._done
+  tells : Telling (queries_at l.group.queries.now l.group.places.now) l.gains.gains l.at l._done
       l.log.lines l.log.lost;
   counted : l.listing ≤ l.fn.listing
       + l._done * sum_by asks_of (queries_at l.group.queries.now l.group.places.now);

@@ -27,13 +27,13 @@ returns-in-Ok-clause-tells g c kept =
     let members = c.args.members.now in
     let first = member_at k members 0 c.requires.queries c.requires.some in
     let told = subst (λ (qs : List (Option Live)). AtFirstQuery (queries_at qs members)
-    (λ l. c.tell.new.log.lines ≡ gain_lines c.args.came (queries_at qs members) l c.in-Ok.gains.gains))
+    (λ l. c.tell.new.log.lines ≡ gain_lines (queries_at qs members) l c.in-Ok.gains.gains))
     c.places.ensures (c.tell.ensures.told kept) in
     and_so (slice_get (queries_at k.places members) 0)
-    (TellUnion k members c.args.touched.now c.args.came c.tell.new.log.lines) first.live first.nth
-    (subst (λ (lines : List Line). TellUnion k members c.args.touched.now c.args.came lines first.live)
+    (TellUnion k members c.args.touched.now c.tell.new.log.lines) first.live first.nth
+    (subst (λ (lines : List Line). TellUnion k members c.args.touched.now lines first.live)
     (sym (told first.live first.nth))
-    (tells_union k members c.args.touched.now c.in-Ok.gains.gains first.live c.args.came (record {
+    (tells_union k members c.args.touched.now c.in-Ok.gains.gains first.live (record {
       have = c.requires.queries;
       alike = c.requires.alike;
       is_first = first.nth;

@@ -1,10 +1,10 @@
 -- A line that is read and run is one more of the lines found; reading changes nothing of the disk.
-use Rattle.std.proofs.Common.{◌≡◌, ◌∙◌, ℕ, List, [], ◌∷◌, ◌++◌, take, refl, sym, ap, subst, inl, inr, arith, Option}
+use Rattle.std.proofs.Common.{◌≡◌, ◌∙◌, ℕ, [], ◌∷◌, ◌++◌, take, refl, sym, ap, subst, inl, inr, arith, Option}
 use Rattle.djq_io.specs.Faults.{Counted}
 use Rattle.djq_disk.specs.History.{History}
 use Rattle.djq_disk.proofs.Files.{told_none}
 use Rattle.djq_model.specs.Data.{Bytes}
-use Rattle.djq_protocol.specs.declared.held.HeldRow.{HeldRow}
+use Rattle.djq_store_spec.specs.Held.{HeldTransaction}
 use Rattle.djq_machine.specs.State.{State, opening}
 use Rattle.djq_machine.specs.declared.machine.Loaded.TheVariants.{Ran}
 use Rattle.djq_machine.specs.Loading.{Loading, loading, LoadStep}
@@ -17,7 +17,7 @@ pub lines-init : goal.lines-init
 lines-init g c = record {
   loading = (
     [],
-    ap (λ (b : Option (List HeldRow)). record { store = c.args.machine.now.state.store; batch = b }) c.requires.closed
+    ap (λ (b : Option HeldTransaction). record { store = c.args.machine.now.state.store; batch = b }) c.requires.closed
         ∙ ap (λ (st : State). loading st.store) c.requires.fresh,
     c.requires.first,
   );

@@ -70,10 +70,10 @@ returns-in-Ok-read_log-clause-opens g c =
     (sym c.in-Some.is)
     (MatchResult-weaker c.end_batch.result
     ended.ends
-    (λ log ends. ended_begins path first mid last c.in-Ok-read_log.end log end new state start counted loaded then.listing
-    c.in-Ok-read_log.ensures.reads ends refl ended.rest ended.listing)
-    (λ status cant. unended_begins path first mid last c.in-Ok-read_log.end status end state counted loaded then.listing
-    c.in-Ok-read_log.ensures.reads cant ended.listing))
+    (λ log ends. ended_begins path first mid last c.in-Ok-read_log.end log end new state start counted loaded
+    then.listing c.in-Ok-read_log.ensures.reads ends refl ended.rest ended.listing)
+    (λ status cant. unended_begins path first mid last c.in-Ok-read_log.end status end state counted loaded
+    then.listing c.in-Ok-read_log.ensures.reads cant ended.listing))
 
 pub returns-clause-opens : goal.returns-clause-opens
 returns-clause-opens g c =

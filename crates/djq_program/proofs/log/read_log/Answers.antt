@@ -1,7 +1,7 @@
 -- What opening the file and finding a log in it did, and what loading its lines did, come to what reading the log does.
-use Rattle.std.proofs.Common.{[], ◌∙◌, Option, List, ap}
+use Rattle.std.proofs.Common.{[], ◌∙◌, Option, ap}
 use Rattle.std.proofs.lemmas.Result.{MatchResult-weaker}
-use Rattle.djq_protocol.specs.declared.held.HeldRow.{HeldRow}
+use Rattle.djq_store_spec.specs.Held.{HeldTransaction}
 use Rattle.djq_machine.specs.State.{State}
 use Rattle.djq_machine.specs.Call.{counts}
 use Rattle.djq_machine.specs.Loading.{loading}
@@ -29,7 +29,7 @@ returns-in-Made-clause-reads g c =
     (disk_seen (told c.open.new.self) (faults c.open.new.self))
     (disk_seen (told c.find_log.new.disk) (faults c.find_log.new.disk)) c.in-Made.end (loading_in c.args.machine.now)
     c.args.machine.now.state c.args.steps.now.listing
-    (ap (λ (b : Option (List HeldRow)). record { store = c.args.machine.now.state.store; batch = b }) c.requires.closed
+    (ap (λ (b : Option HeldTransaction). record { store = c.args.machine.now.state.store; batch = b }) c.requires.closed
     ∙ ap (λ (st : State). loading st.store) c.requires.fresh)
     c.requires.fresh c.in-Ready.ensures.faults c.in-Made.ensures.faults c.in-Ready.ensures.told c.in-Made.ensures.told
 
@@ -69,5 +69,5 @@ returns-in-Ready-find_log-clause-reads g c =
     (λ end loads. read_whole c.args.path.now first mid then last source end (loading_in c.load_lines.new.machine)
     c.load_lines.new.machine.state before.listing now.listing opened.faults found.faults opened.told found.told loads)
     (λ status stops. unloaded_begins c.args.path.now first mid then last source status
-    (counts before.listing before.update before.rows) (counts now.listing now.update now.rows) opened.faults found.faults
-    opened.told found.told stops)
+    (counts before.listing before.update before.rows) (counts now.listing now.update now.rows) opened.faults
+    found.faults opened.told found.told stops)

@@ -50,8 +50,8 @@ returns g c =
     let kept = logs_kept c.args.path begun.0 begun.1 c.serve_logged-served.result _ c.in-Ok-open_log.log
     c.serve_logged-served.new.log first
     then last begun.3 (served.logs).kept served.disk served.nowhere in
-    let stored = is_stored c.args.path begun.0 begun.1 c.in-Ok-open_log.log c.serve_logged-served.new.log first then last
-    _ begun.3 (served.logs).logs in
+    let stored = is_stored c.args.path begun.0 begun.1 c.in-Ok-open_log.log c.serve_logged-served.new.log first then
+    last _ begun.3 (served.logs).logs in
     schedule_served c.tell_sent.result (λ made. made.0.items) (λ made. made.1) log begun.0 begun.1 c.args.bytes.now
     c.args.hub c.of-hub.result c.serve_logged-served.new.hub
     c.serve_logged-served.result _ counted loaded counted' c.open_log.new.machine.state

@@ -10,7 +10,8 @@ use Rattle.djq_reach.proofs.Groups.{have_logs, unwatched_some}
 use Rattle.djq_queries.specs.Changing.{touched}
 use Rattle.djq_queries.proofs.Changes.{all_given, all_renewed, came_front, gone_back, in_back, in_front, mid_goes, mid_kept}
 use Rattle.djq_queries.proofs.Changes.{renews_same}
-use Rattle.djq_queries.proofs.ChangedLogs.{emptied_watched, tends_change}
+use Rattle.djq_queries.proofs.ChangedLogs.{emptied_watched, tends_halves}
+use Rattle.djq_queries.proofs.NetLogs.{told_distinct, tends_net}
 use Rattle.djq_queries.proofs.ChangeCosts.{bounded_mid, costs_mid, deltas_mid, works_mid}
 use Rattle.djq_queries.proofs.change.change_readers.Goals as goal
 
@@ -42,12 +43,31 @@ returns-clause-changed g c x e d leads kept =
     (gone_back c.args.readers.now c.args.come.now c.args.gone.now c.insert_batch_into_readers.new.queries.items c.insert_batch_into_readers.new.queries.items (λ l. IsKept e l)
     (mid_kept c.args.readers.now c.args.come.now c.args.gone.now c.args.queries.now.items c.insert_batch_into_readers.new.queries.items x e d leads kept taken)))
 
+-- what the logs tell of both halves, before they are settled
+pub settle_logs-requires-clause-logged : goal.settle_logs-requires-clause-logged
+settle_logs-requires-clause-logged g c i r =
+    let low = have_logs (reached c.args.readers.now c.args.gone.now) c.args.queries.now.items c.args.logs.now.items c.requires.can.before c.requires.logged
+    (gone_back c.args.readers.now c.args.come.now c.args.gone.now c.args.queries.now.items c.args.queries.now.items (λ l. IsKept c.requires.can.before l) c.requires.can.kept) i r in
+    omega (arith, low, c.clear_logs.ensures.long, c.in_ok-insert_batch_into_readers.ensures.tells.long, c.delete_batch_from_readers.ensures.tells.long)
+
+pub settle_logs-requires-clause-distinct : goal.settle_logs-requires-clause-distinct
+settle_logs-requires-clause-distinct g c i passes =
+    let can = c.requires.can in
+    let taken = c.in_ok-insert_batch_into_readers.ensures.taken can.before can.between can.leads.comes
+    (came_front c.args.readers.now c.args.come.now c.args.gone.now c.args.queries.now.items c.args.queries.now.items (λ l. IsKept can.before l) can.kept) in
+    told_distinct c.args.readers.now c.args.come.now c.args.gone.now c.args.queries.now.items can.before can.between can.after can.leads can.kept c.args.watchers.now c.args.logs.now.items c.delete_batch_from_readers.new.logs.items
+    (tends_halves c.args.readers.now c.args.come.now c.args.gone.now c.args.queries.now.items c.insert_batch_into_readers.new.queries.items can.before can.between can.after can.leads can.kept taken c.args.watchers.now c.args.logs.now.items c.clear_logs.new.logs.items c.insert_batch_into_readers.new.logs.items c.delete_batch_from_readers.new.logs.items
+    c.clear_logs.ensures c.in_ok-insert_batch_into_readers.ensures.tells c.delete_batch_from_readers.ensures.tells)
+    i passes
+
 pub returns-clause-tells : goal.returns-clause-tells
 returns-clause-tells g c x e d leads kept =
     let taken = c.in_ok-insert_batch_into_readers.ensures.taken x e leads.comes
     (came_front c.args.readers.now c.args.come.now c.args.gone.now c.args.queries.now.items c.args.queries.now.items (λ l. IsKept x l) kept) in
-    tends_change c.args.readers.now c.args.come.now c.args.gone.now c.args.queries.now.items c.insert_batch_into_readers.new.queries.items x e d leads kept taken c.args.watchers.now c.args.logs.now.items c.clear_logs.new.logs.items c.insert_batch_into_readers.new.logs.items c.delete_batch_from_readers.new.logs.items
-    c.clear_logs.ensures c.in_ok-insert_batch_into_readers.ensures.tells c.delete_batch_from_readers.ensures.tells
+    tends_net c.args.readers.now c.args.come.now c.args.gone.now c.args.queries.now.items x e d leads kept c.args.watchers.now c.args.logs.now.items c.delete_batch_from_readers.new.logs.items
+    (tends_halves c.args.readers.now c.args.come.now c.args.gone.now c.args.queries.now.items c.insert_batch_into_readers.new.queries.items x e d leads kept taken c.args.watchers.now c.args.logs.now.items c.clear_logs.new.logs.items c.insert_batch_into_readers.new.logs.items c.delete_batch_from_readers.new.logs.items
+    c.clear_logs.ensures c.in_ok-insert_batch_into_readers.ensures.tells c.delete_batch_from_readers.ensures.tells)
+    c.settle_logs.new.logs.items c.settle_logs.ensures
 
 pub returns-clause-counted : goal.returns-clause-counted
 returns-clause-counted g c x e d f h order leads kept came went among =
@@ -109,6 +129,10 @@ returns-in_err-insert_batch_into_readers-clause-counted g c x e d f h order lead
     (came_front c.args.readers.now c.args.come.now c.args.gone.now c.args.queries.now.items c.args.queries.now.items (λ l. IsKept x l) kept) came
     (λ i k. among i (in_front (reached c.args.readers.now c.args.come.now) (reached c.args.readers.now c.args.gone.now) i k)) in
     omega (arith, first)
+
+pub returns-in_err-insert_batch_into_readers-clause-refused : goal.returns-in_err-insert_batch_into_readers-clause-refused
+returns-in_err-insert_batch_into_readers-clause-refused g c =
+    on_err c.from_residual.result _ c.insert_batch_into_readers.ensures.counted
 
 pub returns-in_err-insert_batch_into_readers-clause-unlisted : goal.returns-in_err-insert_batch_into_readers-clause-unlisted
 returns-in_err-insert_batch_into_readers-clause-unlisted g c none =

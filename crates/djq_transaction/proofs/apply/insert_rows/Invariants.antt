@@ -1,6 +1,6 @@
 -- The rows that come of those up to a place are inserted.
 use Rattle.std.proofs.Common.{◌≡◌, List}
-use Rattle.djq_transaction.specs.Held as spec
+use Rattle.djq_store_spec.specs.Held as spec
 use Rattle.djq_transaction.specs.Applied.{IsJudged, HasFirst}
 use Rattle.djq_transaction.proofs.apply.insert_rows.Given as goal
 

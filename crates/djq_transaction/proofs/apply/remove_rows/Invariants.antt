@@ -1,7 +1,7 @@
 -- The rows up to a place that don't come have their copies.
 use Rattle.std.proofs.Common.{◌≡◌, List}
 use Rattle.djq_model.specs.declared.relation.Relation.{Relation}
-use Rattle.djq_transaction.specs.Held as spec
+use Rattle.djq_store_spec.specs.Held as spec
 use Rattle.djq_transaction.specs.Applied.{HasAllInserted, HasChangedFirst}
 use Rattle.djq_transaction.proofs.apply.remove_rows.Given as goal
 

@@ -1,7 +1,7 @@
 -- The rows that came of the first so many are left.
 use Rattle.std.proofs.Common.{◌≡◌, ◌≤◌, List}
 use Rattle.djq_model.specs.declared.relation.Relation.{Relation}
-use Rattle.djq_transaction.specs.Held as spec
+use Rattle.djq_store_spec.specs.Held as spec
 use Rattle.djq_transaction.specs.Applied.{HasFirst}
 use Rattle.djq_transaction.proofs.apply.take_back.Given as goal
 

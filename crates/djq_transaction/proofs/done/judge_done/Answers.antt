@@ -2,7 +2,7 @@
 use Rattle.std.specs.Prelude.{ℕ, ◌≡◌, true, false}
 use Rattle.std.proofs.Common.{sym, subst, ◌∙◌}
 use Rattle.djq_transaction.specs.declared.net.Net.{Net}
-use Rattle.djq_transaction.specs.Done.{is_other}
+use Rattle.djq_store_spec.specs.Done.{is_other}
 use Rattle.djq_transaction.proofs.Answering.{number_refused, line_refused, seq_refused}
 use Rattle.djq_transaction.proofs.done.judge_done.Goals as goal
 

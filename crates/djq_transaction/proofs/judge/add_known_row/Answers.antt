@@ -1,8 +1,8 @@
 -- The row's copies were looked up, and whether one more has its place.
 use Rattle.std.specs.Prelude.{ℕ, List, ◌+◌}
 use Rattle.std.proofs.Common.{refl, ap, subst, ◌∙◌, inl}
-use Rattle.djq_transaction.specs.Judging.{limit_if}
-use Rattle.djq_transaction.specs.declared.lines.Verb.TheVariants.{Add}
+use Rattle.djq_store_spec.specs.Judging.{limit_if}
+use Rattle.djq_protocol.specs.declared.held.Verb.TheVariants.{Add}
 use Rattle.djq_transaction.specs.Net.{SetsCopies, line_at}
 use Rattle.djq_transaction.proofs.Places.{looked, judged}
 use Rattle.djq_transaction.proofs.Judgements.{row_at, place_within}

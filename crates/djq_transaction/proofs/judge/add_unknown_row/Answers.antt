@@ -1,7 +1,7 @@
 -- No line before is of the row, and its relation hasn't it.
 use Rattle.std.specs.Prelude.{ℕ, List, None, true, false}
 use Rattle.std.proofs.Common.{refl, subst, ◌∙◌, inl}
-use Rattle.djq_transaction.specs.declared.lines.Verb.TheVariants.{Add}
+use Rattle.djq_protocol.specs.declared.held.Verb.TheVariants.{Add}
 use Rattle.djq_transaction.specs.Net.{SetsCopies, line_at}
 use Rattle.djq_transaction.proofs.Judgements.{copies_with}
 use Rattle.djq_transaction.proofs.Adding.{unknown_judged, unknown_first, new_judged, new_placed, new_stops}

@@ -1,7 +1,7 @@
 -- A row with an unknown text has no copy; else its copies were looked up.
 use Rattle.std.specs.Prelude.{ℕ, List, ◌-◌}
 use Rattle.std.proofs.Common.{refl, subst, sym, ◌∙◌}
-use Rattle.djq_transaction.specs.declared.lines.Verb.TheVariants.{Delete}
+use Rattle.djq_protocol.specs.declared.held.Verb.TheVariants.{Delete}
 use Rattle.djq_transaction.specs.Net.{SetsCopies, line_at}
 use Rattle.djq_transaction.proofs.Places.{looked, judged}
 use Rattle.djq_transaction.proofs.Judgements.{row_at, told_none, told_some, absent_there, unknown_copies}

@@ -1,5 +1,5 @@
 -- By the law of changes by which rows come and others go at once.
-use Rattle.djq_transaction.specs.Lines.{relations_between, relations_after}
+use Rattle.djq_store_spec.specs.Lines.{relations_between, relations_after}
 use Rattle.djq_transaction.proofs.SettledLines.{lines_insert, lines_remove}
 use Rattle.djq_transaction.proofs.InsertedRows.{rows_inserted}
 use Rattle.djq_transaction.proofs.RemovedRows.{rows_removed}

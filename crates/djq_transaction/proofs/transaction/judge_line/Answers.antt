@@ -3,8 +3,8 @@ use Rattle.std.specs.Prelude.{◌≡◌, Some, IfOk, IfErr}
 use Rattle.std.proofs.Common.{sym, ◌∙◌, subst}
 use Rattle.djq_model.specs.Data.{Bytes, relation_of}
 use Rattle.djq_database.specs.Catalog.{relation_at}
-use Rattle.djq_transaction.specs.declared.lines.Verb.TheVariants.{Add, Delete}
-use Rattle.djq_transaction.specs.Held.{HeldLine, transaction_line}
+use Rattle.djq_protocol.specs.declared.held.Verb.TheVariants.{Add, Delete}
+use Rattle.djq_store_spec.specs.Held.{HeldLine, transaction_line}
 use Rattle.djq_transaction.specs.Net.{PassesLine, RefusesLine}
 use Rattle.djq_transaction.proofs.Transactions.{can_be_judged, line_is}
 use Rattle.djq_transaction.proofs.transaction.judge_line.Goals as goal

@@ -2,8 +2,8 @@
 use Rattle.std.specs.Prelude.{List, take}
 use Rattle.std.proofs.Common.{refl, sym, ◌∙◌, subst, arith}
 use Rattle.djq_model.specs.declared.relation.Relation.{Relation}
-use Rattle.djq_transaction.specs.Held as spec
-use Rattle.djq_transaction.specs.Held.{transaction_line, no_line}
+use Rattle.djq_store_spec.specs.Held as spec
+use Rattle.djq_store_spec.specs.Held.{transaction_line, no_line}
 use Rattle.djq_transaction.specs.Net.{PassesLine, RefusesLine}
 use Rattle.djq_transaction.proofs.Transactions.{Judged, few_keys, take_short, take_one_more, judged_more, stops_lines}
 use Rattle.djq_transaction.proofs.transaction.judge_lines.Goals as goal

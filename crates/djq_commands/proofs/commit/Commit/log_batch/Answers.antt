@@ -1,6 +1,7 @@
--- There is room for an entry more, which has the rows.
+-- There is room for an entry more, which has the lines.
 use Rattle.std.proofs.Common.{ℕ, ◌+◌, ◌++◌, ◌∙◌, sym, ap, subst, List, arith}
-use Rattle.djq_commands.specs.Logging.{OpenCommit, HasRoom, batch_lines, lines_of_entries}
+use Rattle.djq_store_spec.specs.Held.{log_lines}
+use Rattle.djq_commands.specs.Logging.{OpenCommit, HasRoom, lines_of_entries}
 use Rattle.djq_commands.specs.declared.commit.Entry.{Entry}
 use Rattle.djq_commands.specs.declared.commit.Entry.TheVariants.{Batch}
 use Rattle.djq_commands.proofs.CommitLines.{room_of, kept_pushed, logged_batch}
@@ -29,10 +30,10 @@ invariant_of-self c =
     (omega arith) c.self.invariant.within tt
     c.push_reserved-2.ensures.items c.push_reserved.ensures.items
     c.push_reserved-2.ensures.capacity c.push_reserved.ensures.capacity
-    (ap (λ (n : ℕ). c.self.inside.lines + (n + 2)) c.len-rows.ensures)
+    (ap (λ (n : ℕ). c.self.inside.lines + (n + 2)) c.len-rows.ensures.logged)
 
 pub returns : goal.returns
 returns c =
     ap (λ (es : List Entry). lines_of_entries c.self.inside.bytes.items es) c.push_reserved-2.ensures.items
     ∙ logged_batch c.self.inside.bytes.items c.self.inside.entries.items c.args.held
-    ∙ ap (λ (v : OpenCommit). v.lines ++ batch_lines c.args.held) c.self.view_is
+    ∙ ap (λ (v : OpenCommit). v.lines ++ log_lines c.args.held) c.self.view_is

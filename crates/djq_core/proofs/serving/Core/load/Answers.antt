@@ -1,6 +1,6 @@
 -- No session is open, so the engine is idle, and the batch of the loaded lines is the only one to suit.
-use Rattle.std.proofs.Common.{◌∙◌, sym, ap, subst, Option, List}
-use Rattle.djq_protocol.specs.declared.held.HeldRow.{HeldRow}
+use Rattle.std.proofs.Common.{◌∙◌, sym, ap, subst, Option}
+use Rattle.djq_store_spec.specs.Held.{HeldTransaction}
 use Rattle.djq_machine.specs.Loading.{Loading, LoadStep}
 use Rattle.djq_commands.specs.Sound.{BatchSuits}
 use Rattle.djq_commands.specs.Views.{Visible, loading_in}
@@ -47,7 +47,7 @@ returns-in-None-clause-loads g c =
     subst (λ (old : Loading). LoadStep old c.args.line.now c.load_alone-loaded.result.0
     (record { store = (c.load_alone-loaded.new.engine).store; batch = c.load_alone-loaded.result.1 }))
     (ap loading_in c.self.view_is)
-    (subst (λ (b : Option (List HeldRow)). LoadStep (record { store = (c.self.inside.engine).store; batch = b })
+    (subst (λ (b : Option HeldTransaction). LoadStep (record { store = (c.self.inside.engine).store; batch = b })
     c.args.line.now c.load_alone-loaded.result.0
     (record { store = (c.load_alone-loaded.new.engine).store; batch = c.load_alone-loaded.result.1 })) batch
     (step_loads _ _ c.args.line.now c.load_alone-loaded.result.0 c.load_alone-loaded.ensures.loads.loads))
@@ -58,7 +58,7 @@ returns-in-Some-clause-loads g c =
     subst (λ (old : Loading). LoadStep old c.args.line.now c.load_in_batch-loaded.result.0
     (record { store = (c.load_in_batch-loaded.new.engine).store; batch = c.load_in_batch-loaded.result.1 }))
     (ap loading_in c.self.view_is)
-    (subst (λ (b : Option (List HeldRow)). LoadStep (record { store = (c.self.inside.engine).store; batch = b })
+    (subst (λ (b : Option HeldTransaction). LoadStep (record { store = (c.self.inside.engine).store; batch = b })
     c.args.line.now c.load_in_batch-loaded.result.0
     (record { store = (c.load_in_batch-loaded.new.engine).store; batch = c.load_in_batch-loaded.result.1 })) batch
     (step_loads _ _ c.args.line.now c.load_in_batch-loaded.result.0 c.load_in_batch-loaded.ensures.loads.loads))

@@ -1,6 +1,6 @@
--- A line that is read says a command that can be run, and one that opens a batch leaves it without rows.
-use Rattle.std.proofs.Common.{◌∙◌, sym, subst, List, None, Some, Err}
-use Rattle.djq_protocol.specs.declared.held.HeldRow.{HeldRow}
+-- A line that is read says a command that can be run, and one that opens a batch leaves it without lines.
+use Rattle.std.proofs.Common.{◌∙◌, sym, subst, None, Some, Err}
+use Rattle.djq_store_spec.specs.Held.{HeldTransaction}
 use Rattle.djq_machine.specs.declared.machine.Loaded.TheVariants.{Ran}
 use Rattle.djq_core.specs.Loading.{LoadsLine}
 use Rattle.djq_parser.specs.declared.refusal.LineRefusal.{LineRefusal}
@@ -16,8 +16,8 @@ load_command-requires-clause-runnable g c = runnable c.args.line.now c.in-Ok.com
 
 pub returns-then-is_batch-clause-loads : goal.returns-then-is_batch-clause-loads
 returns-then-is_batch-clause-loads g c =
-    subst (λ (rows : List HeldRow). LoadsLine c.args.line.now Ran c.args.engine.now None c.args.engine.now (Some rows))
-    (sym c.new.ensures) (record {
+    subst (λ (held : HeldTransaction). LoadsLine c.args.line.now Ran c.args.engine.now None c.args.engine.now
+    (Some held)) (sym c.new.ensures) (record {
       loads = opens_batch c.args.engine.now c.args.line.now c.in-Ok.command c.in-Ok.ensures
           (sym c.is_batch.ensures ∙ c.if-is_batch.true);
       idle = c.requires;

@@ -1,594 +1,792 @@
--- The groups lead from the rows before the batch to those behind it; its first rows outdate what all do.
-use Rattle.std.proofs.Common.{◌≤◌, ◌≡◌, ◌∙◌, ◌+◌, ◌++◌, ◌⊎◌, inl, inr, ℕ, List, [], refl, sym, ap, subst, arith, length}
-use Rattle.std.specs.Prelude.{Some, IsSome, filter, Ok}
-use Rattle.std.proofs.lemmas.List.Elements.{All-take}
+-- Lines are refused, or memory is, or no row comes or goes, or all lines are carried out.
+use Rattle.std.proofs.Common.{◌≡◌, ◌<◌, ◌∙◌, ◌+◌, ℕ, List, [], refl, sym, ap, subst, arith, length}
 use Rattle.djq_model.specs.declared.relation.Relation.{Relation}
-use Rattle.djq_model.specs.Data.{Bytes, relation_of}
-use Rattle.djq_model.specs.Answer.{IsAnswer}
-use Rattle.djq_model.specs.Listed.{a_query}
-use Rattle.djq_protocol.specs.declared.answer.Refusal.{Refusal}
-use Rattle.djq_protocol.specs.declared.answer.Refusal.TheVariants.{Limit, NoMemory}
-use Rattle.djq_protocol.specs.declared.held.HeldRow.{HeldRow}
-use Rattle.djq_store_spec.specs.Store.{Store}
-use Rattle.djq_store_spec.specs.Batch.{with_all, has_come, SuitAll, batch_outcome}
-use Rattle.djq_store_spec.specs.Delta.{Change, IsDelta}
-use Rattle.djq_answer_laws.specs.Finite.{DeltasExist}
-use Rattle.djq_database.specs.Catalog.{Catalog, IsCatalog, relation_at}
-use Rattle.djq_database.specs.Laws.{CellsStay}
-use Rattle.djq_live_query.specs.Body.{HeadsAreBound}
-use Rattle.djq_live_query.specs.Live.{Live}
-use Rattle.djq_reach.specs.declared.group.Group.{Group}
-use Rattle.djq_reach.specs.Places.{place_at, is_reader}
-use Rattle.djq_reach.specs.Grouping.{reached, rows_of_groups, times_back}
-use Rattle.djq_engine.specs.declared.parts.Parts.{Parts}
-use Rattle.djq_engine.specs.Places.{queries_in}
-use Rattle.djq_engine.specs.Putting.{IsStoreOf, PutsAll, RefusesAll, WentInAll}
-use Rattle.djq_engine.specs.Whole.{kept_in, EngineIsWhole}
-use Rattle.djq_engine.proofs.Batches.{Settles, taken_whole, taken_registered, taken_places, taken_cursors, taken_adds}
-use Rattle.djq_engine.proofs.Batches.{taken_tended, taken_tells, WentIn, start_here, begun, leads_here, came_within}
-use Rattle.djq_engine.proofs.Batches.{came_here, came_tested, came_found, came_seq, filled_mid, came_takes}
-use Rattle.djq_engine.proofs.Batches.{came_readers, unwatched_reached, lacks_rows, lacks_groups, lacks_readers}
-use Rattle.djq_engine.proofs.Batches.{lacks_logged, lacks_found, lacks_whole, lacks_tended, lacks_cursors}
-use Rattle.djq_engine.proofs.Batches.{lacks_registered, lacks_places, lacks_refuses, lacks_tells, lacks_last}
-use Rattle.djq_engine.proofs.Batches.{lacks_counts}
-use Rattle.djq_engine.proofs.Catalogs.{same_none}
-use Rattle.djq_engine.proofs.OutdatedQueries.{ages_first}
-use Rattle.djq_engine.proofs.RefusedBatches.{sound_readers, rests_whole, rests_tended, rests_cursors, rests_tells}
-use Rattle.djq_engine.proofs.RefusedBatches.{no_groups, none_adds, refuses_batch}
-use Rattle.djq_engine.proofs.CarriedQueries.{keeps_equal}
-use Rattle.djq_engine.proofs.PutRows.{refused_kind}
-use Rattle.djq_engine.proofs.StoredRows.{same_rows}
-use Rattle.djq_engine.proofs.HeldRows.{catalog_counted}
-use Rattle.djq_engine.proofs.Costs.{came_few, counts_all, rows_each}
-use Rattle.djq_engine.specs.Kept.{Kept, Outdates, KeepsPlaces, is_tried}
-use Rattle.djq_engine.specs.Watching.{EngineTellsChange}
-use Rattle.djq_store_spec.specs.Changes.{tried}
-use Rattle.djq_database.proofs.Cells.{stay as cells_stay}
+use Rattle.djq_model.specs.Data.{Bytes}
+use Rattle.djq_database.proofs.Cells.{texts as texts_stay}
 use Rattle.djq_answer_laws.proofs.Listings.{deltas_exist}
-use Rattle.djq_live_query.proofs.TreeAnswers.{heads_bound as heads_are_bound}
 use Rattle.djq_live_query.proofs.LeafRows.{leaves_small as leaves_are_small}
 use Rattle.djq_live_query.proofs.ShownAnswers.{stays_lives as live_stays, stays_showable as showable_stays}
+use Rattle.djq_live_query.proofs.TreeAnswers.{heads_bound as heads_are_bound}
+use Rattle.djq_store_spec.specs.Transaction.{SuitAll}
+use Rattle.djq_transaction.proofs.InsertedRows.{rows_inserted}
+use Rattle.djq_transaction.proofs.LeadingLines.{catalogs_have_copies, changed_is_either, headings_stay}
+use Rattle.djq_transaction.proofs.LeadingLines.{lines_spare_others}
+use Rattle.djq_transaction.proofs.LeadingLines.{rows_left}
+use Rattle.djq_transaction.proofs.SuitingLines.{lines_suit}
+use Rattle.djq_engine.specs.declared.parts.Parts.{Parts}
+use Rattle.djq_engine.specs.Kept.{Kept, is_tried}
+use Rattle.djq_engine.specs.Carrying.{come_of, gone_of, places_changed}
+use Rattle.djq_engine.specs.Whole.{kept_in}
+use Rattle.djq_engine.proofs.CarriedLines.{carried_cursors, carried_out, carried_places, carried_registered}
+use Rattle.djq_engine.proofs.CarriedLines.{carried_tells}
+use Rattle.djq_engine.proofs.CarriedLines.{carried_tended, carried_whole}
+use Rattle.djq_engine.proofs.CarriedQueries.{keeps_equal}
+use Rattle.djq_engine.proofs.CountedLines.{filter_fewer}
+use Rattle.djq_engine.proofs.DoneTransactions.{after_more, answers_err, counts_none, groups_of, groups_within}
+use Rattle.djq_engine.proofs.DoneTransactions.{have_delta}
+use Rattle.djq_engine.proofs.DoneTransactions.{lacks_left, lines_change_of, names_found, none_absent, none_between}
+use Rattle.djq_engine.proofs.DoneTransactions.{none_rows, none_seq, over_texts, readers_after, refused_cursors}
+use Rattle.djq_engine.proofs.DoneTransactions.{refused_more}
+use Rattle.djq_engine.proofs.DoneTransactions.{refused_out, refused_places, refused_registered, refused_tells}
+use Rattle.djq_engine.proofs.DoneTransactions.{refused_tended, refused_whole, settles_of, touched_reads}
+use Rattle.djq_engine.proofs.GivenUp.{lacks_cursors, lacks_found, lacks_logged, lacks_places, lacks_readers}
+use Rattle.djq_engine.proofs.GivenUp.{lacks_registered, lacks_rows, lacks_store, lacks_tells, lacks_tended, lacks_whole}
+use Rattle.djq_engine.proofs.GivenUp.{rests_cursors, rests_tells, rests_tended, rests_whole}
+use Rattle.djq_engine.proofs.ReachedQueries.{all_found}
+use Rattle.djq_engine.proofs.StoredRows.{same_rows}
+use Rattle.djq_engine.proofs.TransactionCosts.{counts_done, counts_inserts, counts_refused}
+use Rattle.std.proofs.Common.{ap₂, ◌≤◌, All}
+use Rattle.std.specs.Prelude.{None, IsSome}
+use Rattle.djq_model.specs.Data.{relation_of}
+use Rattle.djq_database.specs.Catalog.{Catalog, relation_at}
+use Rattle.djq_store_spec.specs.Store.{Store}
+use Rattle.djq_store_spec.specs.Lines.{first_lines, line_comes, line_goes, lines_come, lines_go, relations_after}
+use Rattle.djq_store_spec.specs.Lines.{relations_between}
+use Rattle.djq_transaction.specs.declared.net.Copies.{Copies}
+use Rattle.djq_transaction.specs.Net.{copies_by}
+use Rattle.std.proofs.lemmas.List.{length-map}
+use Rattle.djq_store_spec.specs.Judging.{texts_after}
+use Rattle.djq_store_spec.specs.Done.{rows_changed}
+use Rattle.djq_transaction.specs.declared.net.Net.{Net}
+use Rattle.djq_transaction.specs.Applied.{HasAllInserted, IsJudged}
+use Rattle.djq_engine.specs.Carrying.{CountsHalves}
+use Rattle.djq_engine.specs.Transacting.{changed_relations}
+use Rattle.djq_engine.proofs.DoneTransactions.{none_changed}
 use Rattle.djq_engine.proofs.engine.Engine.done.Goals as goal
 
--- the store of the engine is that of its catalog
-agrees : (p : Parts) → IsStoreOf p.catalog p.seq (kept_in p).store
-agrees p = record { relations = refl; texts = refl; seq = refl }
+pub judge_done-judged-requires : goal.judge_done-judged-requires
+judge_done-judged-requires g c =
+    let old = c.self.inside.parts in
+    let lines = c.args.held.now.lines in
+    let suit : SuitAll (kept_in old).store lines =
+    subst (λ (x : Kept). SuitAll x.store lines) (sym c.self.view_is) c.requires in
+    record { suit = lines_suit (kept_in old).store lines suit }
 
--- deltas exist
-have : DeltasExist → HeadsAreBound → (p : Parts) → EngineIsWhole p → (rs : List Relation) → (i : ℕ) (l : Live)
-    → place_at p.queries.items i ≡ Some l
-    → (changes : List Change) × IsDelta (IsAnswer (p.catalog).relations l.query) (IsAnswer rs l.query) changes
-have exist bound p s rs i l there = exist (p.catalog).relations rs (a_query l.query)
-    (bound p.catalog l (s.live i l there).kept)
-
-as_limit : (st : Store) (held : List HeldRow) (texts : List Bytes) (r : Refusal) → RefusesAll st held texts r
-    → (r ≡ NoMemory → ⊥) → RefusesAll st held texts Limit
-as_limit st held texts r x d = by (refused_kind st held texts r x)
-  where
-    by : (r ≡ Limit) ⊎ (r ≡ NoMemory) → RefusesAll st held texts Limit
-    by (inl e) = subst (λ (y : Refusal). RefusesAll st held texts y) e x
-    by (inr e) = absurd (d e)
-
--- what is known once the rows are in the catalog, from what the calls before say
-went_in : (old : Parts) (k : Kept) → kept_in old ≡ k → (held : List HeldRow) → SuitAll k.store held → (d : Catalog)
-    (count : ℕ) (groups came : List Group) → came ≡ groups → CellsStay → IsCatalog old.catalog → IsCatalog d
-    → ((more : List Bytes) × (d.texts ≡ (old.catalog).texts ++ more))
-    → ((st : Store) → IsStoreOf old.catalog old.seq st → PutsAll st held d count groups) → WentIn old held d came count
-went_in old k view held suit d count groups came e law was is learned put = record {
-  law = law;
-  was = was;
-  is = is;
-  suit = subst (λ (x : Kept). SuitAll x.store held) (sym view) suit;
-  put = subst (λ (gs : List Group). PutsAll (kept_in old).store held d count gs) (sym e)
-      (put (kept_in old).store (agrees old));
-  more = learned.0;
-  texts = learned.1;
-}
-
-pub give_up-requires-clause-readers : goal.give_up-requires-clause-readers
-give_up-requires-clause-readers g c =
+pub refuse-requires-clause-readers : goal.refuse-requires-clause-readers
+refuse-requires-clause-readers g c =
     let old = c.self.inside.parts in
     let s = c.self.invariant.0 in
     let t = c.self.invariant.1 in
-    let held = c.args.held.now in
-    let d = c.put_all-put.new.catalog in
-    let learned = c.put_all-put.ensures.learned in
+    let lines = c.args.held.now.lines in
+    let suit : SuitAll (kept_in old).store lines =
+    subst (λ (x : Kept). SuitAll x.store lines) (sym c.self.view_is) c.requires in
+    let found = all_found (kept_in old).store lines suit in
+    let d = c.judge_done-judged.new.catalog in
+    let rel = c.judge_done-judged.ensures.relations in
+    let learned = refused_more texts_stay old.catalog.relations old.catalog.texts lines d.texts c.in-Err.refusal
+    c.in-Err.ensures.err in
     let mid : Parts = record old { catalog = d } in
-    let k = lacks_rows old s held d live_stays c.laws-2.ensures c.in-Err.ensures.stays learned.0 learned.1 in
-    lacks_readers old mid s t held [] k
+    let k = lacks_rows old s lines d live_stays c.laws-2.ensures rel learned.0 learned.1 in
+    lacks_readers old mid s t lines [] k
 
-pub give_up-requires-clause-logged : goal.give_up-requires-clause-logged
-give_up-requires-clause-logged g c =
+pub refuse-requires-clause-logged : goal.refuse-requires-clause-logged
+refuse-requires-clause-logged g c =
     let old = c.self.inside.parts in
     let s = c.self.invariant.0 in
     let t = c.self.invariant.1 in
-    let held = c.args.held.now in
-    let d = c.put_all-put.new.catalog in
-    let learned = c.put_all-put.ensures.learned in
+    let lines = c.args.held.now.lines in
+    let suit : SuitAll (kept_in old).store lines =
+    subst (λ (x : Kept). SuitAll x.store lines) (sym c.self.view_is) c.requires in
+    let found = all_found (kept_in old).store lines suit in
+    let d = c.judge_done-judged.new.catalog in
+    let rel = c.judge_done-judged.ensures.relations in
+    let learned = refused_more texts_stay old.catalog.relations old.catalog.texts lines d.texts c.in-Err.refusal
+    c.in-Err.ensures.err in
     let mid : Parts = record old { catalog = d } in
-    let k = lacks_rows old s held d live_stays c.laws-2.ensures c.in-Err.ensures.stays learned.0 learned.1 in
-    lacks_logged old mid s t held [] k
+    let k = lacks_rows old s lines d live_stays c.laws-2.ensures rel learned.0 learned.1 in
+    lacks_logged old mid s t lines [] k
+
+pub refuse-requires-clause-found : goal.refuse-requires-clause-found
+refuse-requires-clause-found g c =
+    let old = c.self.inside.parts in
+    let s = c.self.invariant.0 in
+    let t = c.self.invariant.1 in
+    let lines = c.args.held.now.lines in
+    let suit : SuitAll (kept_in old).store lines =
+    subst (λ (x : Kept). SuitAll x.store lines) (sym c.self.view_is) c.requires in
+    let found = all_found (kept_in old).store lines suit in
+    let d = c.judge_done-judged.new.catalog in
+    let rel = c.judge_done-judged.ensures.relations in
+    let learned = refused_more texts_stay old.catalog.relations old.catalog.texts lines d.texts c.in-Err.refusal
+    c.in-Err.ensures.err in
+    let mid : Parts = record old { catalog = d } in
+    let k = lacks_rows old s lines d live_stays c.laws-2.ensures rel learned.0 learned.1 in
+    lacks_found old mid s t lines [] k suit
 
 pub invariant_of-self : goal.invariant_of-self
 invariant_of-self g c =
     let old = c.self.inside.parts in
     let s = c.self.invariant.0 in
     let t = c.self.invariant.1 in
-    let held = c.args.held.now in
-    let d = c.put_all-put.new.catalog in
-    let learned = c.put_all-put.ensures.learned in
-    let mid : Parts = record old { catalog = d } in
-    let k = lacks_rows old s held d live_stays c.laws-2.ensures c.in-Err.ensures.stays learned.0 learned.1 in
-    let new = c.give_up.new.parts in
-    let gives = c.give_up.ensures in (
-      lacks_whole old mid s t held [] k new gives,
-      lacks_tended old mid s t held [] k new gives showable_stays,
+    let lines = c.args.held.now.lines in
+    let suit : SuitAll (kept_in old).store lines =
+    subst (λ (x : Kept). SuitAll x.store lines) (sym c.self.view_is) c.requires in
+    let found = all_found (kept_in old).store lines suit in
+    let d = c.judge_done-judged.new.catalog in
+    let rel = c.judge_done-judged.ensures.relations in
+    let learned = refused_more texts_stay old.catalog.relations old.catalog.texts lines d.texts c.in-Err.refusal
+    c.in-Err.ensures.err in
+    let mid : Parts = record old { catalog = d } in (
+      refused_whole old c.refuse.new.parts s t lines d c.laws-2.ensures rel learned.0 learned.1 live_stays
+          showable_stays
+          c.in-Err.refusal c.refuse.ensures.lacking c.refuse.ensures.other,
+      refused_tended old c.refuse.new.parts s t lines d c.laws-2.ensures rel learned.0 learned.1 live_stays
+          showable_stays
+          c.in-Err.refusal c.refuse.ensures.lacking c.refuse.ensures.other,
     )
 
-pub returns-in-NoMemory : goal.returns-in-NoMemory
-returns-in-NoMemory g c =
+pub returns-in-Err : goal.returns-in-Err
+returns-in-Err g c =
     let old = c.self.inside.parts in
     let s = c.self.invariant.0 in
     let t = c.self.invariant.1 in
-    let held = c.args.held.now in
-    let d = c.put_all-put.new.catalog in
-    let learned = c.put_all-put.ensures.learned in
+    let lines = c.args.held.now.lines in
+    let suit : SuitAll (kept_in old).store lines =
+    subst (λ (x : Kept). SuitAll x.store lines) (sym c.self.view_is) c.requires in
+    let found = all_found (kept_in old).store lines suit in
+    let d = c.judge_done-judged.new.catalog in
+    let rel = c.judge_done-judged.ensures.relations in
+    let learned = refused_more texts_stay old.catalog.relations old.catalog.texts lines d.texts c.in-Err.refusal
+    c.in-Err.ensures.err in
     let mid : Parts = record old { catalog = d } in
-    let k = lacks_rows old s held d live_stays c.laws-2.ensures c.in-Err.ensures.stays learned.0 learned.1 in
-    let new = c.give_up.new.parts in
-    let gives = c.give_up.ensures in
     rw (← c.self.view_is) (record {
-      adds = lacks_refuses old mid s t held [] k new gives
-          (subst (λ (r : Refusal). RefusesAll (kept_in old).store held d.texts r) c.in-NoMemory.is
-          (c.in-Err.ensures.refused (kept_in old).store (agrees old)));
-      outdates = lacks_cursors old mid s t held [] k new gives;
-      watches = lacks_registered old mid s t held [] k new gives;
-      tells = lacks_tells old mid s t held [] k new gives showable_stays
-          (have deltas_exist heads_are_bound old s (with_all (kept_in old).store held).relations)
-          c.args.steps.now.listing c.args.steps.now.listing (λ f h. omega arith);
-      unlisted = λ none. refl;
-      updates = record { counted = λ n few. omega arith };
-      places = lacks_places old mid s t held [] k new gives;
+      does = record {
+        answer = answers_err Net ℕ _ _ c.in-Err.refusal c.in-Err.ensures.answer;
+        does = refused_out old c.refuse.new.parts s t lines d c.laws-2.ensures rel learned.0 learned.1 live_stays
+            showable_stays
+            c.in-Err.refusal c.refuse.ensures.lacking c.refuse.ensures.other
+            c.in-Err.ensures.err;
+        counted = catalogs_have_copies old.catalog lines c.laws.ensures;
+      };
+      outdates = refused_cursors old c.refuse.new.parts s t lines d c.laws-2.ensures rel learned.0 learned.1
+          live_stays showable_stays
+          c.in-Err.refusal c.refuse.ensures.lacking c.refuse.ensures.other;
+      relations = tt;
+      spares = lines_spare_others old.catalog lines c.laws.ensures;
+      watches = refused_registered old c.refuse.new.parts s t lines d c.laws-2.ensures rel learned.0 learned.1
+          live_stays showable_stays
+          c.in-Err.refusal c.refuse.ensures.lacking c.refuse.ensures.other;
+      tells = refused_tells old c.refuse.new.parts s t lines d c.laws-2.ensures rel learned.0 learned.1 live_stays
+          showable_stays
+          c.in-Err.refusal c.refuse.ensures.lacking c.refuse.ensures.other
+          deltas_exist heads_are_bound c.args.steps.now.listing;
+      unlisted = λ n. refl;
+      updates = counts_none old lines _ c.args.steps.now.update;
+      places = refused_places old c.refuse.new.parts s t lines d c.laws-2.ensures rel learned.0 learned.1 live_stays
+          showable_stays
+          c.in-Err.refusal c.refuse.ensures.lacking c.refuse.ensures.other;
     })
 
-pub invariant_of-self-in_default : goal.invariant_of-self-in_default
-invariant_of-self-in_default g c =
+pub overflow_add-count : goal.overflow_add-count
+overflow_add-count g c =
     let old = c.self.inside.parts in
     let s = c.self.invariant.0 in
     let t = c.self.invariant.1 in
-    let d = c.put_all-put.new.catalog in
-    let learned = c.put_all-put.ensures.learned in
-    let same = same_rows old.catalog d c.laws-2.ensures c.in-Err.ensures.stays learned.0 learned.1 in
-    let long = ap (λ (rs : List Relation). length rs) c.in-Err.ensures.stays in
-    let names = (λ (r : ℕ). ap (λ (rs : List Relation). (relation_at rs r).name) c.in-Err.ensures.stays) in
-    let live = live_stays in
-    let law = showable_stays in
-    (rests_whole old s t d same long names live law, rests_tended old s t d same long names live law)
+    let lines = c.args.held.now.lines in
+    let suit : SuitAll (kept_in old).store lines =
+    subst (λ (x : Kept). SuitAll x.store lines) (sym c.self.view_is) c.requires in
+    let found = all_found (kept_in old).store lines suit in
+    let d = c.judge_done-judged.new.catalog in
+    let rel = c.judge_done-judged.ensures.relations in
+    let after = after_more texts_stay old.catalog.texts lines in
+    let texts = c.in-Ok.ensures.ok.0 ∙ after.1 in
+    let j : IsJudged d.relations d.texts lines c.in-Ok.net =
+    subst (λ (rs : List Relation). IsJudged rs d.texts lines c.in-Ok.net) (sym rel) c.in-Ok.ensures.ok.1 in
+    let over : Parts = record old { catalog = d } in
+    let come = come_of over lines in
+    let gone = gone_of over lines in
+    let came : c.count_came.result ≡ length (lines_come old.catalog.relations lines) =
+    c.count_came.ensures old.catalog.relations d.texts c.in-Ok.net.keys.width lines c.in-Ok.ensures.ok.1.rows in
+    let went : c.count_went.result ≡ length (lines_go old.catalog.relations lines) =
+    c.count_went.ensures old.catalog.relations d.texts c.in-Ok.net.keys.width lines c.in-Ok.ensures.ok.1.rows in
+    let rs = old.catalog.relations in
+    let copies = c.in-Ok.net.copies in
+    let long = ap (λ (xs : List Copies). length xs) c.in-Ok.ensures.ok.1.rows.copies
+    ∙ length-map (first_lines lines) (copies_by rs lines) in
+    omega (
+      arith,
+      came,
+      went,
+      filter_fewer (line_comes rs lines) (first_lines lines),
+      filter_fewer (line_goes rs lines) (first_lines lines),
+      long,
+      copies.ok.0,
+      copies.ok.1,
+      copies.small,
+    )
 
-pub returns-in_default : goal.returns-in_default
-returns-in_default g c =
+pub remove_rows-requires : goal.remove_rows-requires
+remove_rows-requires g c =
     let old = c.self.inside.parts in
     let s = c.self.invariant.0 in
     let t = c.self.invariant.1 in
-    let held = c.args.held.now in
-    let d = c.put_all-put.new.catalog in
-    let learned = c.put_all-put.ensures.learned in
-    let same = same_rows old.catalog d c.laws-2.ensures c.in-Err.ensures.stays learned.0 learned.1 in
-    let long = ap (λ (rs : List Relation). length rs) c.in-Err.ensures.stays in
-    let names = (λ (r : ℕ). ap (λ (rs : List Relation). (relation_at rs r).name) c.in-Err.ensures.stays) in
-    let live = live_stays in
-    let law = showable_stays in
-    rw (← c.self.view_is) (record {
-      adds = refuses_batch (kept_in old).store held d.texts Limit
-          (as_limit (kept_in old).store held d.texts c.in-Err.refusal
-          (c.in-Err.ensures.refused (kept_in old).store (agrees old)) c.in_default.not-NoMemory)
-          (record {
-            relations = d.relations;
-            texts = d.texts;
-            queries = queries_in old.queries.items old.order;
-            seq = old.seq;
-          })
-          (ap (λ (rs : List Relation).
-          (let x : Store = record
-          { relations = rs; texts = d.texts; queries = queries_in old.queries.items old.order; seq = old.seq } in
-          x)) c.in-Err.ensures.stays);
-      outdates = rests_cursors old s t d same long names live law;
-      watches = refl;
-      tells = rests_tells old s t d same long names live law c.args.steps.now.listing c.args.steps.now.listing
-          (omega arith);
-      unlisted = λ none. refl;
-      updates = record { counted = λ n few. omega arith };
-      places = keeps_equal _ old.queries.items old.queries.items refl;
-    })
+    let lines = c.args.held.now.lines in
+    let suit : SuitAll (kept_in old).store lines =
+    subst (λ (x : Kept). SuitAll x.store lines) (sym c.self.view_is) c.requires in
+    let found = all_found (kept_in old).store lines suit in
+    let d = c.judge_done-judged.new.catalog in
+    let rel = c.judge_done-judged.ensures.relations in
+    let after = after_more texts_stay old.catalog.texts lines in
+    let texts = c.in-Ok.ensures.ok.0 ∙ after.1 in
+    let j : IsJudged d.relations d.texts lines c.in-Ok.net =
+    subst (λ (rs : List Relation). IsJudged rs d.texts lines c.in-Ok.net) (sym rel) c.in-Ok.ensures.ok.1 in
+    let over : Parts = record old { catalog = d } in
+    let come = come_of over lines in
+    let gone = gone_of over lines in
+    let came : c.count_came.result ≡ length (lines_come old.catalog.relations lines) =
+    c.count_came.ensures old.catalog.relations d.texts c.in-Ok.net.keys.width lines c.in-Ok.ensures.ok.1.rows in
+    let went : c.count_went.result ≡ length (lines_go old.catalog.relations lines) =
+    c.count_went.ensures old.catalog.relations d.texts c.in-Ok.net.keys.width lines c.in-Ok.ensures.ok.1.rows in
+    let no_come : length (lines_come old.catalog.relations lines) ≡ 0 = omega (arith, came, c.if-count-eq0.true) in
+    let no_gone : length (lines_go old.catalog.relations lines) ≡ 0 = omega (arith, went, c.if-count-eq0.true) in
+    let no_come_d = subst (λ (rs : List Relation). length (lines_come rs lines) ≡ 0) (sym rel) no_come in
+    let all : HasAllInserted d.relations lines d c.in-Ok.net = record {
+      judged = j;
+      absent = none_absent d.relations lines no_come_d;
+      here = sym (none_between d.relations lines no_come_d);
+    } in
+    record { inserted = (d.relations, lines, all) }
 
 pub invariant_of-self-then-count-eq0 : goal.invariant_of-self-then-count-eq0
 invariant_of-self-then-count-eq0 g c =
     let old = c.self.inside.parts in
     let s = c.self.invariant.0 in
     let t = c.self.invariant.1 in
-    let held = c.args.held.now in
-    let d = c.put_all-put.new.catalog in
-    let learned = c.put_all-put.ensures.learned in
-    let p = c.in-Ok.ensures.put (kept_in old).store (agrees old) in
-    let groups = c.in-Ok.came.groups.items in
-    let none = no_groups (kept_in old).store held d c.in-Ok.came.count groups p (omega (arith, c.if-count-eq0.true)) in
-    let same = same_none old.catalog d c.laws.ensures c.laws-2.ensures cells_stay learned.0 learned.1
-    p.grouped.long p.grouped.names p.grouped.types groups none p.grouped in
-    let long = p.grouped.long in
-    let names = p.grouped.names in
-    let live = live_stays in
-    let law = showable_stays in
-    (rests_whole old s t d same long names live law, rests_tended old s t d same long names live law)
+    let lines = c.args.held.now.lines in
+    let suit : SuitAll (kept_in old).store lines =
+    subst (λ (x : Kept). SuitAll x.store lines) (sym c.self.view_is) c.requires in
+    let found = all_found (kept_in old).store lines suit in
+    let d = c.judge_done-judged.new.catalog in
+    let rel = c.judge_done-judged.ensures.relations in
+    let after = after_more texts_stay old.catalog.texts lines in
+    let texts = c.in-Ok.ensures.ok.0 ∙ after.1 in
+    let j : IsJudged d.relations d.texts lines c.in-Ok.net =
+    subst (λ (rs : List Relation). IsJudged rs d.texts lines c.in-Ok.net) (sym rel) c.in-Ok.ensures.ok.1 in
+    let over : Parts = record old { catalog = d } in
+    let come = come_of over lines in
+    let gone = gone_of over lines in
+    let came : c.count_came.result ≡ length (lines_come old.catalog.relations lines) =
+    c.count_came.ensures old.catalog.relations d.texts c.in-Ok.net.keys.width lines c.in-Ok.ensures.ok.1.rows in
+    let went : c.count_went.result ≡ length (lines_go old.catalog.relations lines) =
+    c.count_went.ensures old.catalog.relations d.texts c.in-Ok.net.keys.width lines c.in-Ok.ensures.ok.1.rows in
+    let e = c.remove_rows.new.catalog in
+    let no_come : length (lines_come old.catalog.relations lines) ≡ 0 = omega (arith, came, c.if-count-eq0.true) in
+    let no_gone : length (lines_go old.catalog.relations lines) ≡ 0 = omega (arith, went, c.if-count-eq0.true) in
+    let no_come_d = subst (λ (rs : List Relation). length (lines_come rs lines) ≡ 0) (sym rel) no_come in
+    let all : HasAllInserted d.relations lines d c.in-Ok.net = record {
+      judged = j;
+      absent = none_absent d.relations lines no_come_d;
+      here = sym (none_between d.relations lines no_come_d);
+    } in
+    let left = c.remove_rows.ensures.after d.relations lines all
+    ∙ ap (λ (rs : List Relation). relations_after rs lines) rel in
+    let learned = c.remove_rows.ensures.texts ∙ texts in
+    let heads = (headings_stay old.catalog lines).2 in
+    let long = ap (λ (rs : List Relation). length rs) left ∙ heads.long in
+    let names = λ (r : ℕ). ap (λ (rs : List Relation). (relation_at rs r).name) left ∙ heads.named r in
+    let same = none_rows rows_left headings_stay old.catalog e lines c.laws.ensures c.laws-then-count-eq0.ensures
+    left after.0
+    learned no_come no_gone in (
+      rests_whole old s t e same long names live_stays showable_stays,
+      rests_tended old s t e same long names live_stays showable_stays,
+    )
 
 pub returns-then-count-eq0 : goal.returns-then-count-eq0
 returns-then-count-eq0 g c =
     let old = c.self.inside.parts in
     let s = c.self.invariant.0 in
     let t = c.self.invariant.1 in
-    let held = c.args.held.now in
-    let d = c.put_all-put.new.catalog in
-    let learned = c.put_all-put.ensures.learned in
-    let p = c.in-Ok.ensures.put (kept_in old).store (agrees old) in
-    let groups = c.in-Ok.came.groups.items in
-    let none = no_groups (kept_in old).store held d c.in-Ok.came.count groups p (omega (arith, c.if-count-eq0.true)) in
-    let same = same_none old.catalog d c.laws.ensures c.laws-2.ensures cells_stay learned.0 learned.1
-    p.grouped.long p.grouped.names p.grouped.types groups none p.grouped in
-    let long = p.grouped.long in
-    let names = p.grouped.names in
-    let live = live_stays in
-    let law = showable_stays in
+    let lines = c.args.held.now.lines in
+    let suit : SuitAll (kept_in old).store lines =
+    subst (λ (x : Kept). SuitAll x.store lines) (sym c.self.view_is) c.requires in
+    let found = all_found (kept_in old).store lines suit in
+    let d = c.judge_done-judged.new.catalog in
+    let rel = c.judge_done-judged.ensures.relations in
+    let after = after_more texts_stay old.catalog.texts lines in
+    let texts = c.in-Ok.ensures.ok.0 ∙ after.1 in
+    let j : IsJudged d.relations d.texts lines c.in-Ok.net =
+    subst (λ (rs : List Relation). IsJudged rs d.texts lines c.in-Ok.net) (sym rel) c.in-Ok.ensures.ok.1 in
+    let over : Parts = record old { catalog = d } in
+    let come = come_of over lines in
+    let gone = gone_of over lines in
+    let came : c.count_came.result ≡ length (lines_come old.catalog.relations lines) =
+    c.count_came.ensures old.catalog.relations d.texts c.in-Ok.net.keys.width lines c.in-Ok.ensures.ok.1.rows in
+    let went : c.count_went.result ≡ length (lines_go old.catalog.relations lines) =
+    c.count_went.ensures old.catalog.relations d.texts c.in-Ok.net.keys.width lines c.in-Ok.ensures.ok.1.rows in
+    let e = c.remove_rows.new.catalog in
+    let no_come : length (lines_come old.catalog.relations lines) ≡ 0 = omega (arith, came, c.if-count-eq0.true) in
+    let no_gone : length (lines_go old.catalog.relations lines) ≡ 0 = omega (arith, went, c.if-count-eq0.true) in
+    let no_come_d = subst (λ (rs : List Relation). length (lines_come rs lines) ≡ 0) (sym rel) no_come in
+    let all : HasAllInserted d.relations lines d c.in-Ok.net = record {
+      judged = j;
+      absent = none_absent d.relations lines no_come_d;
+      here = sym (none_between d.relations lines no_come_d);
+    } in
+    let left = c.remove_rows.ensures.after d.relations lines all
+    ∙ ap (λ (rs : List Relation). relations_after rs lines) rel in
+    let learned = c.remove_rows.ensures.texts ∙ texts in
+    let heads = (headings_stay old.catalog lines).2 in
+    let long = ap (λ (rs : List Relation). length rs) left ∙ heads.long in
+    let names = λ (r : ℕ). ap (λ (rs : List Relation). (relation_at rs r).name) left ∙ heads.named r in
+    let same = none_rows rows_left headings_stay old.catalog e lines c.laws.ensures c.laws-then-count-eq0.ensures
+    left after.0
+    learned no_come no_gone in
+    let changed : rows_changed old.catalog.relations lines ≡ 0 = omega (arith, no_come, no_gone) in
     rw (← c.self.view_is) (record {
-      adds = none_adds (kept_in old).store held d c.in-Ok.came.count groups p (omega (arith, c.if-count-eq0.true));
-      outdates = rests_cursors old s t d same long names live law;
+      does = record {
+        answer = c.in-Ok.ensures.answer;
+        does = (
+          sym changed,
+          ap₂ (λ (rs : List Relation) (ts : List Bytes).
+              (let x : Store = record (kept_in old).store { relations = rs; texts = ts } in x)) left
+              (c.remove_rows.ensures.texts ∙ c.in-Ok.ensures.ok.0)
+              ∙ ap (λ (n : ℕ). (let x : Store = record (kept_in old).store {
+                relations = relations_after old.catalog.relations lines;
+                texts = texts_after old.catalog.texts lines;
+                seq = n;
+              } in x)) (sym (none_seq old.catalog.relations lines old.seq changed)),
+        );
+        counted = catalogs_have_copies old.catalog lines c.laws.ensures;
+      };
+      outdates = rests_cursors old s t e same long names live_stays showable_stays;
+      relations = c.new.ensures.items ∙ sym (none_changed changed_is_either old.catalog.relations lines come
+          gone (groups_of old s lines d c.laws-2.ensures rel after.0 texts live_stays found c.in-Ok.net j) found
+          no_come no_gone);
+      spares = lines_spare_others old.catalog lines c.laws.ensures;
       watches = refl;
-      tells = rests_tells old s t d same long names live law c.args.steps.now.listing c.args.steps.now.listing
-          (omega arith);
-      unlisted = λ none. refl;
-      updates = record { counted = λ n few. omega arith };
-      places = keeps_equal _ old.queries.items old.queries.items refl;
+      tells = rests_tells old s t e same long names live_stays showable_stays c.args.steps.now.listing
+          c.args.steps.now.listing (omega arith);
+      unlisted = λ n. refl;
+      updates = counts_none old lines _ c.args.steps.now.update;
+      places = keeps_equal (is_tried None) old.queries.items old.queries.items refl;
     })
 
-pub take_groups-requires-clause-once : goal.take_groups-requires-clause-once
-take_groups-requires-clause-once g c =
-    let old = c.self.inside.parts in
-    (sound_readers old.catalog old.queries.items old.order old.readers.items c.self.invariant.0).once
-
-pub take_groups-requires-clause-differ : goal.take_groups-requires-clause-differ
-take_groups-requires-clause-differ g c =
-    let old = c.self.inside.parts in
-    let held = c.args.held.now in
-    let d = c.put_all-put.new.catalog in
-    let groups = c.as_slice-came.result.now in
-    let count = c.in-Ok.came.count in
-    let w = went_in old c.args.self.now c.self.view_is held c.requires.suit d count c.in-Ok.came.groups.items groups
-    c.as_slice-came.ensures.value cells_stay c.laws.ensures c.laws-2.ensures
-    c.put_all-put.ensures.learned c.in-Ok.ensures.put in
-    w.put.grouped.differ
-
-pub take_groups-requires-clause-can : goal.take_groups-requires-clause-can
-take_groups-requires-clause-can g c =
+pub carry_out-requires-clause-whole : goal.carry_out-requires-clause-whole
+carry_out-requires-clause-whole g c =
     let old = c.self.inside.parts in
     let s = c.self.invariant.0 in
-    let held = c.args.held.now in
-    let d = c.put_all-put.new.catalog in
-    let groups = c.as_slice-came.result.now in
-    let count = c.in-Ok.came.count in
-    let w = went_in old c.args.self.now c.self.view_is held c.requires.suit d count c.in-Ok.came.groups.items groups
-    c.as_slice-came.ensures.value cells_stay c.laws.ensures c.laws-2.ensures
-    c.put_all-put.ensures.learned c.in-Ok.ensures.put in
-    let some : count ≡ 0 → ⊥ = λ e. omega (arith, e, c.if-count-eq0.false) in
-    (start_here old s held d groups count w, leads_here old s held d groups count w live_stays some)
-
-pub take_back-requires : goal.take_back-requires
-take_back-requires g c =
-    let old = c.self.inside.parts in
-    let held = c.args.held.now in
-    let d = c.put_all-put.new.catalog in
-    let groups = c.as_slice-came.result.now in
-    let count = c.in-Ok.came.count in
-    let w = went_in old c.args.self.now c.self.view_is held c.requires.suit d count c.in-Ok.came.groups.items groups
-    c.as_slice-came.ensures.value cells_stay c.laws.ensures c.laws-2.ensures
-    c.put_all-put.ensures.learned c.in-Ok.ensures.put in
-    let went : WentInAll (kept_in old).store held c.take_groups.new.parts.catalog.relations = record {
-      suits = w.suit;
-      counted = catalog_counted old.catalog c.laws.ensures;
-      are = ap (λ (x : Catalog). x.relations) c.take_groups.ensures.catalog ∙ w.put.relations;
-    } in
-    ((kept_in old).store, went)
-
-pub give_up-requires-in-Err-take_groups : goal.give_up-requires-in-Err-take_groups
-give_up-requires-in-Err-take_groups g c =
-    let old = c.self.inside.parts in
-    let s = c.self.invariant.0 in
-    let held = c.args.held.now in
-    let d = c.put_all-put.new.catalog in
-    let groups = c.as_slice-came.result.now in
-    let count = c.in-Ok.came.count in
-    let w = went_in old c.args.self.now c.self.view_is held c.requires.suit d count c.in-Ok.came.groups.items groups
-    c.as_slice-came.ensures.value cells_stay c.laws.ensures c.laws-2.ensures
-    c.put_all-put.ensures.learned c.in-Ok.ensures.put in
-    let some : count ≡ 0 → ⊥ = λ e. omega (arith, e, c.if-count-eq0.false) in
-    let went : WentInAll (kept_in old).store held c.take_groups.new.parts.catalog.relations = record {
-      suits = w.suit;
-      counted = catalog_counted old.catalog c.laws.ensures;
-      are = ap (λ (x : Catalog). x.relations) c.take_groups.ensures.catalog ∙ w.put.relations;
-    } in
     let t = c.self.invariant.1 in
-    let live = live_stays in
-    let after = c.take_back.new.catalog in
-    let mid : Parts = record c.take_groups.new.parts { catalog = after } in
-    let places = reached old.readers.items groups in
-    let start = start_here old s held d groups count w in
-    let begin = begun old s held d groups count w some in
-    let same = c.take_back.ensures.texts ∙ ap (λ (x : Catalog). x.texts) c.take_groups.ensures.catalog in
-    let k = lacks_groups old s held start d groups count begin c.take_groups.new.parts
-    c.in-Err-take_groups.ensures.given c.take_groups.ensures.rest
-    (leads_here old s held d groups count w live some)
-    live after c.laws-in-Err-take_groups.ensures (c.take_back.ensures.back (kept_in old).store went) same
-    w.more w.texts in
-    record {
-      readers = lacks_readers old mid s t held places k;
-      logged = lacks_logged old mid s t held places k;
-      found = lacks_found old mid s t held places k w.suit;
-    }
+    let lines = c.args.held.now.lines in
+    let suit : SuitAll (kept_in old).store lines =
+    subst (λ (x : Kept). SuitAll x.store lines) (sym c.self.view_is) c.requires in
+    let found = all_found (kept_in old).store lines suit in
+    let d = c.judge_done-judged.new.catalog in
+    let rel = c.judge_done-judged.ensures.relations in
+    let after = after_more texts_stay old.catalog.texts lines in
+    let texts = c.in-Ok.ensures.ok.0 ∙ after.1 in
+    let j : IsJudged d.relations d.texts lines c.in-Ok.net =
+    subst (λ (rs : List Relation). IsJudged rs d.texts lines c.in-Ok.net) (sym rel) c.in-Ok.ensures.ok.1 in
+    let over : Parts = record old { catalog = d } in
+    let come = come_of over lines in
+    let gone = gone_of over lines in
+    rests_whole old s t d (same_rows old.catalog d c.laws-2.ensures rel after.0 texts)
+    (ap (λ (rs : List Relation). length rs) rel) (λ r. ap (λ (rs : List Relation). (relation_at rs r).name) rel)
+    live_stays showable_stays
 
-pub invariant_of-self-in-Err-take_groups : goal.invariant_of-self-in-Err-take_groups
-invariant_of-self-in-Err-take_groups g c =
+pub carry_out-requires-clause-tended : goal.carry_out-requires-clause-tended
+carry_out-requires-clause-tended g c =
     let old = c.self.inside.parts in
     let s = c.self.invariant.0 in
-    let held = c.args.held.now in
-    let d = c.put_all-put.new.catalog in
-    let groups = c.as_slice-came.result.now in
-    let count = c.in-Ok.came.count in
-    let w = went_in old c.args.self.now c.self.view_is held c.requires.suit d count c.in-Ok.came.groups.items groups
-    c.as_slice-came.ensures.value cells_stay c.laws.ensures c.laws-2.ensures
-    c.put_all-put.ensures.learned c.in-Ok.ensures.put in
-    let some : count ≡ 0 → ⊥ = λ e. omega (arith, e, c.if-count-eq0.false) in
-    let went : WentInAll (kept_in old).store held c.take_groups.new.parts.catalog.relations = record {
-      suits = w.suit;
-      counted = catalog_counted old.catalog c.laws.ensures;
-      are = ap (λ (x : Catalog). x.relations) c.take_groups.ensures.catalog ∙ w.put.relations;
-    } in
     let t = c.self.invariant.1 in
-    let live = live_stays in
-    let after = c.take_back.new.catalog in
-    let mid : Parts = record c.take_groups.new.parts { catalog = after } in
-    let places = reached old.readers.items groups in
-    let start = start_here old s held d groups count w in
-    let begin = begun old s held d groups count w some in
-    let same = c.take_back.ensures.texts ∙ ap (λ (x : Catalog). x.texts) c.take_groups.ensures.catalog in
-    let k = lacks_groups old s held start d groups count begin c.take_groups.new.parts
-    c.in-Err-take_groups.ensures.given c.take_groups.ensures.rest
-    (leads_here old s held d groups count w live some)
-    live after c.laws-in-Err-take_groups.ensures (c.take_back.ensures.back (kept_in old).store went) same
-    w.more w.texts in
-    let new = c.give_up-in-Err-take_groups.new.parts in
-    let gives = c.give_up-in-Err-take_groups.ensures in (
-      lacks_whole old mid s t held places k new gives,
-      lacks_tended old mid s t held places k new gives showable_stays,
+    let lines = c.args.held.now.lines in
+    let suit : SuitAll (kept_in old).store lines =
+    subst (λ (x : Kept). SuitAll x.store lines) (sym c.self.view_is) c.requires in
+    let found = all_found (kept_in old).store lines suit in
+    let d = c.judge_done-judged.new.catalog in
+    let rel = c.judge_done-judged.ensures.relations in
+    let after = after_more texts_stay old.catalog.texts lines in
+    let texts = c.in-Ok.ensures.ok.0 ∙ after.1 in
+    let j : IsJudged d.relations d.texts lines c.in-Ok.net =
+    subst (λ (rs : List Relation). IsJudged rs d.texts lines c.in-Ok.net) (sym rel) c.in-Ok.ensures.ok.1 in
+    let over : Parts = record old { catalog = d } in
+    let come = come_of over lines in
+    let gone = gone_of over lines in
+    rests_tended old s t d (same_rows old.catalog d c.laws-2.ensures rel after.0 texts)
+    (ap (λ (rs : List Relation). length rs) rel) (λ r. ap (λ (rs : List Relation). (relation_at rs r).name) rel)
+    live_stays showable_stays
+
+pub carry_out-requires-clause-found : goal.carry_out-requires-clause-found
+carry_out-requires-clause-found g c =
+    let old = c.self.inside.parts in
+    let s = c.self.invariant.0 in
+    let t = c.self.invariant.1 in
+    let lines = c.args.held.now.lines in
+    let suit : SuitAll (kept_in old).store lines =
+    subst (λ (x : Kept). SuitAll x.store lines) (sym c.self.view_is) c.requires in
+    let found = all_found (kept_in old).store lines suit in
+    let d = c.judge_done-judged.new.catalog in
+    let rel = c.judge_done-judged.ensures.relations in
+    let after = after_more texts_stay old.catalog.texts lines in
+    let texts = c.in-Ok.ensures.ok.0 ∙ after.1 in
+    let j : IsJudged d.relations d.texts lines c.in-Ok.net =
+    subst (λ (rs : List Relation). IsJudged rs d.texts lines c.in-Ok.net) (sym rel) c.in-Ok.ensures.ok.1 in
+    let over : Parts = record old { catalog = d } in
+    let come = come_of over lines in
+    let gone = gone_of over lines in
+    subst (λ (rs : List Relation). All (λ h. IsSome (relation_of rs h.relation)) lines) (sym rel) found
+
+pub carry_out-requires-clause-judged : goal.carry_out-requires-clause-judged
+carry_out-requires-clause-judged g c =
+    let old = c.self.inside.parts in
+    let s = c.self.invariant.0 in
+    let t = c.self.invariant.1 in
+    let lines = c.args.held.now.lines in
+    let suit : SuitAll (kept_in old).store lines =
+    subst (λ (x : Kept). SuitAll x.store lines) (sym c.self.view_is) c.requires in
+    let found = all_found (kept_in old).store lines suit in
+    let d = c.judge_done-judged.new.catalog in
+    let rel = c.judge_done-judged.ensures.relations in
+    let after = after_more texts_stay old.catalog.texts lines in
+    let texts = c.in-Ok.ensures.ok.0 ∙ after.1 in
+    let j : IsJudged d.relations d.texts lines c.in-Ok.net =
+    subst (λ (rs : List Relation). IsJudged rs d.texts lines c.in-Ok.net) (sym rel) c.in-Ok.ensures.ok.1 in
+    let over : Parts = record old { catalog = d } in
+    let come = come_of over lines in
+    let gone = gone_of over lines in
+    j
+
+pub give_up-requires-clause-readers : goal.give_up-requires-clause-readers
+give_up-requires-clause-readers g c =
+    let old = c.self.inside.parts in
+    let s = c.self.invariant.0 in
+    let t = c.self.invariant.1 in
+    let lines = c.args.held.now.lines in
+    let suit : SuitAll (kept_in old).store lines =
+    subst (λ (x : Kept). SuitAll x.store lines) (sym c.self.view_is) c.requires in
+    let found = all_found (kept_in old).store lines suit in
+    let d = c.judge_done-judged.new.catalog in
+    let rel = c.judge_done-judged.ensures.relations in
+    let after = after_more texts_stay old.catalog.texts lines in
+    let texts = c.in-Ok.ensures.ok.0 ∙ after.1 in
+    let j : IsJudged d.relations d.texts lines c.in-Ok.net =
+    subst (λ (rs : List Relation). IsJudged rs d.texts lines c.in-Ok.net) (sym rel) c.in-Ok.ensures.ok.1 in
+    let over : Parts = record old { catalog = d } in
+    let come = come_of over lines in
+    let gone = gone_of over lines in
+    let mid = c.carry_out.new.parts in
+    let places = places_changed old come gone in
+    let k = lacks_left old mid s lines d c.laws-2.ensures rel after.0 texts live_stays come gone
+    c.in-Err-carry_out.ensures.err c.carry_out.ensures.rest
+    (touched_reads old s lines d c.laws-2.ensures rel after.0 texts live_stays found c.in-Ok.net j) in
+    lacks_readers old mid s t lines places k
+
+pub give_up-requires-clause-logged : goal.give_up-requires-clause-logged
+give_up-requires-clause-logged g c =
+    let old = c.self.inside.parts in
+    let s = c.self.invariant.0 in
+    let t = c.self.invariant.1 in
+    let lines = c.args.held.now.lines in
+    let suit : SuitAll (kept_in old).store lines =
+    subst (λ (x : Kept). SuitAll x.store lines) (sym c.self.view_is) c.requires in
+    let found = all_found (kept_in old).store lines suit in
+    let d = c.judge_done-judged.new.catalog in
+    let rel = c.judge_done-judged.ensures.relations in
+    let after = after_more texts_stay old.catalog.texts lines in
+    let texts = c.in-Ok.ensures.ok.0 ∙ after.1 in
+    let j : IsJudged d.relations d.texts lines c.in-Ok.net =
+    subst (λ (rs : List Relation). IsJudged rs d.texts lines c.in-Ok.net) (sym rel) c.in-Ok.ensures.ok.1 in
+    let over : Parts = record old { catalog = d } in
+    let come = come_of over lines in
+    let gone = gone_of over lines in
+    let mid = c.carry_out.new.parts in
+    let places = places_changed old come gone in
+    let k = lacks_left old mid s lines d c.laws-2.ensures rel after.0 texts live_stays come gone
+    c.in-Err-carry_out.ensures.err c.carry_out.ensures.rest
+    (touched_reads old s lines d c.laws-2.ensures rel after.0 texts live_stays found c.in-Ok.net j) in
+    lacks_logged old mid s t lines places k
+
+pub give_up-requires-clause-found : goal.give_up-requires-clause-found
+give_up-requires-clause-found g c =
+    let old = c.self.inside.parts in
+    let s = c.self.invariant.0 in
+    let t = c.self.invariant.1 in
+    let lines = c.args.held.now.lines in
+    let suit : SuitAll (kept_in old).store lines =
+    subst (λ (x : Kept). SuitAll x.store lines) (sym c.self.view_is) c.requires in
+    let found = all_found (kept_in old).store lines suit in
+    let d = c.judge_done-judged.new.catalog in
+    let rel = c.judge_done-judged.ensures.relations in
+    let after = after_more texts_stay old.catalog.texts lines in
+    let texts = c.in-Ok.ensures.ok.0 ∙ after.1 in
+    let j : IsJudged d.relations d.texts lines c.in-Ok.net =
+    subst (λ (rs : List Relation). IsJudged rs d.texts lines c.in-Ok.net) (sym rel) c.in-Ok.ensures.ok.1 in
+    let over : Parts = record old { catalog = d } in
+    let come = come_of over lines in
+    let gone = gone_of over lines in
+    let mid = c.carry_out.new.parts in
+    let places = places_changed old come gone in
+    let k = lacks_left old mid s lines d c.laws-2.ensures rel after.0 texts live_stays come gone
+    c.in-Err-carry_out.ensures.err c.carry_out.ensures.rest
+    (touched_reads old s lines d c.laws-2.ensures rel after.0 texts live_stays found c.in-Ok.net j) in
+    lacks_found old mid s t lines places k suit
+
+pub invariant_of-self-in-Err-carry_out : goal.invariant_of-self-in-Err-carry_out
+invariant_of-self-in-Err-carry_out g c =
+    let old = c.self.inside.parts in
+    let s = c.self.invariant.0 in
+    let t = c.self.invariant.1 in
+    let lines = c.args.held.now.lines in
+    let suit : SuitAll (kept_in old).store lines =
+    subst (λ (x : Kept). SuitAll x.store lines) (sym c.self.view_is) c.requires in
+    let found = all_found (kept_in old).store lines suit in
+    let d = c.judge_done-judged.new.catalog in
+    let rel = c.judge_done-judged.ensures.relations in
+    let after = after_more texts_stay old.catalog.texts lines in
+    let texts = c.in-Ok.ensures.ok.0 ∙ after.1 in
+    let j : IsJudged d.relations d.texts lines c.in-Ok.net =
+    subst (λ (rs : List Relation). IsJudged rs d.texts lines c.in-Ok.net) (sym rel) c.in-Ok.ensures.ok.1 in
+    let over : Parts = record old { catalog = d } in
+    let come = come_of over lines in
+    let gone = gone_of over lines in
+    let mid = c.carry_out.new.parts in
+    let places = places_changed old come gone in
+    let k = lacks_left old mid s lines d c.laws-2.ensures rel after.0 texts live_stays come gone
+    c.in-Err-carry_out.ensures.err c.carry_out.ensures.rest
+    (touched_reads old s lines d c.laws-2.ensures rel after.0 texts live_stays found c.in-Ok.net j) in
+    let new = c.give_up.new.parts in
+    let g' = c.give_up.ensures in (
+      lacks_whole old mid new s t lines places k g',
+      lacks_tended old mid new s t lines places k g' showable_stays,
     )
 
-pub returns-in-Err-take_groups : goal.returns-in-Err-take_groups
-returns-in-Err-take_groups g c =
+pub returns-in-Err-carry_out : goal.returns-in-Err-carry_out
+returns-in-Err-carry_out g c =
     let old = c.self.inside.parts in
     let s = c.self.invariant.0 in
-    let held = c.args.held.now in
-    let d = c.put_all-put.new.catalog in
-    let groups = c.as_slice-came.result.now in
-    let count = c.in-Ok.came.count in
-    let w = went_in old c.args.self.now c.self.view_is held c.requires.suit d count c.in-Ok.came.groups.items groups
-    c.as_slice-came.ensures.value cells_stay c.laws.ensures c.laws-2.ensures
-    c.put_all-put.ensures.learned c.in-Ok.ensures.put in
-    let some : count ≡ 0 → ⊥ = λ e. omega (arith, e, c.if-count-eq0.false) in
-    let went : WentInAll (kept_in old).store held c.take_groups.new.parts.catalog.relations = record {
-      suits = w.suit;
-      counted = catalog_counted old.catalog c.laws.ensures;
-      are = ap (λ (x : Catalog). x.relations) c.take_groups.ensures.catalog ∙ w.put.relations;
-    } in
     let t = c.self.invariant.1 in
-    let live = live_stays in
-    let after = c.take_back.new.catalog in
-    let mid : Parts = record c.take_groups.new.parts { catalog = after } in
-    let places = reached old.readers.items groups in
-    let start = start_here old s held d groups count w in
-    let begin = begun old s held d groups count w some in
-    let same = c.take_back.ensures.texts ∙ ap (λ (x : Catalog). x.texts) c.take_groups.ensures.catalog in
-    let k = lacks_groups old s held start d groups count begin c.take_groups.new.parts
-    c.in-Err-take_groups.ensures.given c.take_groups.ensures.rest
-    (leads_here old s held d groups count w live some)
-    live after c.laws-in-Err-take_groups.ensures (c.take_back.ensures.back (kept_in old).store went) same
-    w.more w.texts in
-    let new = c.give_up-in-Err-take_groups.new.parts in
-    let gives = c.give_up-in-Err-take_groups.ensures in
-    let few = came_few (kept_in old).store held in
-    let size = w.put.size in
-    let counted = w.put.count in
-    let fits : rows_of_groups groups ≤ length held = omega (arith, few, size, counted) in
+    let lines = c.args.held.now.lines in
+    let suit : SuitAll (kept_in old).store lines =
+    subst (λ (x : Kept). SuitAll x.store lines) (sym c.self.view_is) c.requires in
+    let found = all_found (kept_in old).store lines suit in
+    let d = c.judge_done-judged.new.catalog in
+    let rel = c.judge_done-judged.ensures.relations in
+    let after = after_more texts_stay old.catalog.texts lines in
+    let texts = c.in-Ok.ensures.ok.0 ∙ after.1 in
+    let j : IsJudged d.relations d.texts lines c.in-Ok.net =
+    subst (λ (rs : List Relation). IsJudged rs d.texts lines c.in-Ok.net) (sym rel) c.in-Ok.ensures.ok.1 in
+    let over : Parts = record old { catalog = d } in
+    let come = come_of over lines in
+    let gone = gone_of over lines in
+    let mid = c.carry_out.new.parts in
+    let places = places_changed old come gone in
+    let k = lacks_left old mid s lines d c.laws-2.ensures rel after.0 texts live_stays come gone
+    c.in-Err-carry_out.ensures.err c.carry_out.ensures.rest
+    (touched_reads old s lines d c.laws-2.ensures rel after.0 texts live_stays found c.in-Ok.net j) in
+    let new = c.give_up.new.parts in
+    let g' = c.give_up.ensures in
+    let are = groups_of old s lines d c.laws-2.ensures rel after.0 texts live_stays found c.in-Ok.net j in
     rw (← c.self.view_is) (record {
-      adds = lacks_refuses old mid s t held places k new gives
-          (lacks_last (kept_in old).store held d count groups w.put some after.texts same);
-      outdates = lacks_cursors old mid s t held places k new gives;
-      watches = lacks_registered old mid s t held places k new gives;
-      tells = lacks_tells old mid s t held places k new gives showable_stays
-          (have deltas_exist heads_are_bound old s (with_all (kept_in old).store held).relations)
-          c.args.steps.now.listing c.take_groups.new.steps.listing
-          (lacks_counts old s held start d groups count begin live c.args.steps.now.listing
-          c.take_groups.new.steps.listing c.take_groups.ensures.counted);
-      unlisted = λ none. c.take_groups.ensures.unlisted
-          (unwatched_reached old s none groups (came_within old s held d groups count w));
-      updates = record {
-        counted = counts_all old s held start d groups count begin leaves_are_small fits (length held + 2)
-            times_back (rows_each groups (length held) fits) c.args.steps.now.update c.take_groups.new.steps.update
-            c.in-Err-take_groups.ensures.refusal;
+      does = record {
+        answer = c.in-Ok.ensures.answer;
+        does = (
+          ap (λ (x : Catalog). x.texts) g'.catalog ∙ c.in-Err-carry_out.ensures.err.texts ∙ c.in-Ok.ensures.ok.0,
+          lacks_store old mid new s t lines places k g',
+        );
+        counted = catalogs_have_copies old.catalog lines c.laws.ensures;
       };
-      places = lacks_places old mid s t held places k new gives;
+      outdates = lacks_cursors old mid new s t lines places k g';
+      relations = tt;
+      spares = lines_spare_others old.catalog lines c.laws.ensures;
+      watches = lacks_registered old mid new s t lines places k g';
+      tells = lacks_tells old mid new s t lines places k g' showable_stays
+          (have_delta deltas_exist heads_are_bound old s (relations_between old.catalog.relations lines))
+          c.args.steps.now.listing c.carry_out.new.steps.listing
+          (counts_inserts old s lines found come gone are changed_is_either leaves_are_small d rel
+          c.args.steps.now.listing c.carry_out.new.steps.listing c.in-Err-carry_out.ensures.refused);
+      unlisted = c.carry_out.ensures.unlisted;
+      updates = counts_refused old s lines found come gone are changed_is_either leaves_are_small
+          c.args.steps.now.update c.carry_out.new.steps.update c.in-Err-carry_out.ensures.refusal;
+      places = lacks_places old mid new s t lines places k g';
     })
 
-pub overflow_add-self : goal.overflow_add-self
-overflow_add-self g c =
+pub settle-requires-clause-come : goal.settle-requires-clause-come
+settle-requires-clause-come g c =
     let old = c.self.inside.parts in
     let s = c.self.invariant.0 in
-    let held = c.args.held.now in
-    let d = c.put_all-put.new.catalog in
-    let groups = c.as_slice-came.result.now in
-    let count = c.in-Ok.came.count in
-    let w = went_in old c.args.self.now c.self.view_is held c.requires.suit d count c.in-Ok.came.groups.items groups
-    c.as_slice-came.ensures.value cells_stay c.laws.ensures c.laws-2.ensures
-    c.put_all-put.ensures.learned c.in-Ok.ensures.put in
-    let some : count ≡ 0 → ⊥ = λ e. omega (arith, e, c.if-count-eq0.false) in
-    let low = came_seq old s held d groups count w some in
-    omega (arith, low, c.take_groups.ensures.rest.seq)
+    let t = c.self.invariant.1 in
+    let lines = c.args.held.now.lines in
+    let suit : SuitAll (kept_in old).store lines =
+    subst (λ (x : Kept). SuitAll x.store lines) (sym c.self.view_is) c.requires in
+    let found = all_found (kept_in old).store lines suit in
+    let d = c.judge_done-judged.new.catalog in
+    let rel = c.judge_done-judged.ensures.relations in
+    let after = after_more texts_stay old.catalog.texts lines in
+    let texts = c.in-Ok.ensures.ok.0 ∙ after.1 in
+    let j : IsJudged d.relations d.texts lines c.in-Ok.net =
+    subst (λ (rs : List Relation). IsJudged rs d.texts lines c.in-Ok.net) (sym rel) c.in-Ok.ensures.ok.1 in
+    let over : Parts = record old { catalog = d } in
+    let come = come_of over lines in
+    let gone = gone_of over lines in
+    let mid = c.carry_out.new.parts in
+    let carried = c.in-Ok-carry_out.carried in
+    let x = c.in-Ok-carry_out.ensures.ok in
+    let rest = c.carry_out.ensures.rest in
+    (groups_within old s lines d c.laws-2.ensures rel after.0 texts live_stays found c.in-Ok.net j mid x rest
+    carried.groups
+    c.in-Ok-carry_out.ensures.grouped).0
 
-pub affect_reached-requires-clause-within : goal.affect_reached-requires-clause-within
-affect_reached-requires-clause-within g c =
+pub settle-requires-clause-gone : goal.settle-requires-clause-gone
+settle-requires-clause-gone g c =
     let old = c.self.inside.parts in
     let s = c.self.invariant.0 in
-    let held = c.args.held.now in
-    let d = c.put_all-put.new.catalog in
-    let groups = c.as_slice-came.result.now in
-    let count = c.in-Ok.came.count in
-    let w = went_in old c.args.self.now c.self.view_is held c.requires.suit d count c.in-Ok.came.groups.items groups
-    c.as_slice-came.ensures.value cells_stay c.laws.ensures c.laws-2.ensures
-    c.put_all-put.ensures.learned c.in-Ok.ensures.put in
-    came_here old s held d groups count w c.take_groups.new.parts.readers.items c.take_groups.ensures.rest.readers
+    let t = c.self.invariant.1 in
+    let lines = c.args.held.now.lines in
+    let suit : SuitAll (kept_in old).store lines =
+    subst (λ (x : Kept). SuitAll x.store lines) (sym c.self.view_is) c.requires in
+    let found = all_found (kept_in old).store lines suit in
+    let d = c.judge_done-judged.new.catalog in
+    let rel = c.judge_done-judged.ensures.relations in
+    let after = after_more texts_stay old.catalog.texts lines in
+    let texts = c.in-Ok.ensures.ok.0 ∙ after.1 in
+    let j : IsJudged d.relations d.texts lines c.in-Ok.net =
+    subst (λ (rs : List Relation). IsJudged rs d.texts lines c.in-Ok.net) (sym rel) c.in-Ok.ensures.ok.1 in
+    let over : Parts = record old { catalog = d } in
+    let come = come_of over lines in
+    let gone = gone_of over lines in
+    let mid = c.carry_out.new.parts in
+    let carried = c.in-Ok-carry_out.carried in
+    let x = c.in-Ok-carry_out.ensures.ok in
+    let rest = c.carry_out.ensures.rest in
+    (groups_within old s lines d c.laws-2.ensures rel after.0 texts live_stays found c.in-Ok.net j mid x rest
+    carried.groups
+    c.in-Ok-carry_out.ensures.grouped).1
 
-pub outdate_came-requires : goal.outdate_came-requires
-outdate_came-requires g c =
+pub settle-requires-clause-readers : goal.settle-requires-clause-readers
+settle-requires-clause-readers g c =
     let old = c.self.inside.parts in
     let s = c.self.invariant.0 in
-    let held = c.args.held.now in
-    let d = c.put_all-put.new.catalog in
-    let groups = c.as_slice-came.result.now in
-    let count = c.in-Ok.came.count in
-    let w = went_in old c.args.self.now c.self.view_is held c.requires.suit d count c.in-Ok.came.groups.items groups
-    c.as_slice-came.ensures.value cells_stay c.laws.ensures c.laws-2.ensures
-    c.put_all-put.ensures.learned c.in-Ok.ensures.put in
-    let some : count ≡ 0 → ⊥ = λ e. omega (arith, e, c.if-count-eq0.false) in
-    let live = live_stays in
-    let mid = c.take_groups.new.parts in
-    let rest = c.take_groups.ensures.rest in
-    let taken = c.in-Ok-take_groups.ensures.taken in
-    let is = c.take_groups.ensures.catalog in
-    record {
-      readers = came_readers old s held d groups count w live some mid taken is rest.readers;
-      found = All-take (λ (h : HeldRow). IsSome (relation_of (mid.catalog).relations h.relation)) c.in-Ok.came.first
-          held (came_found old s held d groups count w mid.catalog is);
-      tested = (has_come (kept_in old).store held, came_tested old s held d groups count w mid.catalog is);
-    }
+    let t = c.self.invariant.1 in
+    let lines = c.args.held.now.lines in
+    let suit : SuitAll (kept_in old).store lines =
+    subst (λ (x : Kept). SuitAll x.store lines) (sym c.self.view_is) c.requires in
+    let found = all_found (kept_in old).store lines suit in
+    let d = c.judge_done-judged.new.catalog in
+    let rel = c.judge_done-judged.ensures.relations in
+    let after = after_more texts_stay old.catalog.texts lines in
+    let texts = c.in-Ok.ensures.ok.0 ∙ after.1 in
+    let j : IsJudged d.relations d.texts lines c.in-Ok.net =
+    subst (λ (rs : List Relation). IsJudged rs d.texts lines c.in-Ok.net) (sym rel) c.in-Ok.ensures.ok.1 in
+    let over : Parts = record old { catalog = d } in
+    let come = come_of over lines in
+    let gone = gone_of over lines in
+    let mid = c.carry_out.new.parts in
+    let carried = c.in-Ok-carry_out.carried in
+    let x = c.in-Ok-carry_out.ensures.ok in
+    let rest = c.carry_out.ensures.rest in
+    readers_after old s lines d c.laws-2.ensures rel after.0 texts live_stays found c.in-Ok.net j mid x rest
+
+pub settle-requires-clause-found : goal.settle-requires-clause-found
+settle-requires-clause-found g c =
+    let old = c.self.inside.parts in
+    let s = c.self.invariant.0 in
+    let t = c.self.invariant.1 in
+    let lines = c.args.held.now.lines in
+    let suit : SuitAll (kept_in old).store lines =
+    subst (λ (x : Kept). SuitAll x.store lines) (sym c.self.view_is) c.requires in
+    let found = all_found (kept_in old).store lines suit in
+    let d = c.judge_done-judged.new.catalog in
+    let rel = c.judge_done-judged.ensures.relations in
+    let after = after_more texts_stay old.catalog.texts lines in
+    let texts = c.in-Ok.ensures.ok.0 ∙ after.1 in
+    let j : IsJudged d.relations d.texts lines c.in-Ok.net =
+    subst (λ (rs : List Relation). IsJudged rs d.texts lines c.in-Ok.net) (sym rel) c.in-Ok.ensures.ok.1 in
+    let over : Parts = record old { catalog = d } in
+    let come = come_of over lines in
+    let gone = gone_of over lines in
+    let mid = c.carry_out.new.parts in
+    let carried = c.in-Ok-carry_out.carried in
+    let x = c.in-Ok-carry_out.ensures.ok in
+    let rest = c.carry_out.ensures.rest in
+    names_found old s lines d c.laws-2.ensures rel after.0 texts live_stays found c.in-Ok.net j mid x rest
+    c.as_slice.result.now (c.as_slice.ensures.value ∙ c.in-Ok-carry_out.ensures.names)
 
 pub invariant_of-self-2 : goal.invariant_of-self-2
 invariant_of-self-2 g c =
     let old = c.self.inside.parts in
     let s = c.self.invariant.0 in
-    let held = c.args.held.now in
-    let d = c.put_all-put.new.catalog in
-    let groups = c.as_slice-came.result.now in
-    let count = c.in-Ok.came.count in
-    let w = went_in old c.args.self.now c.self.view_is held c.requires.suit d count c.in-Ok.came.groups.items groups
-    c.as_slice-came.ensures.value cells_stay c.laws.ensures c.laws-2.ensures
-    c.put_all-put.ensures.learned c.in-Ok.ensures.put in
-    let some : count ≡ 0 → ⊥ = λ e. omega (arith, e, c.if-count-eq0.false) in
-    let live = live_stays in
-    let mid = c.take_groups.new.parts in
-    let rest = c.take_groups.ensures.rest in
-    let taken = c.in-Ok-take_groups.ensures.taken in
-    let is = c.take_groups.ensures.catalog in
     let t = c.self.invariant.1 in
-    let law = showable_stays in
-    let start = start_here old s held d groups count w in
-    let filled = filled_mid old s held d groups count w live some mid taken is in
-    let takes = came_takes old s held d groups count w live some mid taken is in
-    let new : Parts = record mid
-    { seq = mid.seq + 1; affected = c.affect_reached.new.affected; queries = c.outdate_came.new.queries } in
-    let x : Settles old held groups mid new = record {
-      ages = ages_first (kept_in old).store held c.in-Ok.came.first
-          (c.in-Ok.ensures.first (kept_in old).store (agrees old)) (mid.seq + 1) mid.queries.items
-          c.outdate_came.new.queries.items
-          (c.outdate_came.ensures (has_come (kept_in old).store held)
-          (came_tested old s held d groups count w mid.catalog is));
-      catalog = refl;
-      logs = refl;
-      readers = rest.readers;
-      order = rest.order;
-      watchers = rest.watchers;
-      seq = ap (λ (n : ℕ). n + 1) rest.seq;
-      affected = c.affect_reached.ensures.items
-          ∙ ap (λ (rs : List (List ℕ)). filter (is_reader (reached rs groups)) c.as_slice-order.result.now)
-          rest.readers
-          ∙ ap (λ (xs : List ℕ). filter (is_reader (reached old.readers.items groups)) xs)
-          (c.as_slice-order.ensures ∙ rest.order);
-      room = omega (arith, t.room, rest.room, c.affect_reached.ensures.room);
-    } in (
-      taken_whole old mid new s t held start groups count filled takes x live law,
-      taken_tended old mid new s t held start groups count filled takes x live law,
+    let lines = c.args.held.now.lines in
+    let suit : SuitAll (kept_in old).store lines =
+    subst (λ (x : Kept). SuitAll x.store lines) (sym c.self.view_is) c.requires in
+    let found = all_found (kept_in old).store lines suit in
+    let d = c.judge_done-judged.new.catalog in
+    let rel = c.judge_done-judged.ensures.relations in
+    let after = after_more texts_stay old.catalog.texts lines in
+    let texts = c.in-Ok.ensures.ok.0 ∙ after.1 in
+    let j : IsJudged d.relations d.texts lines c.in-Ok.net =
+    subst (λ (rs : List Relation). IsJudged rs d.texts lines c.in-Ok.net) (sym rel) c.in-Ok.ensures.ok.1 in
+    let over : Parts = record old { catalog = d } in
+    let come = come_of over lines in
+    let gone = gone_of over lines in
+    let mid = c.carry_out.new.parts in
+    let carried = c.in-Ok-carry_out.carried in
+    let x = c.in-Ok-carry_out.ensures.ok in
+    let rest = c.carry_out.ensures.rest in
+    let new = c.settle.new.parts in
+    let k = lines_change_of old s lines d c.laws-2.ensures rel after.0 texts live_stays found c.in-Ok.net j mid x
+    rest in
+    let y = settles_of old s lines d c.laws-2.ensures rel after.0 texts live_stays found c.in-Ok.net j mid x rest new
+    c.as_slice.result.now carried.groups (c.as_slice.ensures.value ∙ c.in-Ok-carry_out.ensures.names)
+    c.in-Ok-carry_out.ensures.grouped c.settle.ensures in (
+      carried_whole old mid new s t lines d.texts k y showable_stays,
+      carried_tended old mid new s t lines d.texts k y showable_stays,
     )
 
 pub returns : goal.returns
 returns g c =
     let old = c.self.inside.parts in
     let s = c.self.invariant.0 in
-    let held = c.args.held.now in
-    let d = c.put_all-put.new.catalog in
-    let groups = c.as_slice-came.result.now in
-    let count = c.in-Ok.came.count in
-    let w = went_in old c.args.self.now c.self.view_is held c.requires.suit d count c.in-Ok.came.groups.items groups
-    c.as_slice-came.ensures.value cells_stay c.laws.ensures c.laws-2.ensures
-    c.put_all-put.ensures.learned c.in-Ok.ensures.put in
-    let some : count ≡ 0 → ⊥ = λ e. omega (arith, e, c.if-count-eq0.false) in
-    let live = live_stays in
-    let mid = c.take_groups.new.parts in
-    let rest = c.take_groups.ensures.rest in
-    let taken = c.in-Ok-take_groups.ensures.taken in
-    let is = c.take_groups.ensures.catalog in
     let t = c.self.invariant.1 in
-    let law = showable_stays in
-    let start = start_here old s held d groups count w in
-    let filled = filled_mid old s held d groups count w live some mid taken is in
-    let takes = came_takes old s held d groups count w live some mid taken is in
-    let new : Parts = record mid
-    { seq = mid.seq + 1; affected = c.affect_reached.new.affected; queries = c.outdate_came.new.queries } in
-    let x : Settles old held groups mid new = record {
-      ages = ages_first (kept_in old).store held c.in-Ok.came.first
-          (c.in-Ok.ensures.first (kept_in old).store (agrees old)) (mid.seq + 1) mid.queries.items
-          c.outdate_came.new.queries.items
-          (c.outdate_came.ensures (has_come (kept_in old).store held)
-          (came_tested old s held d groups count w mid.catalog is));
-      catalog = refl;
-      logs = refl;
-      readers = rest.readers;
-      order = rest.order;
-      watchers = rest.watchers;
-      seq = ap (λ (n : ℕ). n + 1) rest.seq;
-      affected = c.affect_reached.ensures.items
-          ∙ ap (λ (rs : List (List ℕ)). filter (is_reader (reached rs groups)) c.as_slice-order.result.now)
-          rest.readers
-          ∙ ap (λ (xs : List ℕ). filter (is_reader (reached old.readers.items groups)) xs)
-          (c.as_slice-order.ensures ∙ rest.order);
-      room = omega (arith, t.room, rest.room, c.affect_reached.ensures.room);
-    } in
-    let few = came_few (kept_in old).store held in
-    let size = w.put.size in
-    let counted = w.put.count in
-    let fits : rows_of_groups groups ≤ length held = omega (arith, few, size, counted) in
-    record {
-      adds = rw (← c.self.view_is) (taken_adds old mid new s t held start groups count filled takes x live law);
-      outdates = subst (λ (k : Kept). Outdates k (tried (batch_outcome k.store held (Ok count))) (kept_in new))
-          c.self.view_is (taken_cursors old mid new s t held start groups count filled takes x live law);
-      watches = rw (← c.self.view_is)
-          (taken_registered old mid new s t held start groups count filled takes x live law);
-      tells = subst (λ (k : Kept). EngineTellsChange k (batch_outcome k.store held (Ok count)) (kept_in new)
-          c.args.steps.now.listing c.take_groups.new.steps.listing) c.self.view_is
-          (taken_tells old mid new s t held start groups count filled takes x live law
-          (have deltas_exist heads_are_bound old s (with_all (kept_in old).store held).relations)
-          c.args.steps.now.listing c.take_groups.new.steps.listing c.take_groups.ensures.counted);
-      unlisted = rw (← c.self.view_is) (λ none. c.take_groups.ensures.unlisted
-          (unwatched_reached old s none groups (came_within old s held d groups count w)));
-      updates = rw (← c.self.view_is) (record {
-        counted = counts_all old s held start mid.catalog groups count filled leaves_are_small fits
-            1 (λ x. 1) (λ k e low. omega arith) c.args.steps.now.update c.take_groups.new.steps.update
-            c.in-Ok-take_groups.ensures.updates;
-      });
-      places = subst (λ (k : Kept). KeepsPlaces (is_tried (tried (batch_outcome k.store held (Ok count)))) k
-          (kept_in new)) c.self.view_is
-          (taken_places old mid new s t held start groups count filled takes x live law);
-    }
+    let lines = c.args.held.now.lines in
+    let suit : SuitAll (kept_in old).store lines =
+    subst (λ (x : Kept). SuitAll x.store lines) (sym c.self.view_is) c.requires in
+    let found = all_found (kept_in old).store lines suit in
+    let d = c.judge_done-judged.new.catalog in
+    let rel = c.judge_done-judged.ensures.relations in
+    let after = after_more texts_stay old.catalog.texts lines in
+    let texts = c.in-Ok.ensures.ok.0 ∙ after.1 in
+    let j : IsJudged d.relations d.texts lines c.in-Ok.net =
+    subst (λ (rs : List Relation). IsJudged rs d.texts lines c.in-Ok.net) (sym rel) c.in-Ok.ensures.ok.1 in
+    let over : Parts = record old { catalog = d } in
+    let come = come_of over lines in
+    let gone = gone_of over lines in
+    let mid = c.carry_out.new.parts in
+    let carried = c.in-Ok-carry_out.carried in
+    let x = c.in-Ok-carry_out.ensures.ok in
+    let rest = c.carry_out.ensures.rest in
+    let new = c.settle.new.parts in
+    let k = lines_change_of old s lines d c.laws-2.ensures rel after.0 texts live_stays found c.in-Ok.net j mid x
+    rest in
+    let y = settles_of old s lines d c.laws-2.ensures rel after.0 texts live_stays found c.in-Ok.net j mid x rest new
+    c.as_slice.result.now carried.groups (c.as_slice.ensures.value ∙ c.in-Ok-carry_out.ensures.names)
+    c.in-Ok-carry_out.ensures.grouped c.settle.ensures in
+    let came : c.count_came.result ≡ length (lines_come old.catalog.relations lines) =
+    c.count_came.ensures old.catalog.relations d.texts c.in-Ok.net.keys.width lines c.in-Ok.ensures.ok.1.rows in
+    let went : c.count_went.result ≡ length (lines_go old.catalog.relations lines) =
+    c.count_went.ensures old.catalog.relations d.texts c.in-Ok.net.keys.width lines c.in-Ok.ensures.ok.1.rows in
+    let are = groups_of old s lines d c.laws-2.ensures rel after.0 texts live_stays found c.in-Ok.net j in
+    let is : c.count_came.result + c.count_went.result ≡ rows_changed old.catalog.relations lines =
+    omega (arith, came, went) in
+    let some = λ (e : c.count_came.result + c.count_went.result ≡ 0). c.if-count-eq0.false e in
+    rw (← c.self.view_is) (record {
+      does = record {
+        answer = c.in-Ok.ensures.answer;
+        does = carried_out old mid new s t lines d.texts k y showable_stays _ some is c.in-Ok.ensures.ok.0;
+        counted = catalogs_have_copies old.catalog lines c.laws.ensures;
+      };
+      outdates = carried_cursors old mid new s t lines d.texts k y showable_stays _ some;
+      relations = c.in-Ok-carry_out.ensures.names ∙ ap (λ (rs : List Relation). changed_relations rs lines) rel;
+      spares = lines_spare_others old.catalog lines c.laws.ensures;
+      watches = carried_registered old mid new s t lines d.texts k y showable_stays;
+      tells = carried_tells old mid new s t lines d.texts k y showable_stays deltas_exist heads_are_bound
+          c.args.steps.now.listing c.carry_out.new.steps.listing
+          (over_texts old s lines d c.laws-2.ensures rel after.0 texts live_stays found c.in-Ok.net j
+          (λ (z : Catalog). CountsHalves lines (come_of (record old { catalog = z }) lines)
+          (gone_of (record old { catalog = z }) lines) (record old { catalog = z }) mid.catalog
+          c.args.steps.now.listing c.carry_out.new.steps.listing) c.in-Ok-carry_out.ensures.counted) _ some;
+      unlisted = c.carry_out.ensures.unlisted;
+      updates = counts_done old s lines found come gone are changed_is_either leaves_are_small lines_spare_others
+          rows_inserted c.laws.ensures d rel _ c.args.steps.now.update c.carry_out.new.steps.update
+          c.in-Ok-carry_out.ensures.updates;
+      places = carried_places old mid new s t lines d.texts k y showable_stays _ some;
+    })

@@ -1,5 +1,5 @@
 -- A relation that is found, of the row's width and types, leaves no condition that refuses.
-use Rattle.djq_store_spec.specs.Batch.{suit_refusal}
+use Rattle.djq_store_spec.specs.Transaction.{suit_refusal}
 use Rattle.djq_engine.specs.Whole.{kept_in}
 use Rattle.djq_engine.proofs.Conditions.{answers_done, suits_pass}
 use Rattle.djq_engine.proofs.engine.Engine.held_ok.Goals as goal

@@ -1,8 +1,7 @@
 -- A tuple is the only one in its slot, so a mark for the slot says something of this tuple alone.
-use Rattle.std.proofs.Common.{◌≡◌, ℕ, ◌<◌, List, length, subst, sym, arith}
-use Rattle.std.specs.Prelude.{◌↔◌, ◌⊎◌}
-use Rattle.djq_gains.specs.Gathered.{Gain, Gathered, GainsDiffer, StandSomewhere, Stand, gains_in, marked_in, marks_at}
-use Rattle.djq_gains.proofs.DeltaTuples.{IsNoted, row_below, noted}
+use Rattle.std.proofs.Common.{◌<◌, List, length, subst, sym, arith}
+use Rattle.djq_gains.specs.Gathered.{Gain, Gathered, GainsDiffer, StandSomewhere, gains_in, marked_in, marks_at}
+use Rattle.djq_gains.proofs.DeltaTuples.{IsNoted, TakesMark, row_below, noted}
 use Rattle.djq_gains.proofs.gains.Gains.note.Goals as goal
 
 pub mark-requires-clause-slot : goal.mark-requires-clause-slot
@@ -12,13 +11,13 @@ mark-requires-clause-slot c =
     omega (arith, c.seat.ensures.room)
 
 is_noted : (c : goal.After-mark) → IsNoted (gains_in c.self.inside.marks.items c.self.inside.tuples.rows)
-    c.args.nth c.as_slice.result.now
-    (marked_in c.in_ok-slot.slot c.args.nth (gains_in c.seat.new.marks.items c.seat.new.tuples.rows))
+    c.args.nth c.args.came c.as_slice.result.now
+    (marked_in c.in_ok-slot.slot c.args.nth c.args.came (gains_in c.seat.new.marks.items c.seat.new.tuples.rows))
 is_noted c =
-    let low : c.args.nth < length (marks_at c.seat.new.marks.items c.in_ok-slot.slot) =
+    let low : c.args.nth < length (marks_at c.seat.new.marks.items c.in_ok-slot.slot).stands =
     omega (arith, c.mark.ensures.eight, c.requires.nth) in
     noted c.self.inside.marks.items c.seat.new.marks.items c.self.inside.tuples.rows
-    c.seat.new.tuples.rows c.in_ok-slot.slot c.args.nth c.as_slice.result.now
+    c.seat.new.tuples.rows c.in_ok-slot.slot c.args.nth c.args.came c.as_slice.result.now
     c.laws.ensures.different c.in_ok-slot.ensures.rows low
     c.self.invariant.1 c.self.invariant.2 c.in_ok-slot.ensures.seated
 
@@ -32,13 +31,11 @@ invariant_of-self-2 c =
     )
 
 pub returns-clause-stand : goal.returns-clause-stand
-returns-clause-stand c k t =
+returns-clause-stand c =
     let new = gains_in c.mark.new.marks.items c.seat.new.tuples.rows in
     let is = sym (c.mark.ensures.marked c.seat.new.tuples.rows) in
     let old = gains_in c.self.inside.marks.items c.self.inside.tuples.rows in
-    subst (λ (u : List ℕ). Stand new k t
-    ↔ (Stand c.args.self.now.gains k t ⊎ ((k ≡ c.args.nth) × (t ≡ u)))) c.as_slice.ensures
-    (subst (λ (a : Gathered). Stand new k t
-    ↔ (Stand a.gains k t ⊎ ((k ≡ c.args.nth) × (t ≡ c.as_slice.result.now)))) c.self.view_is
-    (subst (λ (gs : List Gain). Stand gs k t
-    ↔ (Stand old k t ⊎ ((k ≡ c.args.nth) × (t ≡ c.as_slice.result.now)))) is ((is_noted c).stand k t)))
+    subst (TakesMark c.args.self.now.gains new c.args.nth c.args.came) c.as_slice.ensures
+    (subst (λ (a : Gathered). TakesMark a.gains new c.args.nth c.args.came c.as_slice.result.now) c.self.view_is
+    (subst (λ (gs : List Gain). TakesMark old gs c.args.nth c.args.came c.as_slice.result.now) is
+    (is_noted c).stand))

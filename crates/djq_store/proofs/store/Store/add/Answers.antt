@@ -30,8 +30,8 @@ follow_one-requires g c =
     let mid = c.add-outcome.new.steps.listing in
     record {
       members = members_behind p e' c.self.invariant staying_laws (tried outcome) did;
-      low = turn_low p e' b true outcome turn is from mid a.tells;
-      few = turn_few p e' c.self.invariant true outcome turn is from mid a.tells;
+      low = turn_low p e' b outcome turn is from mid a.tells;
+      few = turn_few p e' c.self.invariant outcome turn is from mid a.tells;
       room = order_few p c.self.invariant;
     }
 
@@ -52,7 +52,7 @@ invariant_of-self g c =
     let mid = c.add-outcome.new.steps.listing in
     let q = c.follow_one.new.parts in
     let to = c.follow_one.new.listing in
-    let comes = turn_comes p q e' true (c.args.name.now ∷ []) outcome turn is from mid to c.self.invariant
+    let comes = turn_comes p q e' (c.args.name.now ∷ []) outcome turn is from mid to c.self.invariant
     staying_laws did a.tells
     (add_known p.engine e' c.args.name.now c.args.row.now r a.adds) c.follow_one.ensures.follows
     c.follow_one.ensures.counted in
@@ -75,7 +75,7 @@ returns g c =
     let mid = c.add-outcome.new.steps.listing in
     let q = c.follow_one.new.parts in
     let to = c.follow_one.new.listing in
-    let comes = turn_comes p q e' true (c.args.name.now ∷ []) outcome turn is from mid to c.self.invariant
+    let comes = turn_comes p q e' (c.args.name.now ∷ []) outcome turn is from mid to c.self.invariant
     staying_laws did a.tells
     (add_known p.engine e' c.args.name.now c.args.row.now r a.adds) c.follow_one.ensures.follows
     c.follow_one.ensures.counted in
