@@ -3,10 +3,10 @@
 
     tests/hostile.py PATH_TO_DJQ
 
-Each input of a table is given to `run` whole and in single bytes, and to `replay` as single bytes of a session; what
-is written and the status are the same each time. Then one read, one write or the listening fails, by real pipes and
-sockets. One line is printed for each test that fails, and last `N passed, N failed`; the status is 0 where none
-failed. It needs Python's standard library alone.
+Each input of a table is given to `run` whole and in single bytes (of a long one the two ends), and to `replay` as single
+bytes of a session; what is written and the status are the same each time. Then one read, one write or the listening
+fails, by real pipes and sockets. One line is printed for each test that fails, and last `N passed, N failed`; the status
+is 0 where none failed. It needs Python's standard library alone.
 """
 
 import fcntl
@@ -16,6 +16,7 @@ import socket
 import struct
 import subprocess
 import sys
+import tempfile
 import termios
 import threading
 import time
@@ -173,21 +174,34 @@ def unread(pipe):
     return struct.unpack("i", fcntl.ioctl(pipe, termios.FIONREAD, bytes(4)))[0]
 
 
+SINGLE = 8192  # as many bytes of each end of a text are written one by one
+
+
+def pieces_of(text):
+    """Single bytes; of a long text, those between its two ends as one piece."""
+    if len(text) <= 2 * SINGLE:
+        return [text[at:at + 1] for at in range(len(text))]
+    return [*pieces_of(text[:SINGLE]), text[SINGLE:-SINGLE], *pieces_of(text[-SINGLE:])]
+
+
 def run_in_single_bytes(text):
-    """Writes each byte once the one before it was read."""
-    program = subprocess.Popen([PROGRAM, "run"], stdin=subprocess.PIPE, stdout=subprocess.PIPE, stderr=subprocess.PIPE)
-    pipe = program.stdin.fileno()
-    until = time.monotonic() + PATIENCE * 3
-    try:
-        for at in range(len(text)):
-            os.write(pipe, text[at:at + 1])
-            while unread(pipe) and program.poll() is None:
-                expect(time.monotonic() < until, True, "the input is read in time")
-    except BrokenPipeError:
-        pass
-    output, errors = program.communicate(timeout=PATIENCE)
-    expect(fits(program.returncode, errors), True, errors)
-    return output, program.returncode
+    """Writes each piece once the one before it was read. The output goes to a file, since a full pipe would stop the program."""
+    with tempfile.TemporaryFile() as output:
+        program = subprocess.Popen([PROGRAM, "run"], stdin=subprocess.PIPE, stdout=output, stderr=subprocess.PIPE)
+        pipe = program.stdin.fileno()
+        until = time.monotonic() + PATIENCE * 3
+        try:
+            for piece in pieces_of(text):
+                while piece:
+                    piece = piece[os.write(pipe, piece):]
+                while unread(pipe) and program.poll() is None:
+                    expect(time.monotonic() < until, True, "the input is read in time")
+        except BrokenPipeError:
+            pass
+        errors = program.communicate(timeout=PATIENCE)[1]
+        expect(fits(program.returncode, errors), True, errors)
+        output.seek(0)
+        return output.read(), program.returncode
 
 
 @test

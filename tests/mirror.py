@@ -91,6 +91,11 @@ def random_schedule(draw):
             is_open = True
         else:
             lines.append(f"say 1 next c {draw.choice([1, 3, 1000])}")
+    if draw.random() < 0.3:
+        # all is listed in the end, and changes go on
+        lines += ["say 1 close c"] if is_open else []
+        lines += ["say 1 open c q", "say 1 next c 1000"]
+        lines += [f"say 2 {random_change(draw)}" for _ in range(draw.randrange(8))]
     return lines
 
 
