@@ -74,10 +74,12 @@
 #![tactic(auto)]
 
 mod conn;
+mod disk_notes;
 mod file_disk;
 mod hub_notes;
 mod listening;
 mod notes;
+mod oracle;
 mod request;
 mod size_limit;
 mod standard;
@@ -86,6 +88,7 @@ mod std_source;
 mod tcp_hub;
 
 pub use file_disk::FileDisk;
+pub use oracle::Oracle;
 pub use standard::{StandardInput, StandardOutput};
 pub use std_sink::StdSink;
 pub use std_source::StdSource;
