@@ -30,10 +30,10 @@ told_if : (P : History → History → Type 0) (next : History → Option Histor
 told_if P next None so = tt
 told_if P next (Some h) so = at_answer (next h) (so h)
   where
-  at_answer : (answer : Option History) → ((n : History) → answer ≡ Some n → P h n)
-      → WhereHistoryTold (Some h) answer P
-  at_answer None so = tt
-  at_answer (Some n) so = so n refl
+    at_answer : (answer : Option History) → ((n : History) → answer ≡ Some n → P h n)
+        → WhereHistoryTold (Some h) answer P
+    at_answer None so = tt
+    at_answer (Some n) so = so n refl
 
 same_some : (h n : History) → Some h ≡ Some n → h ≡ n
 same_some h n is = cc
@@ -68,28 +68,29 @@ torn_so span old new is =
       keeps = record {
         longer = leb-true _ _ one.0;
         same = λ i within out. elim out [
-          inl before ↦ before_it span old new front i within before
-        | inr behind ↦ behind_it span old new rest i behind
+          | inl before ↦ before_it span old new front i within before
+          | inr behind ↦ behind_it span old new rest i behind
         ];
       };
       within = leb-true _ _ one.1;
     }
   where
-  before_it : (span : Span) (old new : List ℕ)
-      → take (min span.at (length old)) new ≡ take (min span.at (length old)) old
-      → (i : ℕ) → i < length old → i < span.at → get_or new i 0 ≡ get_or old i 0
-  before_it span old new front i within before =
-      let low : i < min span.at (length old) = omega arith in
-      sym (get_or-take (min span.at (length old)) new i 0 low) ∙ ap (λ bytes. get_or bytes i 0) front
-      ∙ get_or-take (min span.at (length old)) old i 0 low
-  behind_it : (span : Span) (old new : List ℕ) → drop (span.at + span.size) new ≡ drop (span.at + span.size) old
-      → (i : ℕ) → span.at + span.size ≤ i → get_or new i 0 ≡ get_or old i 0
-  behind_it span old new rest i behind =
-      let place : span.at + span.size + (i - (span.at + span.size)) ≡ i = omega arith in
-      subst (λ j. get_or new j 0 ≡ get_or old j 0) place
-      (sym (get_or-drop (span.at + span.size) new (i - (span.at + span.size)) 0)
-      ∙ ap (λ bytes. get_or bytes (i - (span.at + span.size)) 0) rest
-      ∙ get_or-drop (span.at + span.size) old (i - (span.at + span.size)) 0)
+    before_it : (span : Span) (old new : List ℕ)
+        → take (min span.at (length old)) new ≡ take (min span.at (length old)) old
+        → (i : ℕ) → i < length old → i < span.at → get_or new i 0 ≡ get_or old i 0
+    before_it span old new front i within before =
+        let low : i < min span.at (length old) = omega arith in
+        sym (get_or-take (min span.at (length old)) new i 0 low) ∙ ap (λ bytes. get_or bytes i 0) front
+        ∙ get_or-take (min span.at (length old)) old i 0 low
+
+    behind_it : (span : Span) (old new : List ℕ) → drop (span.at + span.size) new ≡ drop (span.at + span.size) old
+        → (i : ℕ) → span.at + span.size ≤ i → get_or new i 0 ≡ get_or old i 0
+    behind_it span old new rest i behind =
+        let place : span.at + span.size + (i - (span.at + span.size)) ≡ i = omega arith in
+        subst (λ j. get_or new j 0 ≡ get_or old j 0) place
+        (sym (get_or-drop (span.at + span.size) new (i - (span.at + span.size)) 0)
+        ∙ ap (λ bytes. get_or bytes (i - (span.at + span.size)) 0) rest
+        ∙ get_or-drop (span.at + span.size) old (i - (span.at + span.size)) 0)
 
 pub opens_so : (o : FileOracle) (old new : List FileCall) (answer : DiskOpen) (path : List ℕ)
     → new ≡ old ++ record { call = Opening path answer; gave = [] } ∷ []
@@ -101,28 +102,28 @@ pub sizes_so : (o : FileOracle) (old new : List FileCall) (answer : DiskLen)
     → WhereHistoryTold (history_of_calls o old) (history_of_calls o new) (Sizes answer)
 sizes_so o old new answer is = told_after o old new _ (Sizes answer) is (it answer)
   where
-  it : (answer : DiskLen) (h n : History) → history_if (is_length answer h.file.bytes) h ≡ Some n → Sizes answer h n
-  it (Len size) h n was =
-      let so = let_through (size == length h.file.bytes) h n was in
-      (eqb-true size (length h.file.bytes) so.0, so.1)
-  it Unmeasured h n was = sym (same_some h n was)
+    it : (answer : DiskLen) (h n : History) → history_if (is_length answer h.file.bytes) h ≡ Some n → Sizes answer h n
+    it (Len size) h n was =
+        let so = let_through (size == length h.file.bytes) h n was in
+        (eqb-true size (length h.file.bytes) so.0, so.1)
+    it Unmeasured h n was = sym (same_some h n was)
 
 pub reads_so : (o : FileOracle) (old new : List FileCall) (answer : DiskRead) (at : ℕ) (buf : List ℕ)
     → new ≡ old ++ record { call = Reading at answer; gave = given_by_read answer buf } ∷ []
     → WhereHistoryTold (history_of_calls o old) (history_of_calls o new) (DiskReads answer at buf)
 reads_so o old new answer at buf is = told_after o old new _ (DiskReads answer at buf) is (it answer)
   where
-  it : (answer : DiskRead) (h n : History)
-      → history_if (stands_there answer at (given_by_read answer buf) h.file.bytes) h ≡ Some n
-      → DiskReads answer at buf h n
-  it (Got size) h n was =
-      let so = let_through (stands_there (Got size) at (take size buf) h.file.bytes) h n was in
-      let both = and_parts _ _ so.0 in
-      ((leb-true _ _ both.0, same_bytes _ _ both.1), so.1)
-  it End h n was =
-      let so = let_through (nat_le (length h.file.bytes) at) h n was in
-      (leb-true _ _ so.0, so.1)
-  it Unread h n was = (tt, sym (same_some h n was))
+    it : (answer : DiskRead) (h n : History)
+        → history_if (stands_there answer at (given_by_read answer buf) h.file.bytes) h ≡ Some n
+        → DiskReads answer at buf h n
+    it (Got size) h n was =
+        let so = let_through (stands_there (Got size) at (take size buf) h.file.bytes) h n was in
+        let both = and_parts _ _ so.0 in
+        ((leb-true _ _ both.0, same_bytes _ _ both.1), so.1)
+    it End h n was =
+        let so = let_through (nat_le (length h.file.bytes) at) h n was in
+        (leb-true _ _ so.0, so.1)
+    it Unread h n was = (tt, sym (same_some h n was))
 
 pub writes_so : (o : FileOracle) (old new : List FileCall) (answer : DiskDid) (at : ℕ) (piece : List ℕ)
     → new ≡ old ++ record { call = Writing at piece answer; gave = [] } ∷ []
@@ -130,31 +131,31 @@ pub writes_so : (o : FileOracle) (old new : List FileCall) (answer : DiskDid) (a
 writes_so o old new answer at piece is =
     told_after o old new _ (DiskWrites answer at piece) is (it (length (reverse old)) answer)
   where
-  it : (k : ℕ) (answer : DiskDid) (h n : History) → history_answered o k (Writing at piece answer) [] h ≡ Some n
-      → DiskWrites answer at piece h n
-  it k Done h n was = sym (same_some _ n was)
-  it k Failed h n was =
-      let part : Span = record { at = at; size = length piece } in
-      let so = let_through (may_be_torn part h.file.bytes (o.left k)) _ n was in
-      (o.left k, torn_so part h.file.bytes (o.left k) so.0, so.1)
+    it : (k : ℕ) (answer : DiskDid) (h n : History) → history_answered o k (Writing at piece answer) [] h ≡ Some n
+        → DiskWrites answer at piece h n
+    it k Done h n was = sym (same_some _ n was)
+    it k Failed h n was =
+        let part : Span = record { at = at; size = length piece } in
+        let so = let_through (may_be_torn part h.file.bytes (o.left k)) _ n was in
+        (o.left k, torn_so part h.file.bytes (o.left k) so.0, so.1)
 
 pub syncs_so : (o : FileOracle) (old new : List FileCall) (answer : DiskDid)
     → new ≡ old ++ record { call = Syncing answer; gave = [] } ∷ []
     → WhereHistoryTold (history_of_calls o old) (history_of_calls o new) (Syncs answer)
 syncs_so o old new answer is = told_after o old new _ (Syncs answer) is (it answer)
   where
-  it : (answer : DiskDid) (h n : History) → Some (after_sync_call h answer) ≡ Some n → Syncs answer h n
-  it Done h n was = sym (same_some _ n was)
-  it Failed h n was = sym (same_some _ n was)
+    it : (answer : DiskDid) (h n : History) → Some (after_sync_call h answer) ≡ Some n → Syncs answer h n
+    it Done h n was = sym (same_some _ n was)
+    it Failed h n was = sym (same_some _ n was)
 
 pub begins_next_so : (o : FileOracle) (old new : List FileCall) (answer : DiskDid)
     → new ≡ old ++ record { call = BeginningNext answer; gave = [] } ∷ []
     → WhereHistoryTold (history_of_calls o old) (history_of_calls o new) (BeginsNext answer)
 begins_next_so o old new answer is = told_after o old new _ (BeginsNext answer) is (it answer)
   where
-  it : (answer : DiskDid) (h n : History) → Some (after_begin_next h answer) ≡ Some n → BeginsNext answer h n
-  it Done h n was = sym (same_some _ n was)
-  it Failed h n was = sym (same_some _ n was)
+    it : (answer : DiskDid) (h n : History) → Some (after_begin_next h answer) ≡ Some n → BeginsNext answer h n
+    it Done h n was = sym (same_some _ n was)
+    it Failed h n was = sym (same_some _ n was)
 
 pub writes_next_so : (o : FileOracle) (old new : List FileCall) (answer : DiskDid) (at : ℕ) (piece : List ℕ)
     → new ≡ old ++ record { call = WritingNext at piece answer; gave = [] } ∷ []
@@ -162,32 +163,33 @@ pub writes_next_so : (o : FileOracle) (old new : List FileCall) (answer : DiskDi
 writes_next_so o old new answer at piece is =
     told_after o old new _ (WritesNext answer at piece) is (it (length (reverse old)) answer)
   where
-  it : (k : ℕ) (answer : DiskDid) (h n : History) → history_answered o k (WritingNext at piece answer) [] h ≡ Some n
-      → WritesNext answer at piece h n
-  it k Done h n was = sym (same_some _ n was)
-  it k Failed h n was =
-      let part : Span = record { at = at; size = length piece } in
-      let so = let_through (may_be_torn part h.next.bytes (o.left k)) _ n was in
-      (o.left k, torn_so part h.next.bytes (o.left k) so.0, so.1)
+    it : (k : ℕ) (answer : DiskDid) (h n : History) → history_answered o k (WritingNext at piece answer) [] h ≡ Some n
+        → WritesNext answer at piece h n
+    it k Done h n was = sym (same_some _ n was)
+    it k Failed h n was =
+        let part : Span = record { at = at; size = length piece } in
+        let so = let_through (may_be_torn part h.next.bytes (o.left k)) _ n was in
+        (o.left k, torn_so part h.next.bytes (o.left k) so.0, so.1)
 
 pub syncs_next_so : (o : FileOracle) (old new : List FileCall) (answer : DiskDid)
     → new ≡ old ++ record { call = SyncingNext answer; gave = [] } ∷ []
     → WhereHistoryTold (history_of_calls o old) (history_of_calls o new) (SyncsNext answer)
 syncs_next_so o old new answer is = told_after o old new _ (SyncsNext answer) is (it answer)
   where
-  it : (answer : DiskDid) (h n : History) → Some (after_sync_next h answer) ≡ Some n → SyncsNext answer h n
-  it Done h n was = sym (same_some _ n was)
-  it Failed h n was = sym (same_some _ n was)
+    it : (answer : DiskDid) (h n : History) → Some (after_sync_next h answer) ≡ Some n → SyncsNext answer h n
+    it Done h n was = sym (same_some _ n was)
+    it Failed h n was = sym (same_some _ n was)
 
 pub replaces_so : (o : FileOracle) (old new : List FileCall) (answer : DiskDid)
     → new ≡ old ++ record { call = Replacing answer; gave = [] } ∷ []
     → WhereHistoryTold (history_of_calls o old) (history_of_calls o new) (Replaces answer)
 replaces_so o old new answer is = told_after o old new _ (Replaces answer) is (it (length (reverse old)) answer)
   where
-  by : (b : Bool) (h n : History) → cond b (replaced h) h ≡ n → Replaces Failed h n
-  by true h n is = inr (sym is)
-  by false h n is = inl (sym is)
-  it : (k : ℕ) (answer : DiskDid) (h n : History) → history_answered o k (Replacing answer) [] h ≡ Some n
-      → Replaces answer h n
-  it k Done h n was = sym (same_some _ n was)
-  it k Failed h n was = by (o.replaces k) h n (same_some _ n was)
+    by : (b : Bool) (h n : History) → cond b (replaced h) h ≡ n → Replaces Failed h n
+    by true h n is = inr (sym is)
+    by false h n is = inl (sym is)
+
+    it : (k : ℕ) (answer : DiskDid) (h n : History) → history_answered o k (Replacing answer) [] h ≡ Some n
+        → Replaces answer h n
+    it k Done h n was = sym (same_some _ n was)
+    it k Failed h n was = by (o.replaces k) h n (same_some _ n was)

@@ -8,8 +8,10 @@ ghost use Rattle.djq_disk.specs.declared.call_log.DiskCall.TheVariants.{Beginnin
 ghost use Rattle.djq_disk.specs.declared.call_log.DiskCall.TheVariants.{Replacing};
 ghost use Rattle.djq_system.specs.FileCalls.{history_of_calls, given_by_read};
 
-use crate::disk_notes::{note_begin_next, note_len, note_open, note_read, note_replace};
-use crate::disk_notes::{note_sync, note_sync_next, note_write, note_write_next};
+use crate::disk_notes::{
+    note_begin_next, note_len, note_open, note_read, note_replace, note_sync, note_sync_next,
+    note_write, note_write_next,
+};
 use crate::notes::Notes;
 use crate::oracle::Oracle;
 use crate::size_limit::{passes_limit, past_limit};
