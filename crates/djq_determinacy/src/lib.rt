@@ -1,0 +1,12 @@
+//! How much of what the machine does is determined.
+//!
+//! Each function here is empty: its contract is a law of the definitions of djq_machine and djq_serve, and its proof
+//! concerns no code.
+#![tactic(auto)]
+
+ghost use Rattle.djq_determinacy.specs.Memory.{NeverRefusedForMemory};
+
+/// Which commands are never refused for memory: those that take away, ask or end, once they are read.
+pub fn never_refused_for_memory()
+    ensures { NeverRefusedForMemory }
+{}
