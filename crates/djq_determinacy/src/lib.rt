@@ -5,8 +5,14 @@
 #![tactic(auto)]
 
 ghost use Rattle.djq_determinacy.specs.Memory.{NeverRefusedForMemory};
+ghost use Rattle.djq_determinacy.specs.Prefixes.{PrefixesReturn};
 
 /// Which commands are never refused for memory: those that take away, ask or end, once they are read.
 pub fn never_refused_for_memory()
     ensures { NeverRefusedForMemory }
+{}
+
+/// A run of `serve` that is cut off, at any move, is a first part of one that returns: at each point the hub may be over.
+pub fn prefixes_return()
+    ensures { PrefixesReturn }
 {}
