@@ -4,6 +4,8 @@
 //! concerns no code.
 #![tactic(auto)]
 
+ghost use Rattle.std.specs.Prelude.{true};
+ghost use Rattle.djq_determinacy.specs.Determinacy.{IsDetermined};
 ghost use Rattle.djq_determinacy.specs.Memory.{NeverRefusedForMemory};
 ghost use Rattle.djq_determinacy.specs.Prefixes.{PrefixesReturn};
 
@@ -15,4 +17,9 @@ pub fn never_refused_for_memory()
 /// A run of `serve` that is cut off, at any move, is a first part of one that returns: at each point the hub may be over.
 pub fn prefixes_return()
     ensures { PrefixesReturn }
+{}
+
+/// Steps are determined, memory aside.
+pub fn steps_are_determined()
+    ensures { IsDetermined (λ c. true) }
 {}
