@@ -1,6 +1,6 @@
 -- What of a step is determined by its state and its event, memory aside: the commands that change no rows.
 use Rattle.std.specs.Prelude.{ℕ, List, [], ◌∷◌, ◌≡◌, ◌≢◌, ◌⊎◌, ◌++◌, ◌==◌, ◌≤◌, ◌<◌, ◌+◌, ◌||◌, Bool, true, false, cond, not, nat_le, nat_lt}
-use Rattle.std.specs.Prelude.{Option, None, Some, is_some, is_none, IsSomeAnd, MatchOption, Result, Ok, Err, OnErr, All, codes, map, length, ⊤}
+use Rattle.std.specs.Prelude.{Option, None, Some, is_some, is_none, IsSomeAnd, MatchOption, Result, Ok, Err, OnErr, All, Contains, codes, map, length, ⊤}
 use Rattle.std.specs.List.{list_any}
 use Rattle.std.proofs.Common.{refl, sym, ap, ◌∙◌, subst, inl, inr, arith}
 use Rattle.std.proofs.lemmas.Bool.{true≢false}
@@ -30,6 +30,22 @@ use Rattle.djq_machine.specs.Command.{OpensTo, BecomesWhere, open_refusal, watch
 use Rattle.djq_store_spec.specs.Held.{HeldTransaction, nothing_held, holding}
 use Rattle.djq_store_spec.specs.Transaction.{hold_refusal}
 use Rattle.djq_protocol.specs.declared.held.Verb.{Verb}
+use Rattle.djq_machine.specs.Command.{TellsLines, ExplainStepOf, explain_lines, union_lines, CloseStep, NextStep, NextStepAt}
+use Rattle.djq_machine.specs.Effect.{EndsWith, RefusedStep}
+use Rattle.djq_protocol.specs.declared.answer.EndCause.{EndCause}
+use Rattle.djq_protocol.specs.Reply.{text_of, end_memory, listing_lines, answer_line}
+use Rattle.djq_protocol.specs.Hypergraph.{edges_of, head_of}
+use Rattle.djq_store_spec.specs.Store.{Position, open_at, stale}
+use Rattle.djq_store_spec.specs.Registering.{answer_steps}
+use Rattle.djq_store_spec.specs.Listing.{TellsAnswers}
+use Rattle.djq_tree.specs.Tree.{Tree}
+use Rattle.djq_tree.specs.Growing.{Growth, grow, start, IsStage, IsTreeOf, are_within, is_root, tree_of}
+use Rattle.std.proofs.lemmas.Bool.{cases_order}
+use Rattle.djq_determinacy.proofs.Sets.{Apart, AreAmong, same_set, no_more, apart_behind, apart_from, apart_more}
+use Rattle.djq_answer_laws.proofs.Lists.{first_or_later}
+use Rattle.djq_store_spec.specs.Listing.{IsLeft}
+use Rattle.std.proofs.lemmas.List.Elements.{All-contains, Contains-append_left, Contains-append_right, Contains-append_cases}
+use Rattle.std.proofs.lemmas.List.Sorted.{length_permutation}
 use Rattle.djq_run_laws.proofs.Forms.{done_of}
 use Rattle.djq_determinacy.specs.Determinacy.{SameText, is_equal, are_pages, are_deltas, SameParts, IsNoRefusal, IsDetermined}
 
@@ -98,6 +114,88 @@ abbrev pub Same : Effect → State → Effect → State → Type 0
 Same e new e' new' = SameParts e.queued e'.queued × (new.store ≡ new'.store)
 
 -- ---- The commands.
+
+-- unions over the same names have the same members
+one_list : (qs ps : List Query) → map (λ (q : Query). Some (a_query q)) qs ≡ map (λ (q : Query). Some (a_query q)) ps → qs ≡ ps
+one_list [] [] is = refl
+one_list [] (p ∷ ps) is = absurd (let no_list : [] ≡ Some (a_query p) ∷ map (λ (q : Query). Some (a_query q)) ps = is in cc)
+one_list (q ∷ qs) [] is = absurd (let no_list : Some (a_query q) ∷ map (λ (q : Query). Some (a_query q)) qs ≡ [] = is in cc)
+one_list (q ∷ qs) (p ∷ ps) is =
+    let whole : Some (a_query q) ∷ map (λ (q : Query). Some (a_query q)) qs
+        ≡ Some (a_query p) ∷ map (λ (q : Query). Some (a_query q)) ps = is in
+    let first : q ≡ p = cc in
+    let rest : map (λ (q : Query). Some (a_query q)) qs ≡ map (λ (q : Query). Some (a_query q)) ps = cc in
+    let more = one_list qs ps rest in ap (λ x. x ∷ qs) first ∙ ap (λ xs. p ∷ xs) more
+
+-- a stage of the planner ends at one place
+one_stage : (is_over : List (List ℕ) → Bool) (keep : List ℕ) (st a b : Growth) → IsStage is_over keep st a
+    → IsStage is_over keep st b → a ≡ b
+one_stage is_over keep st a b h k = by (cases_order h.steps k.steps)
+  where
+    apart : (g : Growth) → is_over g.current ≡ true → is_over g.current ≡ false → ⊥
+    apart g over going = true≢false (sym over ∙ going)
+
+    by : (h.steps ≡ k.steps) ⊎ ((h.steps < k.steps) ⊎ (k.steps < h.steps)) → a ≡ b
+    by (inl same) = h.leads ∙ ap (λ n. grow keep n st) same ∙ sym k.leads
+    by (inr (inl less)) =
+        absurd (apart (grow keep h.steps st) (subst (λ (g : Growth). is_over g.current ≡ true) h.leads h.ends)
+        (k.goes h.steps less))
+    by (inr (inr less)) =
+        absurd (apart (grow keep k.steps st) (subst (λ (g : Growth). is_over g.current ≡ true) k.leads k.ends)
+        (h.goes k.steps less))
+
+-- and so it names one tree
+one_tree : (H : List (List ℕ)) (F : List ℕ) (t u : Tree) → IsTreeOf H F t → IsTreeOf H F u → t ≡ u
+one_tree H F t u h k =
+    let mid = one_stage (are_within F) F (start H) h.mid k.mid h.first k.first in
+    let last = one_stage is_root [] k.mid h.last k.last
+        (subst (λ (g : Growth). IsStage is_root [] g h.last) mid h.second) k.second in
+    h.is ∙ ap (λ (g : Growth). tree_of (length H) F g h.last) mid ∙ ap (λ (g : Growth). tree_of (length H) F k.mid g) last
+    ∙ sym k.is
+
+-- what one page tells is on another one that is the last
+among_all : (Answer : Tuple → Type 0) (given told told' : List Tuple) (count : ℕ) (end end' : Bool)
+    → TellsAnswers Answer given count told end → TellsAnswers Answer given count told' end' → end' ≡ true
+    → AreAmong told told'
+among_all Answer given told told' count end end' h k ends t there =
+    by (Contains-append_cases given told' t
+    (k.none_left ends t (All-contains Answer told t h.answers there)))
+  where
+    by : Contains given t ⊎ Contains told' t → Contains told' t
+    by (inl before) = absurd (apart_from given told h.different t before there)
+    by (inr here) = here
+
+-- a page isn't the last where another one leaves an answer behind as many as were asked for
+no_end : (Answer : Tuple → Type 0) (given told told' : List Tuple) (count : ℕ)
+    → TellsAnswers Answer given count told true → TellsAnswers Answer given count told' false → ⊥
+no_end Answer given told told' count h k =
+    let left = k.some_left refl in
+    let few = no_more (left.0 ∷ told') told
+        (apart_more left.0 told' (λ there. left.1.1 (Contains-append_right given told' left.0 there))
+        (apart_behind given told' k.different)) (λ t there. by left t (first_or_later left.0 told' t there)) in
+    omega (arith, few, h.at_most, k.all_asked refl)
+  where
+    by : (left : (t : Tuple) × IsLeft Answer (given ++ told') t) (t : Tuple) → (left.0 ≡ t) ⊎ Contains told' t → Contains told t
+    by left t (inr there) = among_all Answer given told' told count false true k h refl t there
+    by left t (inl same) = subst (λ u. Contains told u) same
+        (last (Contains-append_cases given told left.0 (h.none_left refl left.0 left.1.0)))
+      where
+        last : Contains given left.0 ⊎ Contains told left.0 → Contains told left.0
+        last (inl before) = absurd (left.1.1 (Contains-append_left given told' left.0 before))
+        last (inr here) = here
+
+-- pages of one listing
+pages_same : (Answer : Tuple → Type 0) (given told told' : List Tuple) (count : ℕ) (end end' : Bool)
+    → TellsAnswers Answer given count told end → TellsAnswers Answer given count told' end'
+    → SameText (text_of (listing_lines told end)) (text_of (listing_lines told' end'))
+pages_same Answer given told told' count true true h k =
+    let moved = same_set told told' (apart_behind given told h.different) (apart_behind given told' k.different)
+        (among_all Answer given told told' count true true h k refl) (among_all Answer given told' told count true true k h refl) in
+    are_pages told told' true refl refl (sym (length_permutation told told' moved)) (λ _. moved)
+pages_same Answer given told told' count false false h k =
+    are_pages told told' false refl refl (h.all_asked refl ∙ sym (k.all_asked refl)) (λ ends. absurd (true≢false (sym ends)))
+pages_same Answer given told told' count true false h k = absurd (no_end Answer given told told' count h k)
+pages_same Answer given told told' count false true h k = absurd (no_end Answer given told' told count k h)
 
 module _ (old : State) (s : ℕ) (e e' : Effect) (new new' : State) (told : IsTold e) (told' : IsTold e') where
   rel_same : (name : Bytes) (types : List ColumnType) → RelStep old s (λ st. MakesRelation st name types) e new
@@ -272,6 +370,91 @@ module _ (old : State) (s : ℕ) (e e' : Effect) (new new' : State) (told : IsTo
           → a ≡ b
       alike None a b h k = absurd h
       alike (Some l) a b h k = shapes l a b h k
+
+  -- a text that ends so that memory was refused
+  cut_short : (text front : Bytes) → text ≡ front ++ end_memory → (queued : List (ℕ × Bytes)) → queued ≡ (s, text) ∷ []
+      → All (λ (q : ℕ × Bytes). IsNoRefusal q.1) queued → ⊥
+  cut_short text front is queued alone told = (not_refused s text queued alone told).1 front is
+
+  lines_same : (lines lines' : List Bytes) → lines ≡ lines' → TellsLines old s lines e new → TellsLines old s lines' e' new'
+      → Same e new e' new'
+  lines_same lines lines' same (inl h) (inl k) = (
+    same_alone s _ _ e e' (said s _ e h.0) (said s _ e' k.0) (ap text_of same),
+    same_store h.1 k.1,
+  )
+  lines_same lines lines' same (inr h) k = absurd (cut_short _ (text_of h.0) refl e.queued (said s _ e h.4.0) told)
+  lines_same lines lines' same (inl h) (inr k) =
+      absurd ((not_refused s _ e'.queued (said s _ e' k.4.0) told').1 (text_of k.0) refl)
+
+  explain_same : (k : Listed) → ExplainStepOf old s k e new → ExplainStepOf old s k e' new' → Same e new e' new'
+  explain_same (a_union name qs) h k = lines_same (union_lines qs) (union_lines qs) refl h k
+  explain_same (a_query q) h k =
+      lines_same (explain_lines q h.tree) (explain_lines q k.tree)
+      (ap (explain_lines q) (one_tree (edges_of q) (head_of q) h.tree k.tree h.named k.named)) h.tells k.tells
+
+  refused_same : (r : Refusal) → RefusedStep old s r e new → RefusedStep old s r e' new' → Same e new e' new'
+  refused_same r h k = (same_alone s _ _ e e' (said s _ e h.0) (said s _ e' k.0) refl, same_store h.1 k.1)
+
+  ends_same : (text : Bytes) (cause : EndCause) (st : State) → EndsWith text cause st s e new → EndsWith text cause st s e' new'
+      → Same e new e' new'
+  ends_same text cause st h k = (
+    same_alone s _ _ e e' (said s _ e h.0) (said s _ e' k.0) refl,
+    ap (λ (x : State). x.store) (h.1 ∙ sym k.1),
+  )
+
+  close_same : (c : Bytes) → CloseStep old s c e new → CloseStep old s c e' new' → Same e new e' new'
+  close_same c h k = (
+    same_alone s _ _ e e' (said s _ e h.0) (said s _ e' k.0) refl,
+    ap (λ (x : State). x.store) (h.1 ∙ sym k.1),
+  )
+
+  union_same : (name : Bytes) (members : List Bytes) → UnionStep old s name members e new
+      → UnionStep old s name members e' new' → Same e new e' new'
+  union_same name members h k =
+      let is = answered s _ _ e h.effect in
+      let is' = answered s _ _ e' k.effect in
+      let same = same_answer (union_refusal old.store name members) h.result k.result _ _ ⊤ ⊤
+          (λ a b d d'. d.2 ∙ ap (λ qs. answer_steps (a_union name qs)) (one_list d.0 d'.0 (sym d.1 ∙ d'.1)) ∙ sym d'.2)
+          (not_err union_reply s h.result e refl is told) (not_err union_reply s k.result e' refl is' told')
+          h.done.answer k.done.answer in
+      (
+        same_alone s _ _ e e' is is' (ap union_reply same),
+        ap (λ (st : State). st.store) h.state
+        ∙ by h.result h.done (subst (λ r. RegistersUnion old.store name members r k.store) (sym same) k.done)
+        ∙ sym (ap (λ (st : State). st.store) k.state),
+      )
+    where
+      by : (r : Result ℕ Refusal) → RegistersUnion old.store name members r h.store
+          → RegistersUnion old.store name members r k.store → h.store ≡ k.store
+      by (Ok most) x y =
+          let d = done_of (union_refusal old.store name members) most _ (OutOfMemoryWhere ⊤) x.answer in
+          let d' = done_of (union_refusal old.store name members) most _ (OutOfMemoryWhere ⊤) y.answer in
+          d.3 ∙ ap (λ qs. record old.store { queries = old.store.queries ++ a_union name qs ∷ [] })
+          (one_list d.0 d'.0 (sym d.1 ∙ d'.1)) ∙ sym d'.3
+      by (Err r) x y = x.stays ∙ sym y.stays
+
+  page_same : (c : Bytes) (q : Listed) (given : List Tuple) (count : ℕ) → NextStep old s c q given count e new
+      → NextStep old s c q given count e' new' → Same e new e' new'
+  page_same c q given count h k = (
+    subst (λ qs. SameParts qs e'.queued) (sym (ap (λ (d : Effect). d.queued) h.effect))
+        (subst (λ qs. SameParts ((s, text_of (listing_lines h.told h.end)) ∷ []) qs)
+        (sym (ap (λ (d : Effect). d.queued) k.effect))
+        (refl, pages_same (AnswersOf old.store.relations q) given h.told k.told count h.end k.end h.tells k.tells, tt)),
+    ap (λ (x : State). x.store) h.state ∙ sym (ap (λ (x : State). x.store) k.state),
+  )
+
+  next_same : (c : Bytes) (q : Listed) (count : ℕ) (p : Position) → NextStepAt old s c q count p e new
+      → NextStepAt old s c q count p e' new' → Same e new e' new'
+  next_same c q count (stale relation n) h k = (
+    same_alone s _ _ e e' (said s _ e h.0) (said s _ e' k.0) refl,
+    same_store h.1 k.1,
+  )
+  next_same c q count (open_at given ended) (inl h) (inl k) = page_same c q given count h k
+  next_same c q count (open_at given ended) (inr h) k =
+      absurd (cut_short _ (text_of (map answer_line h.told)) refl e.queued (ap (λ (d : Effect). d.queued) h.effect) told)
+  next_same c q count (open_at given ended) (inl h) (inr k) =
+      absurd ((not_refused s _ e'.queued (ap (λ (d : Effect). d.queued) k.effect) told').1
+      (text_of (map answer_line k.told)) refl)
 
 pub is_determined : IsDetermined (λ c. true)
 is_determined = ?

@@ -1,3 +1,4 @@
 pub mod Memory
 pub mod Prefixes
+pub mod Sets
 pub mod Determinacy
