@@ -1,4 +1,5 @@
 pub mod Memory
 pub mod Prefixes
 pub mod Sets
+pub mod ChangesSame
 pub mod Determinacy
