@@ -277,12 +277,101 @@ module _ (n : ℕ) where
 
 -- ---- The whole change.
 
-listed_same : (before : List Relation) (change : RowsChange) (queries : List Listed) (ds ds' : List Delta)
+deltas_of : (P : Delta → Type 0) (ds ds' : List Delta) → map (λ (d : Delta). d.query) ds ≡ map (λ (d : Delta). d.query) ds'
+    → ((d d' : Delta) → d.query ≡ d'.query → P d → P d' → SameDelta d d') → All P ds → All P ds' → SameDeltas ds ds'
+deltas_of P [] [] same one h k = tt
+deltas_of P [] (d ∷ ds) same one h k =
+    absurd (let none : [] ≡ d.query ∷ map (λ (x : Delta). x.query) ds = same in cc)
+deltas_of P (d ∷ ds) [] same one h k =
+    absurd (let none : d.query ∷ map (λ (x : Delta). x.query) ds ≡ [] = same in cc)
+deltas_of P (d ∷ ds) (d' ∷ ds') same one h k =
+    let whole : d.query ∷ map (λ (x : Delta). x.query) ds ≡ d'.query ∷ map (λ (x : Delta). x.query) ds' = same in
+    let first : d.query ≡ d'.query = cc in
+    let rest : map (λ (x : Delta). x.query) ds ≡ map (λ (x : Delta). x.query) ds' = cc in
+    (one d d' first (All-head P d ds h) (All-head P d' ds' k),
+    deltas_of P ds ds' rest one (All-tail P d ds h) (All-tail P d' ds' k))
+
+are_same : (before : List Relation) (change : RowsChange) (queries : List Listed) (ds ds' : List Delta)
     → AreDeltas before change queries ds → AreDeltas before change queries ds' → SameDeltas ds ds'
-listed_same before change queries ds ds' h k = by ds ds' (h.of_queries ∙ sym k.of_queries) h.are_deltas k.are_deltas
+are_same before change queries ds ds' h k =
+    deltas_of (λ (d : Delta). IsDelta (AnswersOf before d.query) (AnswersOf change.after d.query) d.changes) ds ds'
+    (h.of_queries ∙ sym k.of_queries)
+    (λ d d' same a b. (same, same_changes (AnswersOf before d.query) (AnswersOf change.after d.query) d.changes d'.changes a
+    (subst (λ q. IsDelta (AnswersOf before q) (AnswersOf change.after q) d'.changes) (sym same) b)))
+    h.are_deltas k.are_deltas
+
+listed_same : (before : List Relation) (affects : RowsChange → List Listed) (o : Option RowsChange) (ds ds' : List Delta)
+    → ListsDeltas before affects o ds → ListsDeltas before affects o ds' → SameDeltas ds ds'
+listed_same before affects None ds ds' h k =
+    subst (λ xs. SameDeltas xs ds') (sym h) (subst (λ xs. SameDeltas [] xs) (sym k) tt)
+listed_same before affects (Some change) ds ds' h k = are_same before change (affects change) ds ds' h k
+
+told_same : (made : Bool) (ds ds' : List Delta) → SameDeltas ds ds' → SameDeltas (cond made ds []) (cond made ds' [])
+told_same true ds ds' h = h
+told_same false ds ds' h = tt
+
+-- the reply, where the session goes on
+replies_extend : (s : ℕ) (reply : Bytes) (m0 m new : Telling) → RepliesLast s reply m new → Extends m0 m → Extends m0 new
+replies_extend s reply m0 m new replies x = by (session_of m.state s) replies
   where
-    by : (ds ds' : List Delta) → map (λ (d : Delta). d.query) ds ≡ map (λ (d : Delta). d.query) ds'
-        → All (λ (d : Delta). IsDelta (AnswersOf before d.query) (AnswersOf change.after d.query) d.changes) ds
-        → All (λ (d : Delta). IsDelta (AnswersOf before d.query) (AnswersOf change.after d.query) d.changes) ds'
-        → SameDeltas ds ds'
-    by ds ds' same h k = ?
+    by_cause : (c : Option EndCause) → MatchOption c
+        ((new ≡ says_more s reply m)
+        ⊎ ((list_any (λ part. part.0 == s) m.queued ≡ true) × (new ≡ ends_more s end_memory Memory m))) (λ c. new ≡ m)
+        → Extends m0 new
+    by_cause None (inl h) = extends_part m0 m new s reply (ap (λ (k : Telling). k.queued) h) x
+    by_cause None (inr h) = extends_part m0 m new s end_memory (ap (λ (k : Telling). k.queued) h.1) x
+    by_cause (Some c) h = subst (λ (k : Telling). Extends m0 k) (sym h) x
+
+    by : (o : Option Session) → IsSomeAnd o (λ y. MatchOption y.cause
+        ((new ≡ says_more s reply m)
+        ⊎ ((list_any (λ part. part.0 == s) m.queued ≡ true) × (new ≡ ends_more s end_memory Memory m))) (λ c. new ≡ m))
+        → Extends m0 new
+    by None h = absurd h
+    by (Some y) h = by_cause y.cause h
+
+abbrev Replies : ℕ → Bytes → Telling → Telling → Option EndCause → Type 0
+Replies s reply m new c = MatchOption c ((new ≡ says_more s reply m)
+    ⊎ ((list_any (λ part. part.0 == s) m.queued ≡ true) × (new ≡ ends_more s end_memory Memory m))) (λ c. new ≡ m)
+
+cause_same : (s : ℕ) (reply : Bytes) (m m' new new' : Telling) (c : Option EndCause) → AsFar m m' → IsClean new → IsClean new'
+    → Replies s reply m new c → Replies s reply m' new' c → AsFar new new'
+cause_same s reply m m' new new' (Some c) far clean clean' h k =
+    subst (λ (x : Telling). AsFar x new') (sym h) (subst (λ (x : Telling). AsFar m x) (sym k) far)
+cause_same s reply m m' new new' None far clean clean' (inl h) (inl k) =
+    subst (λ (x : Telling). AsFar x new') (sym h)
+    (subst (λ (x : Telling). AsFar (says_more s reply m) x) (sym k) (far_says s reply reply m m' (is_equal refl) refl far))
+cause_same s reply m m' new new' None far clean clean' (inr h) k =
+    absurd (unclean m.queued s [] (subst (λ (x : Telling). IsClean x) h.1 clean))
+cause_same s reply m m' new new' None far clean clean' (inl h) (inr k) =
+    absurd (unclean m'.queued s [] (subst (λ (x : Telling). IsClean x) k.1 clean'))
+
+replies_same : (s : ℕ) (reply : Bytes) (m m' new new' : Telling) → AsFar m m' → IsClean new → IsClean new'
+    → RepliesLast s reply m new → RepliesLast s reply m' new' → AsFar new new'
+replies_same s reply m m' new new' far clean clean' h k =
+    by (session_of m.state s) h
+    (subst (λ (st : State). IsSomeAnd (session_of st s) (λ y. Replies s reply m' new' y.cause)) (sym far.state) k)
+  where
+    by : (o : Option Session) → IsSomeAnd o (λ y. Replies s reply m new y.cause)
+        → IsSomeAnd o (λ y. Replies s reply m' new' y.cause) → AsFar new new'
+    by None h k = absurd h
+    by (Some y) h k = cause_same s reply m m' new new' y.cause far clean clean' h k
+
+pub change_same : (old : State) (s : ℕ) (outcome : RowsOutcome) (store : Store) (reply : Bytes) (e e' : Effect)
+    (new new' : State) → All (λ (q : ℕ × Bytes). IsNoRefusal q.1) e.queued → All (λ (q : ℕ × Bytes). IsNoRefusal q.1) e'.queued
+    → ChangeStep old s outcome store reply e new → ChangeStep old s outcome store reply e' new'
+    → SameParts e.queued e'.queued × (new ≡ new')
+change_same old s outcome store reply e e' new new' told told' h k =
+    let clean = subst (λ qs. All (λ (q : ℕ × Bytes). IsNoRefusal q.1) qs) h.queued told in
+    let clean' = subst (λ qs. All (λ (q : ℕ × Bytes). IsNoRefusal q.1) qs) k.queued told' in
+    let before = clean_before h.told h.last (replies_extend s reply h.told h.told h.last h.replies (extends_none h.told)) clean in
+    let before' = clean_before k.told k.last (replies_extend s reply k.told k.told k.last k.replies (extends_none k.told)) clean' in
+    let start : Telling = record { state = changed old (tried outcome) store; queued = [] } in
+    let none : AsFar start start = record { state = refl; parts = tt; long = λ t. refl } in
+    let listed = listed_same old.store.relations (affected old) (tried outcome) h.deltas k.deltas h.listed k.listed in
+    let far = deltas_same store.seq (cond (is_made outcome) h.deltas []) (cond (is_made outcome) k.deltas []) start start
+        h.told k.told (told_same (is_made outcome) h.deltas k.deltas listed) none before before' h.tells k.tells in
+    let last = replies_same s reply h.told k.told h.last k.last far clean clean' h.replies k.replies in
+    (
+      subst (λ qs. SameParts qs e'.queued) (sym h.queued) (subst (λ qs. SameParts h.last.queued qs) (sym k.queued) last.parts),
+      h.state ∙ last.state ∙ sym k.state,
+    )

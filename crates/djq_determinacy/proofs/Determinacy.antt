@@ -41,7 +41,7 @@ use Rattle.djq_store_spec.specs.Listing.{TellsAnswers}
 use Rattle.djq_tree.specs.Tree.{Tree}
 use Rattle.djq_tree.specs.Growing.{Growth, grow, start, IsStage, IsTreeOf, are_within, is_root, tree_of}
 use Rattle.std.proofs.lemmas.Bool.{cases_order}
-use Rattle.djq_determinacy.proofs.ChangesSame.{same_changes}
+use Rattle.djq_determinacy.proofs.ChangesSame.{change_same}
 use Rattle.djq_determinacy.proofs.Sets.{Apart, AreAmong, same_set, no_more, apart_behind, apart_from, apart_more}
 use Rattle.djq_answer_laws.proofs.Lists.{first_or_later}
 use Rattle.djq_store_spec.specs.Listing.{IsLeft}
