@@ -48,12 +48,12 @@ use Rattle.djq_store_spec.specs.Listing.{IsLeft}
 use Rattle.std.proofs.lemmas.List.Elements.{All-contains, Contains-append_left, Contains-append_right, Contains-append_cases}
 use Rattle.std.proofs.lemmas.List.Sorted.{length_permutation}
 use Rattle.djq_run_laws.proofs.Forms.{done_of}
-use Rattle.djq_determinacy.specs.Determinacy.{SameText, is_equal, are_pages, are_deltas, SameParts, IsNoRefusal, IsDetermined}
+use Rattle.djq_determinacy.specs.Determinacy.{SameText, is_equal, are_pages, are_deltas, SameParts, IsNoRefusal}
 
 -- ---- What is answered, memory aside.
 
 -- a late refusal is for memory
-late_is : (P : Type 0) (r : Refusal) → OutOfMemoryWhere P r → r ≡ NoMemory
+pub late_is : (P : Type 0) (r : Refusal) → OutOfMemoryWhere P r → r ≡ NoMemory
 late_is P NoMemory h = refl
 late_is P Syntax h = absurd h
 late_is P Taken h = absurd h
@@ -199,7 +199,7 @@ pages_same Answer given told told' count true false h k = absurd (no_end Answer 
 pages_same Answer given told told' count false true h k = absurd (no_end Answer given told' told count k h)
 
 module _ (old : State) (s : ℕ) (e e' : Effect) (new new' : State) (told : IsTold e) (told' : IsTold e') where
-  rel_same : (name : Bytes) (types : List ColumnType) → RelStep old s (λ st. MakesRelation st name types) e new
+  pub rel_same : (name : Bytes) (types : List ColumnType) → RelStep old s (λ st. MakesRelation st name types) e new
       → RelStep old s (λ st. MakesRelation st name types) e' new' → Same e new e' new'
   rel_same name types h k =
       let q = answered s _ _ e h.effect in
@@ -220,7 +220,7 @@ module _ (old : State) (s : ℕ) (e e' : Effect) (new new' : State) (told : IsTo
           ∙ sym (done_of (rel_refusal old.store name types) a _ (OutOfMemoryWhere ⊤) y.answer)
       by (Err r) x y = x.stays ∙ sym y.stays
 
-  drop_same : (q : Bytes) → DropStep old s q e new → DropStep old s q e' new' → Same e new e' new'
+  pub drop_same : (q : Bytes) → DropStep old s q e new → DropStep old s q e' new' → Same e new e' new'
   drop_same q h k =
       let is = answered s _ _ e h.effect in
       let is' = answered s _ _ e' k.effect in
@@ -257,7 +257,7 @@ module _ (old : State) (s : ℕ) (e e' : Effect) (new new' : State) (told : IsTo
   same_store : new ≡ old → new' ≡ old → new.store ≡ new'.store
   same_store h k = ap (λ (st : State). st.store) (h ∙ sym k)
 
-  open_same : (x : Session) (c q : Bytes) → OpenStep old s x c q e new → OpenStep old s x c q e' new' → Same e new e' new'
+  pub open_same : (x : Session) (c q : Bytes) → OpenStep old s x c q e new → OpenStep old s x c q e' new' → Same e new e' new'
   open_same x c q h k =
       let is = said s _ e h.effect in
       let is' = said s _ e' k.effect in
@@ -277,7 +277,7 @@ module _ (old : State) (s : ℕ) (e e' : Effect) (new new' : State) (told : IsTo
       stays' (Ok a) h = ap (λ (st : State). st.store) h
       stays' (Err w) h = ap (λ (st : State). st.store) h
 
-  watch_same : (x : Session) (q : Bytes) → WatchStep old s x q e new → WatchStep old s x q e' new' → Same e new e' new'
+  pub watch_same : (x : Session) (q : Bytes) → WatchStep old s x q e new → WatchStep old s x q e' new' → Same e new e' new'
   watch_same x q h k =
       let reply = λ (r : Result ⊤ Refusal). watch_reply r old.store.seq in
       let is = said s (reply h.result) e h.effect in
@@ -286,7 +286,7 @@ module _ (old : State) (s : ℕ) (e e' : Effect) (new new' : State) (told : IsTo
           (not_err reply s h.result e refl is told) (not_err reply s k.result e' refl is' told') h.answer k.answer in
       (same_alone s _ _ e e' is is' (ap reply same), turned_same (with_watch q) h.result k.result h.state k.state)
 
-  unwatch_same : (q : Bytes) → UnwatchStep old s q e new → UnwatchStep old s q e' new' → Same e new e' new'
+  pub unwatch_same : (q : Bytes) → UnwatchStep old s q e new → UnwatchStep old s q e' new' → Same e new e' new'
   unwatch_same q h k =
       let is = said s _ e h.effect in
       let is' = said s _ e' k.effect in
@@ -298,7 +298,7 @@ module _ (old : State) (s : ℕ) (e e' : Effect) (new new' : State) (told : IsTo
         turned_same (without_watch q) h.result k.result h.state k.state,
       )
 
-  batch_same : BatchStep old s e new → BatchStep old s e' new' → Same e new e' new'
+  pub batch_same : BatchStep old s e new → BatchStep old s e' new' → Same e new e' new'
   batch_same h k =
       let is = said s _ e h.effect in
       let is' = said s _ e' k.effect in
@@ -310,7 +310,7 @@ module _ (old : State) (s : ℕ) (e e' : Effect) (new new' : State) (told : IsTo
         turned_same (with_batch nothing_held) h.result k.result h.state k.state,
       )
 
-  hold_same : (held : HeldTransaction) (l : Bytes) (verb : Verb) (name : Bytes) (row : Tuple)
+  pub hold_same : (held : HeldTransaction) (l : Bytes) (verb : Verb) (name : Bytes) (row : Tuple)
       → HoldStep old s held l verb name row e new → HoldStep old s held l verb name row e' new' → Same e new e' new'
   hold_same held l verb name row h k =
       let reply = λ (r : Result ⊤ Refusal). held_reply r (length held.lines + 1) in
@@ -323,7 +323,7 @@ module _ (old : State) (s : ℕ) (e e' : Effect) (new new' : State) (told : IsTo
         turned_same (with_batch (holding held verb name row l)) h.result k.result h.state k.state,
       )
 
-  has_same : (q : Bytes) (t : Tuple) → HasStep old s q t e new → HasStep old s q t e' new' → Same e new e' new'
+  pub has_same : (q : Bytes) (t : Tuple) → HasStep old s q t e new → HasStep old s q t e' new' → Same e new e' new'
   has_same q t h k =
       let is = ap (λ (d : Effect). d.queued) h.effect in
       let is' = ap (λ (d : Effect). d.queued) k.effect in
@@ -343,7 +343,7 @@ module _ (old : State) (s : ℕ) (e e' : Effect) (new new' : State) (told : IsTo
       alike None a b h k = absurd h
       alike (Some l) a b h k = tells (AnswersOf old.store.relations l t) a b h k
 
-  shape_same : (q : Bytes) → ShapeStep old s q e new → ShapeStep old s q e' new' → Same e new e' new'
+  pub shape_same : (q : Bytes) → ShapeStep old s q e new → ShapeStep old s q e' new' → Same e new e' new'
   shape_same q h k =
       let is = said s _ e h.effect in
       let is' = said s _ e' k.effect in
@@ -387,29 +387,29 @@ module _ (old : State) (s : ℕ) (e e' : Effect) (new new' : State) (told : IsTo
   lines_same lines lines' same (inl h) (inr k) =
       absurd ((not_refused s _ e'.queued (said s _ e' k.4.0) told').1 (text_of k.0) refl)
 
-  explain_same : (k : Listed) → ExplainStepOf old s k e new → ExplainStepOf old s k e' new' → Same e new e' new'
+  pub explain_same : (k : Listed) → ExplainStepOf old s k e new → ExplainStepOf old s k e' new' → Same e new e' new'
   explain_same (a_union name qs) h k = lines_same (union_lines qs) (union_lines qs) refl h k
   explain_same (a_query q) h k =
       lines_same (explain_lines q h.tree) (explain_lines q k.tree)
       (ap (explain_lines q) (one_tree (edges_of q) (head_of q) h.tree k.tree h.named k.named)) h.tells k.tells
 
-  refused_same : (r : Refusal) → RefusedStep old s r e new → RefusedStep old s r e' new' → Same e new e' new'
+  pub refused_same : (r : Refusal) → RefusedStep old s r e new → RefusedStep old s r e' new' → Same e new e' new'
   refused_same r h k = (same_alone s _ _ e e' (said s _ e h.0) (said s _ e' k.0) refl, same_store h.1 k.1)
 
-  ends_same : (text : Bytes) (cause : EndCause) (st : State) → EndsWith text cause st s e new → EndsWith text cause st s e' new'
+  pub ends_same : (text : Bytes) (cause : EndCause) (st : State) → EndsWith text cause st s e new → EndsWith text cause st s e' new'
       → Same e new e' new'
   ends_same text cause st h k = (
     same_alone s _ _ e e' (said s _ e h.0) (said s _ e' k.0) refl,
     ap (λ (x : State). x.store) (h.1 ∙ sym k.1),
   )
 
-  close_same : (c : Bytes) → CloseStep old s c e new → CloseStep old s c e' new' → Same e new e' new'
+  pub close_same : (c : Bytes) → CloseStep old s c e new → CloseStep old s c e' new' → Same e new e' new'
   close_same c h k = (
     same_alone s _ _ e e' (said s _ e h.0) (said s _ e' k.0) refl,
     ap (λ (x : State). x.store) (h.1 ∙ sym k.1),
   )
 
-  union_same : (name : Bytes) (members : List Bytes) → UnionStep old s name members e new
+  pub union_same : (name : Bytes) (members : List Bytes) → UnionStep old s name members e new
       → UnionStep old s name members e' new' → Same e new e' new'
   union_same name members h k =
       let is = answered s _ _ e h.effect in
@@ -444,7 +444,7 @@ module _ (old : State) (s : ℕ) (e e' : Effect) (new new' : State) (told : IsTo
     ap (λ (x : State). x.store) h.state ∙ sym (ap (λ (x : State). x.store) k.state),
   )
 
-  next_same : (c : Bytes) (q : Listed) (count : ℕ) (p : Position) → NextStepAt old s c q count p e new
+  pub next_same : (c : Bytes) (q : Listed) (count : ℕ) (p : Position) → NextStepAt old s c q count p e new
       → NextStepAt old s c q count p e' new' → Same e new e' new'
   next_same c q count (stale relation n) h k = (
     same_alone s _ _ e e' (said s _ e h.0) (said s _ e' k.0) refl,
@@ -456,6 +456,3 @@ module _ (old : State) (s : ℕ) (e e' : Effect) (new new' : State) (told : IsTo
   next_same c q count (open_at given ended) (inl h) (inr k) =
       absurd ((not_refused s _ e'.queued (ap (λ (d : Effect). d.queued) k.effect) told').1
       (text_of (map answer_line k.told)) refl)
-
-pub is_determined : IsDetermined (λ c. true)
-is_determined = ?

@@ -3,3 +3,5 @@ pub mod Prefixes
 pub mod Sets
 pub mod ChangesSame
 pub mod Determinacy
+pub mod RowsSame
+pub mod Steps

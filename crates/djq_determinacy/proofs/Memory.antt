@@ -81,12 +81,12 @@ other_refusal Misplaced h = differs_at 5 _ refl
 other_refusal NoCopy h = differs_at 5 _ refl
 other_refusal OtherCount h = differs_at 4 _ refl
 
-abbrev is_memory : Refusal → Bool
+abbrev pub is_memory : Refusal → Bool
 is_memory NoMemory = true
 is_memory _ = false
 
 -- no condition of these refuses for memory
-abbrev NoneOfMemory : List (Bool × Refusal) → Type 0
+abbrev pub NoneOfMemory : List (Bool × Refusal) → Type 0
 NoneOfMemory [] = ⊤
 NoneOfMemory (c ∷ cs) = (is_memory c.1 ≡ false) × NoneOfMemory cs
 
@@ -237,7 +237,7 @@ ok_other words (Ok a) first refused = differs_at 0 _ first
 ok_other words (Err why) first refused = other_refusal why (refused why refl)
 
 -- a result whose refusals are these conditions alone
-refusals_of : {A : Type 0} (cs : List (Bool × Refusal)) (r : Result A Refusal) (D : A → Type 0) → NoneOfMemory cs
+pub refusals_of : {A : Type 0} (cs : List (Bool × Refusal)) (r : Result A Refusal) (D : A → Type 0) → NoneOfMemory cs
     → Answers (first_refusal cs) r D (OutOfMemoryWhere ⊥) → (why : Refusal) → r ≡ Err why → why ≢ NoMemory
 refusals_of cs (Ok a) D none answer why is = absurd cc
 refusals_of cs (Err r) D none answer why is =

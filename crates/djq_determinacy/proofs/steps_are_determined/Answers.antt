@@ -1,4 +1,4 @@
-use Rattle.djq_determinacy.proofs.Determinacy.{is_determined}
+use Rattle.djq_determinacy.proofs.Steps.{is_determined}
 use Rattle.djq_determinacy.proofs.steps_are_determined.Goals as goal
 
 pub returns : goal.returns
