@@ -1,9 +1,10 @@
 -- What of a step is determined by its state and its event, memory aside.
-use Rattle.std.specs.Prelude.{ℕ, List, [], ◌∷◌, ◌≡◌, ◌≢◌, ◌++◌, ◌<◌, Bool, true, All, IsPermutation, length, ⊤}
+use Rattle.std.specs.Prelude.{ℕ, List, [], ◌∷◌, ◌≡◌, ◌≢◌, ◌++◌, ◌<◌, Bool, true, false, All, IsPermutation, length, ⊤}
 use Rattle.djq_model.specs.Data.{Bytes, Tuple}
 use Rattle.djq_protocol.specs.declared.limits.TheConstants.{SESSIONS}
 use Rattle.djq_protocol.specs.declared.answer.Refusal.TheVariants.{NoMemory}
 use Rattle.djq_protocol.specs.declared.command.Command.{Command}
+use Rattle.djq_protocol.specs.declared.command.Command.TheVariants.{Query, Add, Done}
 use Rattle.djq_protocol.specs.Grammar.{Reading, outside, past_limit, says_command, reading_of}
 use Rattle.djq_protocol.specs.Reply.{refusal_line, end_memory, text_of, listing_lines}
 use Rattle.djq_store_spec.specs.Store.{Store}
@@ -58,6 +59,14 @@ SaysSuch such (says_command c) = such c ≡ true
 abbrev pub IsSuch : (Command → Bool) → Event → Type 0
 IsSuch such (stepped s (run l)) = SaysSuch such (reading_of l)
 IsSuch such _ = ⊤
+
+-- The commands of which it is proved: all but `query`, of which another rest might show the same, and but `add` and
+-- `done`, where it isn't shown yet that two refusals at the limit of texts make the same texts known.
+abbrev pub is_settled : Command → Bool
+is_settled (Query q) = false
+is_settled (Add name row) = false
+is_settled (Done given) = false
+is_settled c = true
 
 -- **Nothing loose.** Two steps of one event from one state, to neither of which memory is refused, queue the same and
 -- leave the same store. Of commands it is said of such ones.

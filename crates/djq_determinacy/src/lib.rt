@@ -4,8 +4,7 @@
 //! concerns no code.
 #![tactic(auto)]
 
-ghost use Rattle.std.specs.Prelude.{true};
-ghost use Rattle.djq_determinacy.specs.Determinacy.{IsDetermined};
+ghost use Rattle.djq_determinacy.specs.Determinacy.{IsDetermined, is_settled};
 ghost use Rattle.djq_determinacy.specs.Memory.{NeverRefusedForMemory};
 ghost use Rattle.djq_determinacy.specs.Prefixes.{PrefixesReturn};
 
@@ -21,5 +20,5 @@ pub fn prefixes_return()
 
 /// Steps are determined, memory aside.
 pub fn steps_are_determined()
-    ensures { IsDetermined (λ c. true) }
+    ensures { IsDetermined is_settled }
 {}
