@@ -148,3 +148,179 @@ module _ (old : State) (s : ℕ) (e e' : Effect) (new new' : State) (told : IsTo
           (done_of (delete_refusal old.store name row) a (DeletesAs old.store name row h.store) (OutOfMemoryWhere ⊥) x.answer)
           (done_of (delete_refusal old.store name row) a (DeletesAs old.store name row k.store) (OutOfMemoryWhere ⊥) y.answer)
       by (Err r) x y = x.stays ∙ sym y.stays
+
+-- ---- Texts that become known.
+
+grown : (known ts : List Bytes) → length known ≤ length (all_learned known ts)
+grown known [] = omega arith
+grown known (t ∷ ts) = let more = grown (learned known t) ts in omega (arith, more, by (knows known t))
+  where
+    by : (b : Bool) → length known ≤ length (cond b known (known ++ t ∷ []))
+    by true = omega arith
+    by false = omega (arith, length-append known (t ∷ []))
+
+one_more_known : (known : List Bytes) (t : Bytes) → knows known t ≡ false → length (learned known t) ≡ length known + 1
+one_more_known known t unknown =
+    ap (λ b. length (cond b known (known ++ t ∷ []))) unknown ∙ length-append known (t ∷ [])
+
+learned_parts : (known xs ys : List Bytes) → all_learned known (xs ++ ys) ≡ all_learned (all_learned known xs) ys
+learned_parts known [] ys = refl
+learned_parts known (x ∷ xs) ys = learned_parts (learned known x) xs ys
+
+-- a text that finds no place is one too many
+one_too_many : (old texts known : List Bytes) → FindsNoPlace old texts known → length (all_learned old texts) ≤ TEXTS → ⊥
+one_too_many old texts known h few =
+    let whole = ap (all_learned old) h.parts ∙ learned_parts old h.first (h.next ∷ h.rest)
+        ∙ ap (λ ks. all_learned (learned ks h.next) h.rest) (sym h.learned) in
+    let more = grown (learned known h.next) h.rest in
+    omega (arith, few, ap length whole, more, one_more_known known h.next h.unknown, h.full)
+
+-- where one finds none is determined
+same_place : (old first first' : List Bytes) (next next' : Bytes) (rest rest' : List Bytes)
+    → first ++ next ∷ rest ≡ first' ++ next' ∷ rest'
+    → knows (all_learned old first) next ≡ false → knows (all_learned old first') next' ≡ false
+    → length (all_learned old first) ≡ TEXTS → length (all_learned old first') ≡ TEXTS
+    → all_learned old first ≡ all_learned old first'
+same_place old [] [] next next' rest rest' same unknown unknown' full full' = refl
+same_place old [] (f ∷ fs) next next' rest rest' same unknown unknown' full full' =
+    let whole : next ∷ rest ≡ f ∷ (fs ++ next' ∷ rest') = same in
+    let first : next ≡ f = cc in
+    let more = grown (learned old f) fs in
+    let new = one_more_known old f (subst (λ t. knows old t ≡ false) first unknown) in
+    absurd (omega (arith, more, new, full, full'))
+same_place old (f ∷ fs) [] next next' rest rest' same unknown unknown' full full' =
+    let whole : f ∷ (fs ++ next ∷ rest) ≡ next' ∷ rest' = same in
+    let first : next' ≡ f = cc in
+    let more = grown (learned old f) fs in
+    let new = one_more_known old f (subst (λ t. knows old t ≡ false) first unknown') in
+    absurd (omega (arith, more, new, full, full'))
+same_place old (f ∷ fs) (g ∷ gs) next next' rest rest' same unknown unknown' full full' =
+    let whole : f ∷ (fs ++ next ∷ rest) ≡ g ∷ (gs ++ next' ∷ rest') = same in
+    let first : f ≡ g = cc in
+    let later : fs ++ next ∷ rest ≡ gs ++ next' ∷ rest' = cc in
+    let at : Bytes → List Bytes = λ t. all_learned (learned old t) gs in
+    same_place (learned old f) fs gs next next' rest rest' later unknown
+    (subst (λ t. knows (all_learned (learned old t) gs) next' ≡ false) (sym first) unknown') full
+    (subst (λ t. length (all_learned (learned old t) gs) ≡ TEXTS) (sym first) full')
+    ∙ ap at first
+
+pub one_place : (old texts a b : List Bytes) → FindsNoPlace old texts a → FindsNoPlace old texts b → a ≡ b
+one_place old texts a b h k =
+    h.learned ∙ same_place old h.first k.first h.next k.next h.rest k.rest (sym h.parts ∙ k.parts)
+    (subst (λ ks. knows ks h.next ≡ false) h.learned h.unknown) (subst (λ ks. knows ks k.next ≡ false) k.learned k.unknown)
+    (sym (ap length h.learned) ∙ h.full) (sym (ap length k.learned) ∙ k.full) ∙ sym k.learned
+
+-- a late refusal for texts is for their limit, memory aside
+texts_late : (old : Store) (texts : List Bytes) (new : Store) (r : Refusal) → r ≢ NoMemory → RefusedByTexts old texts new r
+    → r ≡ Limit
+texts_late old texts new Limit h late = refl
+texts_late old texts new NoMemory h late = absurd (h refl)
+texts_late old texts new Syntax h late = absurd late
+texts_late old texts new Taken h late = absurd late
+texts_late old texts new NoRelation h late = absurd late
+texts_late old texts new NoQuery h late = absurd late
+texts_late old texts new NoCursor h late = absurd late
+texts_late old texts new Arity h late = absurd late
+texts_late old texts new WrongType h late = absurd late
+texts_late old texts new HeadUnbound h late = absurd late
+texts_late old texts new HeadRepeated h late = absurd late
+texts_late old texts new VariableType h late = absurd late
+texts_late old texts new InUse h late = absurd late
+texts_late old texts new Unbound h late = absurd late
+texts_late old texts new Member h late = absurd late
+texts_late old texts new Misplaced h late = absurd late
+texts_late old texts new NoCopy h late = absurd late
+texts_late old texts new OtherCount h late = absurd late
+
+pub refused_texts : (old : Store) (texts : List Bytes) (new new' : Store) (r : Refusal) → r ≢ NoMemory
+    → RefusedByTexts old texts new r → RefusedByTexts old texts new' r → new ≡ new'
+refused_texts old texts new new' r other h k =
+    let limit = texts_late old texts new r other h in
+    let a = subst (λ w. RefusedByTexts old texts new w) limit h in
+    let b = subst (λ w. RefusedByTexts old texts new' w) limit k in
+    a.1 ∙ ap (λ ts. record old { texts = ts }) (one_place old.texts texts new.texts new'.texts a.0 b.0) ∙ sym b.1
+
+-- ---- `add`
+
+abbrev add_failed : Refusal → Result AddOutcome Refusal
+add_failed r = Err r
+
+module _ (old : State) (s : ℕ) (e e' : Effect) (new new' : State) (told : IsTold e) (told' : IsTold e') (goes : GoesOn old s) where
+  pub add_same : (name : Bytes) (row : Tuple) → AddStep old s name row e new → AddStep old s name row e' new'
+      → Same e new e' new'
+  add_same name row h k =
+      let same = results (add_refusal old.store name row) h.result k.result h.done.answer k.done.answer memory memory' in
+      let stores = by h.result memory h.done (subst (λ r. AddsRow old.store name row r k.store) (sym same) k.done) in
+      same_change old s _ _ h.store k.store _ _ e e' new new' told told'
+      (ap (add_outcome (row_in old.store.relations name row)) same) stores
+      (ap (λ r. add_reply r h.store.seq) same ∙ ap (λ (st : Store). add_reply k.result st.seq) stores)
+      h.change k.change
+    where
+      memory : h.result ≡ Err NoMemory → ⊥
+      memory is = no_memory old s _ h.store _ e new
+          (ap (λ r. is_made (add_outcome (row_in old.store.relations name row) r)) is) goes h.change told
+          (ap (λ r. add_reply r h.store.seq) is)
+
+      memory' : k.result ≡ Err NoMemory → ⊥
+      memory' is = no_memory old s _ k.store _ e' new'
+          (ap (λ r. is_made (add_outcome (row_in old.store.relations name row) r)) is) goes k.change told'
+          (ap (λ r. add_reply r k.store.seq) is)
+
+      outcomes : (a b : AddOutcome) → AddsAs old.store name row h.store a → AddsAs old.store name row k.store b → a ≡ b
+      outcomes First First x y = refl
+      outcomes (More i) (More j) x y = ap (λ n. More n) (x.1 ∙ sym y.1)
+      outcomes First (More j) x y = absurd (true≢false (sym y.0 ∙ x.0))
+      outcomes (More i) First x y = absurd (true≢false (sym x.0 ∙ y.0))
+
+      -- a row isn't both inserted and refused
+      apart : (st st' : Store) (a : AddOutcome) (r : Refusal) → r ≢ NoMemory → AddsAs old.store name row st a
+          → (has_row (rows_of old.store.relations name) row ≡ false) × RefusedByTexts old.store (texts_in row) st' r → ⊥
+      apart st st' First r other x y =
+          let limit = texts_late old.store (texts_in row) st' r other y.1 in
+          let place = subst (λ w. RefusedByTexts old.store (texts_in row) st' w) limit y.1 in
+          one_too_many old.store.texts (texts_in row) st'.texts place.0
+          (subst (λ ts. length ts ≤ TEXTS) (ap (λ (z : Store). z.texts) x.2) x.1)
+      apart st st' (More i) r other x y = true≢false (sym x.0 ∙ y.0)
+
+      not_none : (r : Refusal) → (add_failed r ≡ Err NoMemory → ⊥) → r ≢ NoMemory
+      not_none r h is = h (ap (λ w. Err w) is)
+
+      results : (o : Option Refusal) (r r' : Result AddOutcome Refusal)
+          → Answers o r (AddsAs old.store name row h.store) (λ w. (has_row (rows_of old.store.relations name) row ≡ false)
+          × RefusedByTexts old.store (texts_in row) h.store w)
+          → Answers o r' (AddsAs old.store name row k.store) (λ w. (has_row (rows_of old.store.relations name) row ≡ false)
+          × RefusedByTexts old.store (texts_in row) k.store w)
+          → (r ≡ Err NoMemory → ⊥) → (r' ≡ Err NoMemory → ⊥) → r ≡ r'
+      results None (Ok a) (Ok b) x y m m' = ap (λ z. Ok z) (outcomes a b x y)
+      results None (Ok a) (Err r) x y m m' = absurd (apart h.store k.store a r (not_none r m') x y)
+      results None (Err r) (Ok b) x y m m' = absurd (apart k.store h.store b r (not_none r m) y x)
+      results None (Err r) (Err t) x y m m' = ap (λ z. Err z)
+          (texts_late old.store (texts_in row) h.store r (not_none r m) x.1
+          ∙ sym (texts_late old.store (texts_in row) k.store t (not_none t m') y.1))
+      results (Some w) (Ok a) r' x y m m' = absurd x
+      results (Some w) (Err r) (Ok b) x y m m' = absurd y
+      results (Some w) (Err r) (Err t) x y m m' = ap (λ z. Err z) (x ∙ sym y)
+
+      stores_as : (a : AddOutcome) → AddsAs old.store name row h.store a → AddsAs old.store name row k.store a
+          → h.store ≡ k.store
+      stores_as First x y = x.2 ∙ sym y.2
+      stores_as (More i) x y = x.2 ∙ sym y.2
+
+      refused_by : (o : Option Refusal) → add_refusal old.store name row ≡ o → (r : Refusal) → r ≢ NoMemory
+          → AddsRow old.store name row (Err r) h.store → AddsRow old.store name row (Err r) k.store → h.store ≡ k.store
+      refused_by (Some w) is r other x y = x.stays (ap is_some is) ∙ sym (y.stays (ap is_some is))
+      refused_by None is r other x y =
+          let late = subst (λ o. Answers {A = AddOutcome} o (Err r) (AddsAs old.store name row h.store)
+              (λ w. (has_row (rows_of old.store.relations name) row ≡ false)
+              × RefusedByTexts old.store (texts_in row) h.store w)) is x.answer in
+          let late' = subst (λ o. Answers {A = AddOutcome} o (Err r) (AddsAs old.store name row k.store)
+              (λ w. (has_row (rows_of old.store.relations name) row ≡ false)
+              × RefusedByTexts old.store (texts_in row) k.store w)) is y.answer in
+          refused_texts old.store (texts_in row) h.store k.store r other late.1 late'.1
+
+      by : (r : Result AddOutcome Refusal) → (r ≡ Err NoMemory → ⊥) → AddsRow old.store name row r h.store
+          → AddsRow old.store name row r k.store → h.store ≡ k.store
+      by (Ok a) m x y = stores_as a
+          (done_of (add_refusal old.store name row) a (AddsAs old.store name row h.store) _ x.answer)
+          (done_of (add_refusal old.store name row) a (AddsAs old.store name row k.store) _ y.answer)
+      by (Err r) m x y = refused_by (add_refusal old.store name row) refl r (not_none r m) x y

@@ -64,7 +64,6 @@ IsSuch such _ = ⊤
 -- `done`, where it isn't shown yet that two refusals at the limit of texts make the same texts known.
 abbrev pub is_settled : Command → Bool
 is_settled (Query q) = false
-is_settled (Add name row) = false
 is_settled (Done given) = false
 is_settled c = true
 
