@@ -4,4 +4,5 @@ pub mod Sets
 pub mod ChangesSame
 pub mod Determinacy
 pub mod RowsSame
+pub mod DoneSame
 pub mod Steps

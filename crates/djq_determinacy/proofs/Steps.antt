@@ -22,7 +22,7 @@ use Rattle.djq_store_spec.specs.Store.{Store}
 use Rattle.djq_store_spec.specs.Held.{HeldTransaction}
 use Rattle.djq_machine.specs.State.{State, Session, Cursor, fresh, session_of, with_session, ended_by, cursor_of}
 use Rattle.djq_machine.specs.Effect.{Effect, nothing, says, says_any, lost_line, EndsWith, RefusedStep, queue_all}
-use Rattle.djq_machine.specs.Command.{CommandStep, AddStep, DeleteStep, HoldStep, CloseStep, NextStepAt, ExplainStepOf, is_misplaced}
+use Rattle.djq_machine.specs.Command.{CommandStep, AddStep, DeleteStep, DoneStep, HoldStep, CloseStep, NextStepAt, ExplainStepOf, is_misplaced}
 use Rattle.djq_machine.specs.LineStep.{LineOutcome, long, blank, slow, no_room, run, ReadStep, FrontStep, TakenLine, behind_line, past_limit_refusal}
 use Rattle.djq_protocol.specs.declared.limits.TheConstants.{SESSIONS}
 use Rattle.djq_machine.specs.Step.{FedStep, TookStep, EndedStep}
@@ -32,6 +32,7 @@ use Rattle.djq_run_laws.proofs.Lists.{session_changed}
 use Rattle.djq_determinacy.specs.Determinacy.{SameText, is_equal, SameParts, SameStore, IsNoRefusal, HasMemory, SaysSuch, IsSuch, is_settled, IsDetermined}
 use Rattle.djq_determinacy.proofs.Determinacy.{Same, IsTold, not_refused, said, same_alone, rel_same, drop_same, open_same, watch_same, unwatch_same, batch_same}
 use Rattle.djq_determinacy.proofs.Determinacy.{hold_same, has_same, shape_same, explain_same, refused_same, ends_same, close_same, union_same, next_same}
+use Rattle.djq_determinacy.proofs.DoneSame.{done_same}
 use Rattle.djq_determinacy.proofs.RowsSame.{GoesOn, delete_same, add_same}
 
 module _ (s : ℕ) (e e' : Effect) (new new' : State) (told : IsTold e) (told' : IsTold e') where
@@ -95,7 +96,12 @@ module _ (s : ℕ) (e e' : Effect) (new new' : State) (told : IsTold e) (told' :
       by None h k = add_same old s e e' new new' told told' goes name row h k
       by (Some held) h k = hold_same old s e e' new new' told told' held l Adds name row h k
   command_same old x l (Register q) such goes h k = absurd (true≢false (sym such))
-  command_same old x l (Done given) such goes h k = absurd (true≢false (sym such))
+  command_same old x l (Done given) such goes h k = by x.batch h k
+    where
+      by : (o : Option HeldTransaction) → MatchOption o ⊥ (λ held. DoneStep old s held given e new)
+          → MatchOption o ⊥ (λ held. DoneStep old s held given e' new') → Same e new e' new'
+      by None h k = absurd h
+      by (Some held) h k = done_same old s e e' new new' told told' goes held given h k
 
   -- a line that is read
   not_told : (old : State) → RefusedStep old s NoMemory e new → ⊥

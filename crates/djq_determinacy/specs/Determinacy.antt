@@ -60,11 +60,10 @@ abbrev pub IsSuch : (Command → Bool) → Event → Type 0
 IsSuch such (stepped s (run l)) = SaysSuch such (reading_of l)
 IsSuch such _ = ⊤
 
--- The commands of which it is proved: all but `query`, of which another rest might show the same, and but `add` and
--- `done`, where it isn't shown yet that two refusals at the limit of texts make the same texts known.
+-- The commands of which it is proved: all but `query`. Of a query that isn't free-connex it isn't shown yet that it has one
+-- rest alone.
 abbrev pub is_settled : Command → Bool
 is_settled (Query q) = false
-is_settled (Done given) = false
 is_settled c = true
 
 -- **Nothing loose.** Two steps of one event from one state, to neither of which memory is refused, queue the same and
