@@ -1,16 +1,15 @@
 -- What a change of rows tells is determined, memory aside.
-use Rattle.std.specs.Prelude.{ℕ, List, [], ◌∷◌, ◌≡◌, ◌⊎◌, ◌++◌, ◌==◌, ◌≤◌, ◌<◌, ◌+◌, Bool, true, false, cond, Option, None, Some}
-use Rattle.std.specs.Prelude.{IsSomeAnd, MatchOption, option_map, All, AllPairs, Contains, IsPermutation, map, length, ⊤}
-use Rattle.std.specs.List.{list_any, sum_by, flat_map}
+use Rattle.std.specs.Prelude.{ℕ, List, [], ◌∷◌, ◌≡◌, ◌⊎◌, ◌++◌, ◌==◌, ◌+◌, Bool, true, false, cond, Option, None, Some}
+use Rattle.std.specs.Prelude.{IsSomeAnd, MatchOption, option_map, All, AllPairs, IsPermutation, map, length, ⊤}
+use Rattle.std.specs.List.{list_any}
 use Rattle.std.proofs.Common.{refl, sym, ap, ◌∙◌, subst, inl, inr, arith, length-append, append_assoc, append-nil}
 use Rattle.std.proofs.lemmas.List.Elements.{All-head, All-tail, All-nil, All-cons, All-contains}
 use Rattle.std.proofs.lemmas.List.Concat.{length-flat_map}
 use Rattle.std.proofs.lemmas.Grind.{flat_map-append}
 use Rattle.std.proofs.lemmas.List.Sorted.{IsPermutation-map, IsPermutation-append_left, sum_by-IsPermutation}
 use Rattle.djq_model.specs.declared.relation.Relation.{Relation}
-use Rattle.djq_model.specs.Data.{Bytes, Tuple, bytes_eq}
+use Rattle.djq_model.specs.Data.{Bytes, Tuple}
 use Rattle.djq_model.specs.Listed.{Listed, listed_name, AnswersOf}
-use Rattle.djq_protocol.specs.declared.limits.TheConstants.{PENDING_BYTES}
 use Rattle.djq_protocol.specs.declared.answer.EndCause.{EndCause}
 use Rattle.djq_protocol.specs.declared.answer.EndCause.TheVariants.{Slow, Memory}
 use Rattle.djq_protocol.specs.Reply.{text_of, change_line, at_line, end_slow, end_memory}
@@ -58,7 +57,7 @@ same_length : (query : Bytes) (a b : List Change) (n : ℕ) → IsPermutation a 
     → length (text_of (delta_lines query a n)) ≡ length (text_of (delta_lines query b n))
 same_length query a b n moved =
     let lines = IsPermutation-append_left (at_line query n ∷ []) (change_lines query a) (change_lines query b)
-        (IsPermutation-map (λ (c : Change). change_line c.sign query c.answer) a b moved) in
+    (IsPermutation-map (λ (c : Change). change_line c.sign query c.answer) a b moved) in
     length-flat_map (λ (l : Bytes). l) (delta_lines query a n)
     ∙ sym (sum_by-IsPermutation (λ (l : Bytes). length l) (delta_lines query a n) (delta_lines query b n) lines)
     ∙ sym (length-flat_map (λ (l : Bytes). l) (delta_lines query b n))
@@ -188,7 +187,7 @@ module _ (n : ℕ) where
       let name = ap listed_name same.0 in
       let other = ap (λ q. text_of (delta_lines q d'.changes n)) name in
       let deltas : SameText text text' =
-          are_deltas (listed_name d.query) d.changes d'.changes n same.1 refl (sym other) in
+      are_deltas (listed_name d.query) d.changes d'.changes n same.1 refl (sym other) in
       subst (λ (x : Telling). AsFar x new') (sym h.1)
       (subst (λ (x : Telling). AsFar (says_more s text m) x) (sym k.1)
       (far_says s text text' m m' deltas
@@ -287,17 +286,21 @@ deltas_of P (d ∷ ds) [] same one h k =
 deltas_of P (d ∷ ds) (d' ∷ ds') same one h k =
     let whole : d.query ∷ map (λ (x : Delta). x.query) ds ≡ d'.query ∷ map (λ (x : Delta). x.query) ds' = same in
     let first : d.query ≡ d'.query = cc in
-    let rest : map (λ (x : Delta). x.query) ds ≡ map (λ (x : Delta). x.query) ds' = cc in
-    (one d d' first (All-head P d ds h) (All-head P d' ds' k),
-    deltas_of P ds ds' rest one (All-tail P d ds h) (All-tail P d' ds' k))
+    let rest : map (λ (x : Delta). x.query) ds ≡ map (λ (x : Delta). x.query) ds' = cc in (
+      one d d' first (All-head P d ds h) (All-head P d' ds' k),
+      deltas_of P ds ds' rest one (All-tail P d ds h) (All-tail P d' ds' k),
+    )
 
 are_same : (before : List Relation) (change : RowsChange) (queries : List Listed) (ds ds' : List Delta)
     → AreDeltas before change queries ds → AreDeltas before change queries ds' → SameDeltas ds ds'
 are_same before change queries ds ds' h k =
     deltas_of (λ (d : Delta). IsDelta (AnswersOf before d.query) (AnswersOf change.after d.query) d.changes) ds ds'
     (h.of_queries ∙ sym k.of_queries)
-    (λ d d' same a b. (same, same_changes (AnswersOf before d.query) (AnswersOf change.after d.query) d.changes d'.changes a
-    (subst (λ q. IsDelta (AnswersOf before q) (AnswersOf change.after q) d'.changes) (sym same) b)))
+    (λ d d' same a b. (
+      same,
+      same_changes (AnswersOf before d.query) (AnswersOf change.after d.query) d.changes d'.changes a
+          (subst (λ q. IsDelta (AnswersOf before q) (AnswersOf change.after q) d'.changes) (sym same) b),
+    ))
     h.are_deltas k.are_deltas
 
 listed_same : (before : List Relation) (affects : RowsChange → List Listed) (o : Option RowsChange) (ds ds' : List Delta)
@@ -369,9 +372,8 @@ change_same old s outcome store reply e e' new new' told told' h k =
     let none : AsFar start start = record { state = refl; parts = tt; long = λ t. refl } in
     let listed = listed_same old.store.relations (affected old) (tried outcome) h.deltas k.deltas h.listed k.listed in
     let far = deltas_same store.seq (cond (is_made outcome) h.deltas []) (cond (is_made outcome) k.deltas []) start start
-        h.told k.told (told_same (is_made outcome) h.deltas k.deltas listed) none before before' h.tells k.tells in
-    let last = replies_same s reply h.told k.told h.last k.last far clean clean' h.replies k.replies in
-    (
+    h.told k.told (told_same (is_made outcome) h.deltas k.deltas listed) none before before' h.tells k.tells in
+    let last = replies_same s reply h.told k.told h.last k.last far clean clean' h.replies k.replies in (
       subst (λ qs. SameParts qs e'.queued) (sym h.queued) (subst (λ qs. SameParts h.last.queued qs) (sym k.queued) last.parts),
       h.state ∙ last.state ∙ sym k.state,
     )

@@ -1,12 +1,11 @@
 -- What of a step is determined by its state and its event, memory aside: the commands that change no rows.
-use Rattle.std.specs.Prelude.{ℕ, List, [], ◌∷◌, ◌≡◌, ◌≢◌, ◌⊎◌, ◌++◌, ◌==◌, ◌≤◌, ◌<◌, ◌+◌, ◌||◌, Bool, true, false, cond, not, nat_le, nat_lt}
-use Rattle.std.specs.Prelude.{Option, None, Some, is_some, is_none, IsSomeAnd, MatchOption, Result, Ok, Err, OnErr, All, Contains, codes, map, length, ⊤}
+use Rattle.std.specs.Prelude.{ℕ, List, [], ◌∷◌, ◌≡◌, ◌⊎◌, ◌++◌, ◌<◌, ◌+◌, Bool, true, false}
+use Rattle.std.specs.Prelude.{Option, None, Some, is_none, IsSomeAnd, Result, Ok, Err, All, Contains, codes, map, length, ⊤}
 use Rattle.std.specs.List.{list_any}
 use Rattle.std.proofs.Common.{refl, sym, ap, ◌∙◌, subst, inl, inr, arith}
 use Rattle.std.proofs.lemmas.Bool.{true≢false}
 use Rattle.std.proofs.lemmas.List.Elements.{All-head}
 use Rattle.djq_model.specs.declared.query.Query.{Query}
-use Rattle.djq_model.specs.declared.relation.Relation.{Relation}
 use Rattle.djq_model.specs.declared.relation.ColumnType.{ColumnType}
 use Rattle.djq_model.specs.Data.{Bytes, Tuple}
 use Rattle.djq_model.specs.Listed.{Listed, a_query, a_union, listed_of, AnswersOf}
@@ -18,12 +17,11 @@ use Rattle.djq_protocol.specs.declared.answer.Shape.{Shape as ShapeOf}
 use Rattle.djq_protocol.specs.declared.answer.Shape.TheVariants.{Flat, Linear, Union as IsUnion}
 use Rattle.djq_protocol.specs.Conditions.{first_refusal, Answers, OutOfMemoryWhere}
 use Rattle.djq_protocol.specs.Reply.{refusal_line, ok_reply, union_reply, has_reply, shape_reply, watch_reply, held_reply}
-use Rattle.djq_store_spec.specs.Store.{Store}
 use Rattle.djq_store_spec.specs.Relations.{MakesRelation, rel_refusal}
 use Rattle.djq_store_spec.specs.Registering.{DropsQuery, drop_refusal}
-use Rattle.djq_store_spec.specs.Union.{RegistersUnion, union_refusal, AreUnder}
-use Rattle.djq_store_spec.specs.Asking.{TellsWhether, TellsShape, Tells, has_refusal, IsShapeOf}
-use Rattle.djq_machine.specs.State.{State, Session, with_session}
+use Rattle.djq_store_spec.specs.Union.{RegistersUnion, union_refusal}
+use Rattle.djq_store_spec.specs.Asking.{Tells, has_refusal, IsShapeOf}
+use Rattle.djq_machine.specs.State.{State, Session}
 use Rattle.djq_machine.specs.Effect.{Effect, says, answers}
 use Rattle.djq_machine.specs.Command.{RelStep, UnionStep, DropStep, HasStep, OpenStep, WatchStep, UnwatchStep, ShapeStep, BatchStep, HoldStep, uses}
 use Rattle.djq_machine.specs.Command.{OpensTo, BecomesWhere, open_refusal, watch_refusal, with_watch, without_watch, with_batch}
@@ -41,14 +39,13 @@ use Rattle.djq_store_spec.specs.Listing.{TellsAnswers}
 use Rattle.djq_tree.specs.Tree.{Tree}
 use Rattle.djq_tree.specs.Growing.{Growth, grow, start, IsStage, IsTreeOf, are_within, is_root, tree_of}
 use Rattle.std.proofs.lemmas.Bool.{cases_order}
-use Rattle.djq_determinacy.proofs.ChangesSame.{change_same}
-use Rattle.djq_determinacy.proofs.Sets.{Apart, AreAmong, same_set, no_more, apart_behind, apart_from, apart_more}
+use Rattle.djq_determinacy.proofs.Sets.{AreAmong, same_set, no_more, apart_behind, apart_from, apart_more}
 use Rattle.djq_answer_laws.proofs.Lists.{first_or_later}
 use Rattle.djq_store_spec.specs.Listing.{IsLeft}
 use Rattle.std.proofs.lemmas.List.Elements.{All-contains, Contains-append_left, Contains-append_right, Contains-append_cases}
 use Rattle.std.proofs.lemmas.List.Sorted.{length_permutation}
 use Rattle.djq_run_laws.proofs.Forms.{done_of}
-use Rattle.djq_determinacy.specs.Determinacy.{SameText, is_equal, are_pages, are_deltas, SameParts, IsNoRefusal}
+use Rattle.djq_determinacy.specs.Determinacy.{SameText, is_equal, are_pages, SameParts, IsNoRefusal}
 
 -- ---- What is answered, memory aside.
 
@@ -123,7 +120,7 @@ one_list [] (p ∷ ps) is = absurd (let no_list : [] ≡ Some (a_query p) ∷ ma
 one_list (q ∷ qs) [] is = absurd (let no_list : Some (a_query q) ∷ map (λ (q : Query). Some (a_query q)) qs ≡ [] = is in cc)
 one_list (q ∷ qs) (p ∷ ps) is =
     let whole : Some (a_query q) ∷ map (λ (q : Query). Some (a_query q)) qs
-        ≡ Some (a_query p) ∷ map (λ (q : Query). Some (a_query q)) ps = is in
+    ≡ Some (a_query p) ∷ map (λ (q : Query). Some (a_query q)) ps = is in
     let first : q ≡ p = cc in
     let rest : map (λ (q : Query). Some (a_query q)) qs ≡ map (λ (q : Query). Some (a_query q)) ps = cc in
     let more = one_list qs ps rest in ap (λ x. x ∷ qs) first ∙ ap (λ xs. p ∷ xs) more
@@ -150,7 +147,7 @@ one_tree : (H : List (List ℕ)) (F : List ℕ) (t u : Tree) → IsTreeOf H F t 
 one_tree H F t u h k =
     let mid = one_stage (are_within F) F (start H) h.mid k.mid h.first k.first in
     let last = one_stage is_root [] k.mid h.last k.last
-        (subst (λ (g : Growth). IsStage is_root [] g h.last) mid h.second) k.second in
+    (subst (λ (g : Growth). IsStage is_root [] g h.last) mid h.second) k.second in
     h.is ∙ ap (λ (g : Growth). tree_of (length H) F g h.last) mid ∙ ap (λ (g : Growth). tree_of (length H) F k.mid g) last
     ∙ sym k.is
 
@@ -172,8 +169,8 @@ no_end : (Answer : Tuple → Type 0) (given told told' : List Tuple) (count : �
 no_end Answer given told told' count h k =
     let left = k.some_left refl in
     let few = no_more (left.0 ∷ told') told
-        (apart_more left.0 told' (λ there. left.1.1 (Contains-append_right given told' left.0 there))
-        (apart_behind given told' k.different)) (λ t there. by left t (first_or_later left.0 told' t there)) in
+    (apart_more left.0 told' (λ there. left.1.1 (Contains-append_right given told' left.0 there))
+    (apart_behind given told' k.different)) (λ t there. by left t (first_or_later left.0 told' t there)) in
     omega (arith, few, h.at_most, k.all_asked refl)
   where
     by : (left : (t : Tuple) × IsLeft Answer (given ++ told') t) (t : Tuple) → (left.0 ≡ t) ⊎ Contains told' t → Contains told t
@@ -191,7 +188,7 @@ pages_same : (Answer : Tuple → Type 0) (given told told' : List Tuple) (count 
     → SameText (text_of (listing_lines told end)) (text_of (listing_lines told' end'))
 pages_same Answer given told told' count true true h k =
     let moved = same_set told told' (apart_behind given told h.different) (apart_behind given told' k.different)
-        (among_all Answer given told told' count true true h k refl) (among_all Answer given told' told count true true k h refl) in
+    (among_all Answer given told told' count true true h k refl) (among_all Answer given told' told count true true k h refl) in
     are_pages told told' true refl refl (sym (length_permutation told told' moved)) (λ _. moved)
 pages_same Answer given told told' count false false h k =
     are_pages told told' false refl refl (h.all_asked refl ∙ sym (k.all_asked refl)) (λ ends. absurd (true≢false (sym ends)))
@@ -205,13 +202,12 @@ module _ (old : State) (s : ℕ) (e e' : Effect) (new new' : State) (told : IsTo
       let q = answered s _ _ e h.effect in
       let q' = answered s _ _ e' k.effect in
       let same = same_answer (rel_refusal old.store name types) h.result k.result _ _ ⊤ ⊤ (λ a b _ _. refl)
-          (not_err (ok_reply (codes "ok")) s h.result e refl q told)
-          (not_err (ok_reply (codes "ok")) s k.result e' refl q' told') h.done.answer k.done.answer in
-      (
+      (not_err (ok_reply (codes "ok")) s h.result e refl q told)
+      (not_err (ok_reply (codes "ok")) s k.result e' refl q' told') h.done.answer k.done.answer in (
         same_alone s _ _ e e' q q' (ap (ok_reply (codes "ok")) same),
         ap (λ (st : State). st.store) h.state
-        ∙ by h.result h.done (subst (λ r. MakesRelation old.store name types r k.store) (sym same) k.done)
-        ∙ sym (ap (λ (st : State). st.store) k.state),
+            ∙ by h.result h.done (subst (λ r. MakesRelation old.store name types r k.store) (sym same) k.done)
+            ∙ sym (ap (λ (st : State). st.store) k.state),
       )
     where
       by : (r : Result ⊤ Refusal) → MakesRelation old.store name types r h.store
@@ -226,13 +222,12 @@ module _ (old : State) (s : ℕ) (e e' : Effect) (new new' : State) (told : IsTo
       let is' = answered s _ _ e' k.effect in
       let used = list_any (uses q) old.sessions in
       let same = same_answer (drop_refusal old.store used q) h.result k.result _ _ ⊥ ⊥ (λ a b _ _. refl)
-          (not_err (ok_reply (codes "ok")) s h.result e refl is told)
-          (not_err (ok_reply (codes "ok")) s k.result e' refl is' told') h.done.answer k.done.answer in
-      (
+      (not_err (ok_reply (codes "ok")) s h.result e refl is told)
+      (not_err (ok_reply (codes "ok")) s k.result e' refl is' told') h.done.answer k.done.answer in (
         same_alone s _ _ e e' is is' (ap (ok_reply (codes "ok")) same),
         ap (λ (st : State). st.store) h.state
-        ∙ by h.result h.done (subst (λ r. DropsQuery old.store used q r k.store) (sym same) k.done)
-        ∙ sym (ap (λ (st : State). st.store) k.state),
+            ∙ by h.result h.done (subst (λ r. DropsQuery old.store used q r k.store) (sym same) k.done)
+            ∙ sym (ap (λ (st : State). st.store) k.state),
       )
     where
       by : (r : Result ⊤ Refusal) → DropsQuery old.store (list_any (uses q) old.sessions) q r h.store
@@ -262,9 +257,8 @@ module _ (old : State) (s : ℕ) (e e' : Effect) (new new' : State) (told : IsTo
       let is = said s _ e h.effect in
       let is' = said s _ e' k.effect in
       let same = same_answer (open_refusal old.store x.cursors c q) h.result k.result _ _ ⊤ ⊤ (λ a b _ _. refl)
-          (not_err (ok_reply (codes "ok open")) s h.result e refl is told)
-          (not_err (ok_reply (codes "ok open")) s k.result e' refl is' told') h.answer k.answer in
-      (
+      (not_err (ok_reply (codes "ok open")) s h.result e refl is told)
+      (not_err (ok_reply (codes "ok open")) s k.result e' refl is' told') h.answer k.answer in (
         same_alone s _ _ e e' is is' (ap (ok_reply (codes "ok open")) same),
         stays h.result h.state ∙ sym (stays' k.result k.state),
       )
@@ -283,7 +277,7 @@ module _ (old : State) (s : ℕ) (e e' : Effect) (new new' : State) (told : IsTo
       let is = said s (reply h.result) e h.effect in
       let is' = said s (reply k.result) e' k.effect in
       let same = same_answer (watch_refusal old.store q) h.result k.result _ _ _ _ (λ a b _ _. refl)
-          (not_err reply s h.result e refl is told) (not_err reply s k.result e' refl is' told') h.answer k.answer in
+      (not_err reply s h.result e refl is told) (not_err reply s k.result e' refl is' told') h.answer k.answer in
       (same_alone s _ _ e e' is is' (ap reply same), turned_same (with_watch q) h.result k.result h.state k.state)
 
   pub unwatch_same : (q : Bytes) → UnwatchStep old s q e new → UnwatchStep old s q e' new' → Same e new e' new'
@@ -291,9 +285,8 @@ module _ (old : State) (s : ℕ) (e e' : Effect) (new new' : State) (told : IsTo
       let is = said s _ e h.effect in
       let is' = said s _ e' k.effect in
       let same = same_answer (watch_refusal old.store q) h.result k.result _ _ _ _ (λ a b _ _. refl)
-          (not_err (ok_reply (codes "ok")) s h.result e refl is told)
-          (not_err (ok_reply (codes "ok")) s k.result e' refl is' told') h.answer k.answer in
-      (
+      (not_err (ok_reply (codes "ok")) s h.result e refl is told)
+      (not_err (ok_reply (codes "ok")) s k.result e' refl is' told') h.answer k.answer in (
         same_alone s _ _ e e' is is' (ap (ok_reply (codes "ok")) same),
         turned_same (without_watch q) h.result k.result h.state k.state,
       )
@@ -303,9 +296,8 @@ module _ (old : State) (s : ℕ) (e e' : Effect) (new new' : State) (told : IsTo
       let is = said s _ e h.effect in
       let is' = said s _ e' k.effect in
       let same = same_answer None h.result k.result _ _ _ _ (λ a b _ _. refl)
-          (not_err (ok_reply (codes "ok batch")) s h.result e refl is told)
-          (not_err (ok_reply (codes "ok batch")) s k.result e' refl is' told') h.answer k.answer in
-      (
+      (not_err (ok_reply (codes "ok batch")) s h.result e refl is told)
+      (not_err (ok_reply (codes "ok batch")) s k.result e' refl is' told') h.answer k.answer in (
         same_alone s _ _ e e' is is' (ap (ok_reply (codes "ok batch")) same),
         turned_same (with_batch nothing_held) h.result k.result h.state k.state,
       )
@@ -317,8 +309,7 @@ module _ (old : State) (s : ℕ) (e e' : Effect) (new new' : State) (told : IsTo
       let is = said s (reply h.result) e h.effect in
       let is' = said s (reply k.result) e' k.effect in
       let same = same_answer (hold_refusal old.store held l name row) h.result k.result _ _ _ _ (λ a b _ _. refl)
-          (not_err reply s h.result e refl is told) (not_err reply s k.result e' refl is' told') h.answer k.answer in
-      (
+      (not_err reply s h.result e refl is told) (not_err reply s k.result e' refl is' told') h.answer k.answer in (
         same_alone s _ _ e e' is is' (ap reply same),
         turned_same (with_batch (holding held verb name row l)) h.result k.result h.state k.state,
       )
@@ -328,8 +319,8 @@ module _ (old : State) (s : ℕ) (e e' : Effect) (new new' : State) (told : IsTo
       let is = ap (λ (d : Effect). d.queued) h.effect in
       let is' = ap (λ (d : Effect). d.queued) k.effect in
       let same = same_answer (has_refusal old.store q t) h.result k.result _ _ ⊥ ⊥ (alike (listed_of old.store.queries q))
-          (not_err has_reply s h.result e refl is told) (not_err has_reply s k.result e' refl is' told')
-          h.tells.answer k.tells.answer in
+      (not_err has_reply s h.result e refl is told) (not_err has_reply s k.result e' refl is' told')
+      h.tells.answer k.tells.answer in
       (same_alone s _ _ e e' is is' (ap has_reply same), same_store h.state k.state)
     where
       tells : (P : Type 0) (a b : Bool) → Tells P a → Tells P b → a ≡ b
@@ -348,9 +339,9 @@ module _ (old : State) (s : ℕ) (e e' : Effect) (new new' : State) (told : IsTo
       let is = said s _ e h.effect in
       let is' = said s _ e' k.effect in
       let same = same_answer (first_refusal ((is_none (listed_of old.store.queries q), NoQuery) ∷ [])) h.result k.result
-          _ _ ⊥ ⊥ (alike (listed_of old.store.queries q))
-          (not_err shape_reply s h.result e refl is told) (not_err shape_reply s k.result e' refl is' told')
-          h.tells.answer k.tells.answer in
+      _ _ ⊥ ⊥ (alike (listed_of old.store.queries q))
+      (not_err shape_reply s h.result e refl is told) (not_err shape_reply s k.result e' refl is' told')
+      h.tells.answer k.tells.answer in
       (same_alone s _ _ e e' is is' (ap shape_reply same), same_store h.state k.state)
     where
       shapes : (l : Listed) (a b : ShapeOf) → IsShapeOf l a → IsShapeOf l b → a ≡ b
@@ -415,14 +406,13 @@ module _ (old : State) (s : ℕ) (e e' : Effect) (new new' : State) (told : IsTo
       let is = answered s _ _ e h.effect in
       let is' = answered s _ _ e' k.effect in
       let same = same_answer (union_refusal old.store name members) h.result k.result _ _ ⊤ ⊤
-          (λ a b d d'. d.2 ∙ ap (λ qs. answer_steps (a_union name qs)) (one_list d.0 d'.0 (sym d.1 ∙ d'.1)) ∙ sym d'.2)
-          (not_err union_reply s h.result e refl is told) (not_err union_reply s k.result e' refl is' told')
-          h.done.answer k.done.answer in
-      (
+      (λ a b d d'. d.2 ∙ ap (λ qs. answer_steps (a_union name qs)) (one_list d.0 d'.0 (sym d.1 ∙ d'.1)) ∙ sym d'.2)
+      (not_err union_reply s h.result e refl is told) (not_err union_reply s k.result e' refl is' told')
+      h.done.answer k.done.answer in (
         same_alone s _ _ e e' is is' (ap union_reply same),
         ap (λ (st : State). st.store) h.state
-        ∙ by h.result h.done (subst (λ r. RegistersUnion old.store name members r k.store) (sym same) k.done)
-        ∙ sym (ap (λ (st : State). st.store) k.state),
+            ∙ by h.result h.done (subst (λ r. RegistersUnion old.store name members r k.store) (sym same) k.done)
+            ∙ sym (ap (λ (st : State). st.store) k.state),
       )
     where
       by : (r : Result ℕ Refusal) → RegistersUnion old.store name members r h.store

@@ -1,5 +1,5 @@
 -- `done` is determined, memory aside.
-use Rattle.std.specs.Prelude.{ℕ, zero, suc, List, [], ◌∷◌, ◌≡◌, ◌≢◌, ◌⊎◌, ◌++◌, ◌+◌, Bool, true, false, Option, None, Some}
+use Rattle.std.specs.Prelude.{ℕ, List, [], ◌∷◌, ◌≡◌, ◌≢◌, ◌++◌, Bool, false, Option, None, Some}
 use Rattle.std.specs.Prelude.{IsSomeAnd, option_map, Result, Ok, Err, length}
 use Rattle.std.proofs.Common.{refl, sym, ap, ◌∙◌, subst, inl, inr, arith}
 use Rattle.djq_model.specs.declared.relation.Relation.{Relation}
@@ -7,16 +7,15 @@ use Rattle.djq_model.specs.Data.{Bytes}
 use Rattle.djq_protocol.specs.declared.answer.Refusal.TheVariants.{NoMemory}
 use Rattle.djq_protocol.specs.declared.held.LineRefusal.{LineRefusal}
 use Rattle.djq_protocol.specs.declared.held.LineRefusal.TheVariants.{Limit as OverLimit, Absent, NoMemory as OutOfMemory}
-use Rattle.djq_protocol.specs.declared.held.RefusedLine.{RefusedLine}
 use Rattle.djq_protocol.specs.declared.held.DoneRefusal.{DoneRefusal}
 use Rattle.djq_protocol.specs.declared.held.DoneRefusal.TheVariants.{OtherNumber, Line, LastChange, NoMemory as NoneLeft}
 use Rattle.djq_protocol.specs.Reply.{refusal_line, line_word, done_word, done_reply}
 use Rattle.djq_store_spec.specs.Store.{Store}
 use Rattle.djq_store_spec.specs.Held.{HeldLine, HeldTransaction}
 use Rattle.djq_store_spec.specs.Changes.{is_made}
-use Rattle.djq_store_spec.specs.Judging.{UnlessMemory, StopsAtLine, RefusesLines, texts_after, texts_added, row_refusal}
-use Rattle.djq_store_spec.specs.Done.{AnswersDone, RefusesDone, done_refusal, is_other}
-use Rattle.djq_store_spec.specs.Transaction.{CarriesOut, DoesAll, lines_outcome, store_after}
+use Rattle.djq_store_spec.specs.Judging.{UnlessMemory, StopsAtLine, texts_after, texts_added}
+use Rattle.djq_store_spec.specs.Done.{AnswersDone, RefusesDone, is_other}
+use Rattle.djq_store_spec.specs.Transaction.{DoesAll, lines_outcome}
 use Rattle.djq_machine.specs.State.{State, Session, session_of, with_session}
 use Rattle.djq_machine.specs.Effect.{Effect}
 use Rattle.djq_machine.specs.Command.{DoneStep, without_batch}

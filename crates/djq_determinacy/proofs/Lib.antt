@@ -6,3 +6,4 @@ pub mod Determinacy
 pub mod RowsSame
 pub mod DoneSame
 pub mod Steps
+pub mod Dialogues

@@ -53,11 +53,11 @@ use Rattle.djq_determinacy.specs.Memory.{needs_none, RefusesNone, NeverRefusedFo
 
 -- ---- texts that are another
 
-abbrev memory_text : Bytes
+abbrev pub memory_text : Bytes
 memory_text = refusal_line NoMemory
 
 -- a text that differs at a place
-differs_at : (k : ℕ) (text : Bytes) → (get_or text k 0 == get_or memory_text k 0) ≡ false → text ≢ memory_text
+pub differs_at : (k : ℕ) (text : Bytes) → (get_or text k 0 == get_or memory_text k 0) ≡ false → text ≢ memory_text
 differs_at k text other same = eqb-false (get_or text k 0) (get_or memory_text k 0) other (ap (λ t. get_or t k 0) same)
 
 -- the line of another refusal
@@ -222,9 +222,9 @@ change_refuses_none : (old : State) (s : ℕ) (outcome : RowsOutcome) (store : S
     → reply ≢ memory_text → ChangeStep old s outcome store reply e new → RefusesNone e
 change_refuses_none old s outcome store reply e new other change =
     let deltas = walk_keeps (TellsDelta store.seq) OthersToldSo
-        (λ m d new tells h. walk_keeps (TellsSession d store.seq) OthersToldSo (session_told d store.seq) m (state_ids m.state)
-        new tells h)
-        _ _ change.told change.tells (All-nil IsOtherPart) in
+    (λ m d new tells h. walk_keeps (TellsSession d store.seq) OthersToldSo (session_told d store.seq) m (state_ids m.state)
+    new tells h)
+    _ _ change.told change.tells (All-nil IsOtherPart) in
     let all = reply_told s reply change.told change.last other change.replies deltas in
     refuses_none e (subst (λ qs. All IsOtherPart qs) (sym change.queued) all)
 
@@ -330,6 +330,7 @@ module _ (old : State) (s : ℕ) (e : Effect) (new : State) where
           → RefusesNone e
       by_query k None step = absurd step
       by_query k (Some q) step = next_refuses_none c q count k.position step
+
       by : (o : Option Cursor) → MatchOption o (RefusedStep old s NoCursor e new)
           (λ k. IsSomeAnd (listed_of old.store.queries k.query) (λ q. NextStepAt old s c q count k.position e new))
           → RefusesNone e

@@ -78,11 +78,11 @@ move_then most at m next makes end r =
 
 -- ---- Steps that there always are.
 
-same_relations : (rs : List Relation) → SameRelations rs rs
+pub same_relations : (rs : List Relation) → SameRelations rs rs
 same_relations [] = tt
 same_relations (r ∷ rs) = (refl, refl, IsPermutation-refl r.rows, same_relations rs)
 
-step_of : (old : State) (event : Event) (e : Effect) (mid : State) → Acts old event e mid
+pub step_of : (old : State) (event : Event) (e : Effect) (mid : State) → Acts old event e mid
     → Step old event e (queue_all mid e.queued)
 step_of old event e mid acts = record {
   mid = mid;
@@ -154,7 +154,7 @@ lighter_left s (x ∷ xs) = by (x.id == s) (lighter_left s xs)
     by true h = omega (arith, h)
     by false h =
         let more : weight x + weigh_all (filter (λ (y : Session). not (y.id == s)) xs) ≤ weight x + weigh_all xs =
-            omega (arith, h) in more
+        omega (arith, h) in more
 
 -- a change that makes no session heavier
 no_heavier : (p : Session → Bool) (f : Session → Session) → ((x : Session) → weight (f x) ≤ weight x) → (xs : List Session)
@@ -189,7 +189,7 @@ queued_burden : (qs : List (ℕ × Bytes)) (st : State) → burden (queue_all st
 queued_burden [] st = omega arith
 queued_burden (q ∷ qs) st =
     let one = no_heavier (λ (x : Session). x.id == q.0) (λ x. record x { pending = x.pending ++ q.1 }) (λ x. omega arith)
-        st.sessions in
+    st.sessions in
     let more = queued_burden qs (with_session st q.0 (λ x. record x { pending = x.pending ++ q.1 })) in
     omega (arith, one, more)
 
@@ -252,8 +252,8 @@ module _ (st : State) (s : ℕ) (x : Session) (found : session_of st s ≡ Some 
     shorter =
         let few = line_shorter x.held l rest front in
         let less : weight (behind_line rest x) < weight x =
-            let after : weight (behind_line rest x) ≡ suc (length rest) = ap (λ (c : Option EndCause). weight_by c rest) runs in
-            omega (arith, weighs, after, few) in
+        let after : weight (behind_line rest x) ≡ suc (length rest) = ap (λ (c : Option EndCause). weight_by c rest) runs in
+        omega (arith, weighs, after, few) in
         is_lighter (λ (y : Session). y.id == s) (behind_line rest) st.sessions x found less
 
     passes_blank : is_blank l ≡ true → Lightens st s
@@ -364,15 +364,15 @@ module _ (most : ℕ) where
   one_closed st answer x xs is more =
       let s = x.id in
       let found : session_of st s ≡ Some x =
-          ap (λ (ys : List Session). find (λ (y : Session). y.id == s) ys) is ∙ found_first x xs in
+      ap (λ (ys : List Session). find (λ (y : Session). y.id == s) ys) is ∙ found_first x xs in
       let there : IsSomeAnd (session_of st s) (λ y. y.pending ≡ pending_of st s) =
-          pending_there (session_of st s) (ap is_some found) in
+      pending_there (session_of st s) (ap is_some found) in
       let m = move (Closing s ∷ []) (record { event = closed s (pending_of st s); effect = nothing } ∷ []) in
       let next = server (gone s st) (closing answer) in
       let closes : ClosesFirst answer st m next (first_open st) =
-          subst (λ o. ClosesFirst answer st m next o)
-          (sym (ap (λ (ys : List Session). slice_get (map (λ (y : Session). y.id) ys) 0) is))
-          (refl, refl, (nothing, closes_step st s (pending_of st s) there, refl), refl) in
+      subst (λ o. ClosesFirst answer st m next o)
+      (sym (ap (λ (ys : List Session). slice_get (map (λ (y : Session). y.id) ys) 0) is))
+      (refl, refl, (nothing, closes_step st s (pending_of st s) there, refl), refl) in
       move_then most (server st (closing answer)) m next (closes, omega arith) (closes_told s m.done)
       (more (gone s st) (one_gone s st.sessions x found))
 
@@ -430,8 +430,16 @@ module _ (most : ℕ) where
           → ReturnsFrom most (server st (flushing from next))
       by [] none returns = visit_by st from s next (Closing s ∷ []) due
           (All-cons IsOfOver (Closing s) [] tt (All-nil IsOfOver))
-          (inr (none, due_ended st from s due none, (refl, subst (λ (bytes : Bytes). Happens (closed s bytes) st
-          (record { event = closed s (pending_of st s); effect = nothing } ∷ []) (gone s st)) none happens), refl)) returns
+          (inr (
+            none,
+            due_ended st from s due none,
+            (
+              refl,
+              subst (λ (bytes : Bytes). Happens (closed s bytes) st
+                  (record { event = closed s (pending_of st s); effect = nothing } ∷ []) (gone s st)) none happens,
+            ),
+            refl,
+          )) returns
       by (b ∷ bs) some returns =
           visit_by st from s next (offering s (pending_of st s) Gone ∷ Closing s ∷ []) due
           (All-cons IsOfOver (offering s (pending_of st s) Gone) (Closing s ∷ []) (refl, refl)
@@ -476,9 +484,11 @@ module _ (most : ℕ) where
       let m = move [] (record { event = stepped s l.outcome; effect = l.effect } ∷ []) in
       let kept = groups ++ kept_group (stepped s l.outcome) l.effect.kept in
       let next = server l.new (keeping kept (more_lines (s + 1) last)) in
-      move_then most (server st (running from count groups last)) m next
-      (subst (λ o. RunsAt count groups last st m next o) (sym is)
-      (refl, refl, l.outcome, (l.effect, l.step, refl), inr refl), omega arith)
+      move_then most (server st (running from count groups last)) m next (
+        subst (λ o. RunsAt count groups last st m next o) (sym is)
+            (refl, refl, l.outcome, (l.effect, l.step, refl), inr refl),
+        omega arith,
+      )
       (nothing_told m.done)
       (commit_returns l.new kept (more_lines (s + 1) last)
       (λ later k. more later (s + 1) (let less = l.less in omega (arith, k, less))))
@@ -508,14 +518,18 @@ module _ (most : ℕ) where
         says_any s (cut_line x.held ++ lost_line x.batch),
         with_session st s (ended_by Input),
         acts_at st s x _ found (subst (λ (c : Option EndCause). MatchOption c ((is_dry x.held ≡ true)
-        × (says_any s (cut_line x.held ++ lost_line x.batch) ≡ says_any s (cut_line x.held ++ lost_line x.batch))
-        × (with_session st s (ended_by Input) ≡ with_session st s (ended_by Input)))
-        (λ _. (says_any s (cut_line x.held ++ lost_line x.batch) ≡ nothing) × (with_session st s (ended_by Input) ≡ st)))
-        (sym is) (dry_held, refl, refl)),
+            × (says_any s (cut_line x.held ++ lost_line x.batch) ≡ says_any s (cut_line x.held ++ lost_line x.batch))
+            × (with_session st s (ended_by Input) ≡ with_session st s (ended_by Input)))
+            (λ _. (says_any s (cut_line x.held ++ lost_line x.batch) ≡ nothing) × (with_session st s (ended_by Input) ≡ st)))
+            (sym is) (dry_held, refl, refl)),
       )
-      by (Some c) is = (nothing, st, acts_at st s x _ found (subst (λ (c : Option EndCause). MatchOption c
-          ((is_dry x.held ≡ true) × (nothing ≡ says_any s (cut_line x.held ++ lost_line x.batch))
-          × (st ≡ with_session st s (ended_by Input))) (λ _. (nothing ≡ nothing) × (st ≡ st))) (sym is) (refl, refl)))
+      by (Some c) is = (
+        nothing,
+        st,
+        acts_at st s x _ found (subst (λ (c : Option EndCause). MatchOption c
+            ((is_dry x.held ≡ true) × (nothing ≡ says_any s (cut_line x.held ++ lost_line x.batch))
+            × (st ≡ with_session st s (ended_by Input))) (λ _. (nothing ≡ nothing) × (st ≡ st))) (sym is) (refl, refl)),
+      )
 
   no_line_left : (st : State) (from count : ℕ) (groups : List Group) (last : Last) → next_ready st from ≡ None
       → Rounds last → ReturnsFrom most (server st (running from count groups last))
@@ -531,7 +545,7 @@ module _ (most : ℕ) where
           let found = some_session (session_of st s) (input_open st s is) in
           let dry_or = input_dry st s (next_none st from none) is in
           let dry_there : IsSome (found.0).cause ⊎ (is_dry (found.0).held ≡ true) =
-              subst (λ (o : Option Session). IsSome (cause_in o) ⊎ (is_dry (held_in o) ≡ true)) found.1 dry_or in
+          subst (λ (o : Option Session). IsSome (cause_in o) ⊎ (is_dry (held_in o) ≡ true)) found.1 dry_or in
           let acts = input_ends st s found.0 found.1 dry_there in
           let new = queue_all acts.1 (acts.0).queued in
           let done = record { event = ended s; effect = acts.0 } ∷ [] in

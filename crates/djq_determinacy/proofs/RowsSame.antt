@@ -1,6 +1,6 @@
 -- Inserting and deleting a row is determined, memory aside.
-use Rattle.std.specs.Prelude.{ℕ, List, [], ◌∷◌, ◌≡◌, ◌≢◌, ◌⊎◌, ◌++◌, ◌==◌, ◌≤◌, ◌<◌, ◌+◌, ◌&&◌, Bool, true, false, cond, nat_le, Option, None, Some, is_some}
-use Rattle.std.specs.Prelude.{IsSomeAnd, MatchOption, Result, Ok, Err, option_map, All, map, length, ⊤}
+use Rattle.std.specs.Prelude.{ℕ, List, [], ◌∷◌, ◌≡◌, ◌≢◌, ◌⊎◌, ◌++◌, ◌==◌, ◌≤◌, ◌+◌, ◌&&◌, Bool, true, false, cond, nat_le, Option, None, Some, is_some}
+use Rattle.std.specs.Prelude.{IsSomeAnd, MatchOption, Result, Ok, Err, option_map, All, map, length}
 use Rattle.std.specs.List.{list_any}
 use Rattle.std.proofs.Common.{refl, sym, ap, ◌∙◌, subst, inl, inr, arith, length-append}
 use Rattle.std.proofs.lemmas.Bool.{true≢false}
@@ -17,7 +17,7 @@ use Rattle.djq_protocol.specs.declared.answer.AddOutcome.{AddOutcome}
 use Rattle.djq_protocol.specs.declared.answer.AddOutcome.TheVariants.{First, More}
 use Rattle.djq_protocol.specs.declared.answer.DeleteOutcome.{DeleteOutcome}
 use Rattle.djq_protocol.specs.declared.answer.DeleteOutcome.TheVariants.{Last, Left, Absent}
-use Rattle.djq_protocol.specs.Conditions.{first_refusal, Answers, OutOfMemoryWhere}
+use Rattle.djq_protocol.specs.Conditions.{Answers, OutOfMemoryWhere}
 use Rattle.djq_protocol.specs.Reply.{refusal_line, end_memory, add_reply, delete_reply}
 use Rattle.djq_store_spec.specs.Store.{Store}
 use Rattle.djq_store_spec.specs.Relations.{FindsNoPlace, RefusedByTexts}
@@ -32,7 +32,7 @@ use Rattle.djq_machine.specs.Watch.{Telling, says_more, ends_more, TellsDelta, R
 use Rattle.djq_machine.specs.Command.{AddStep, DeleteStep}
 use Rattle.djq_run_laws.proofs.Forms.{done_of}
 use Rattle.djq_run_laws.proofs.Deltas.{find_mapped}
-use Rattle.djq_determinacy.specs.Determinacy.{SameParts, IsNoRefusal}
+use Rattle.djq_determinacy.specs.Determinacy.{IsNoRefusal}
 use Rattle.djq_determinacy.proofs.Memory.{NoneOfMemory, refusals_of}
 use Rattle.djq_determinacy.proofs.ChangesSame.{change_same}
 use Rattle.djq_determinacy.proofs.Determinacy.{same_answer, IsTold, Same}
@@ -100,8 +100,8 @@ pub same_change : (old : State) (s : ℕ) (o o' : RowsOutcome) (store store' : S
     → ChangeStep old s o store reply e new → ChangeStep old s o' store' reply' e' new' → Same e new e' new'
 same_change old s o o' store store' reply reply' e e' new new' told told' outcome same text h k =
     let k' = subst (λ x. ChangeStep old s x store reply e' new') (sym outcome)
-        (subst (λ (x : Store). ChangeStep old s o' x reply e' new') (sym same)
-        (subst (λ x. ChangeStep old s o' store' x e' new') (sym text) k)) in
+    (subst (λ (x : Store). ChangeStep old s o' x reply e' new') (sym same)
+    (subst (λ x. ChangeStep old s o' store' x e' new') (sym text) k)) in
     let both = change_same old s o store reply e e' new new' told told' h k' in
     (both.0, ap (λ (st : State). st.store) both.1)
 
@@ -112,12 +112,12 @@ module _ (old : State) (s : ℕ) (e e' : Effect) (new new' : State) (told : IsTo
       → Same e new e' new'
   delete_same name row h k =
       let conditions = row_refusals old.store name row
-          ++ ((copies_of old.store name row == 1) && nat_le LAST_SEQ old.store.seq, Limit) ∷ [] in
+      ++ ((copies_of old.store name row == 1) && nat_le LAST_SEQ old.store.seq, Limit) ∷ [] in
       let none : NoneOfMemory conditions = (refl, (refl, (refl, (refl, tt)))) in
       let same = same_answer (delete_refusal old.store name row) h.result k.result _ _ ⊥ ⊥ outcomes
-          (λ is. refusals_of conditions h.result (DeletesAs old.store name row h.store) none h.done.answer NoMemory is refl)
-          (λ is. refusals_of conditions k.result (DeletesAs old.store name row k.store) none k.done.answer NoMemory is refl)
-          h.done.answer k.done.answer in
+      (λ is. refusals_of conditions h.result (DeletesAs old.store name row h.store) none h.done.answer NoMemory is refl)
+      (λ is. refusals_of conditions k.result (DeletesAs old.store name row k.store) none k.done.answer NoMemory is refl)
+      h.done.answer k.done.answer in
       let stores = by h.result h.done (subst (λ r. DeletesRow old.store name row r k.store) (sym same) k.done) in
       same_change old s _ _ h.store k.store _ _ e e' new new' told told'
       (ap (delete_outcome (row_out old.store.relations name row)) same) stores
@@ -171,7 +171,7 @@ learned_parts known (x ∷ xs) ys = learned_parts (learned known x) xs ys
 one_too_many : (old texts known : List Bytes) → FindsNoPlace old texts known → length (all_learned old texts) ≤ TEXTS → ⊥
 one_too_many old texts known h few =
     let whole = ap (all_learned old) h.parts ∙ learned_parts old h.first (h.next ∷ h.rest)
-        ∙ ap (λ ks. all_learned (learned ks h.next) h.rest) (sym h.learned) in
+    ∙ ap (λ ks. all_learned (learned ks h.next) h.rest) (sym h.learned) in
     let more = grown (learned known h.next) h.rest in
     omega (arith, few, ap length whole, more, one_more_known known h.next h.unknown, h.full)
 
@@ -311,11 +311,11 @@ module _ (old : State) (s : ℕ) (e e' : Effect) (new new' : State) (told : IsTo
       refused_by (Some w) is r other x y = x.stays (ap is_some is) ∙ sym (y.stays (ap is_some is))
       refused_by None is r other x y =
           let late = subst (λ o. Answers {A = AddOutcome} o (Err r) (AddsAs old.store name row h.store)
-              (λ w. (has_row (rows_of old.store.relations name) row ≡ false)
-              × RefusedByTexts old.store (texts_in row) h.store w)) is x.answer in
+          (λ w. (has_row (rows_of old.store.relations name) row ≡ false)
+          × RefusedByTexts old.store (texts_in row) h.store w)) is x.answer in
           let late' = subst (λ o. Answers {A = AddOutcome} o (Err r) (AddsAs old.store name row k.store)
-              (λ w. (has_row (rows_of old.store.relations name) row ≡ false)
-              × RefusedByTexts old.store (texts_in row) k.store w)) is y.answer in
+          (λ w. (has_row (rows_of old.store.relations name) row ≡ false)
+          × RefusedByTexts old.store (texts_in row) k.store w)) is y.answer in
           refused_texts old.store (texts_in row) h.store k.store r other late.1 late'.1
 
       by : (r : Result AddOutcome Refusal) → (r ≡ Err NoMemory → ⊥) → AddsRow old.store name row r h.store

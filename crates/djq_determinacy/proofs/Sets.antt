@@ -1,6 +1,6 @@
 -- Lists of different elements that have the same ones are each other in another order.
-use Rattle.std.specs.Prelude.{ℕ, List, [], ◌∷◌, ◌≡◌, ◌⊎◌, ◌++◌, ◌≤◌, ◌+◌, All, AllPairs, Contains, IsPermutation, length}
-use Rattle.std.proofs.Common.{refl, sym, ap, ◌∙◌, subst, inl, inr, arith, length-append}
+use Rattle.std.specs.Prelude.{List, [], ◌∷◌, ◌≡◌, ◌⊎◌, ◌++◌, ◌≤◌, AllPairs, Contains, IsPermutation, length}
+use Rattle.std.proofs.Common.{refl, sym, ap, subst, inl, inr, arith, length-append}
 use Rattle.std.proofs.lemmas.List.Elements.{All-contains, Contains-append_left, Contains-append_right, Contains-append_cases}
 use Rattle.std.proofs.lemmas.List.Sorted.{IsPermutation-refl, IsPermutation-cons, IsPermutation-trans, IsPermutation-sym, IsPermutation-middle}
 use Rattle.std.proofs.lemmas.List.Kept.{AllPairs-cons}
@@ -59,7 +59,7 @@ reordered (x ∷ xs) ys apart among few =
     let a = around ys x (among x (first_there x xs x refl)) in
     let whole = ap length a.parts in
     let rest = reordered xs (a.front ++ a.back) (pairs_tail (λ a b. a ≡ b → ⊥) x xs apart) (left_over x xs ys a apart among)
-        (omega (arith, few, whole, length-append a.front a.back, length-append a.front (x ∷ a.back))) in
+    (omega (arith, few, whole, length-append a.front a.back, length-append a.front (x ∷ a.back))) in
     subst (λ zs. IsPermutation (x ∷ xs) zs) (sym a.parts)
     (IsPermutation-trans (x ∷ xs) (x ∷ (a.front ++ a.back)) (a.front ++ x ∷ a.back)
     (IsPermutation-cons x xs (a.front ++ a.back) rest)

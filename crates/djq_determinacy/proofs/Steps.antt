@@ -1,15 +1,13 @@
 -- What of a step is determined, by its event.
-use Rattle.std.specs.Prelude.{ℕ, List, [], ◌∷◌, ◌≡◌, ◌⊎◌, ◌++◌, ◌<◌, ◌≤◌, Bool, true, false, Option, None, Some, IsSomeAnd, MatchOption, option_map, All, IsPermutation, length, ⊤}
+use Rattle.std.specs.Prelude.{ℕ, List, [], ◌∷◌, ◌≡◌, ◌⊎◌, ◌++◌, ◌<◌, Bool, true, false, Option, None, Some, IsSomeAnd, MatchOption, option_map, length}
 use Rattle.std.proofs.Common.{refl, sym, ap, ◌∙◌, subst, inl, inr}
 use Rattle.std.proofs.lemmas.Bool.{true≢false}
-use Rattle.std.proofs.lemmas.List.Elements.{All-head}
 use Rattle.std.proofs.lemmas.List.Sorted.{IsPermutation-sym, IsPermutation-trans}
 use Rattle.djq_model.specs.declared.relation.Relation.{Relation}
-use Rattle.djq_model.specs.Data.{Bytes, Tuple}
+use Rattle.djq_model.specs.Data.{Bytes}
 use Rattle.djq_model.specs.Listed.{Listed, listed_of}
 use Rattle.djq_protocol.specs.declared.answer.EndCause.{EndCause}
 use Rattle.djq_protocol.specs.declared.answer.EndCause.TheVariants.{Long, Slow, Memory, Input, Quit as SaidQuit, Stop as SaidStop}
-use Rattle.djq_protocol.specs.declared.answer.Refusal.{Refusal}
 use Rattle.djq_protocol.specs.declared.answer.Refusal.TheVariants.{Syntax, NoQuery, NoCursor, NoMemory, Misplaced}
 use Rattle.djq_protocol.specs.declared.command.Command.{Command}
 use Rattle.djq_protocol.specs.declared.command.Command.TheVariants.{Rel, Add, Del, Query as Register, Union, Drop, Open, Next, Close}
@@ -17,19 +15,19 @@ use Rattle.djq_protocol.specs.declared.command.Command.TheVariants.{Has, Watch, 
 use Rattle.djq_protocol.specs.declared.held.Verb.TheVariants.{Add as Adds, Delete as Deletes}
 use Rattle.djq_protocol.specs.Line.{a_line, front_of}
 use Rattle.djq_protocol.specs.Grammar.{Reading, outside, past_limit, says_command, reading_of, takes_memory_to_read}
-use Rattle.djq_protocol.specs.Reply.{refusal_line, end_long, end_slow, end_memory, cut_line, bye}
+use Rattle.djq_protocol.specs.Reply.{refusal_line, end_long, end_slow, end_memory, cut_line}
 use Rattle.djq_store_spec.specs.Store.{Store}
 use Rattle.djq_store_spec.specs.Held.{HeldTransaction}
 use Rattle.djq_machine.specs.State.{State, Session, Cursor, fresh, session_of, with_session, ended_by, cursor_of}
-use Rattle.djq_machine.specs.Effect.{Effect, nothing, says, says_any, lost_line, EndsWith, RefusedStep, queue_all}
+use Rattle.djq_machine.specs.Effect.{Effect, nothing, says_any, lost_line, EndsWith, RefusedStep}
 use Rattle.djq_machine.specs.Command.{CommandStep, AddStep, DeleteStep, DoneStep, HoldStep, CloseStep, NextStepAt, ExplainStepOf, is_misplaced}
-use Rattle.djq_machine.specs.LineStep.{LineOutcome, long, blank, slow, no_room, run, ReadStep, FrontStep, TakenLine, behind_line, past_limit_refusal}
+use Rattle.djq_machine.specs.LineStep.{LineOutcome, long, blank, slow, no_room, run, ReadStep, FrontStep, behind_line, past_limit_refusal}
 use Rattle.djq_protocol.specs.declared.limits.TheConstants.{SESSIONS}
 use Rattle.djq_machine.specs.Step.{FedStep, TookStep, EndedStep}
-use Rattle.djq_machine.specs.Step.{Event, opened, fed, stepped, took, ended, closed, Step, Acts, SameRelations, with_relations, is_dry}
+use Rattle.djq_machine.specs.Step.{Event, opened, fed, stepped, took, ended, closed, Acts, SameRelations, with_relations, is_dry}
 use Rattle.djq_run_laws.proofs.Deltas.{queued_store}
 use Rattle.djq_run_laws.proofs.Lists.{session_changed}
-use Rattle.djq_determinacy.specs.Determinacy.{SameText, is_equal, SameParts, SameStore, IsNoRefusal, HasMemory, SaysSuch, IsSuch, is_settled, IsDetermined}
+use Rattle.djq_determinacy.specs.Determinacy.{is_equal, SameParts, SameStore, SaysSuch, IsSuch, is_settled, IsDetermined}
 use Rattle.djq_determinacy.proofs.Determinacy.{Same, IsTold, not_refused, said, same_alone, rel_same, drop_same, open_same, watch_same, unwatch_same, batch_same}
 use Rattle.djq_determinacy.proofs.Determinacy.{hold_same, has_same, shape_same, explain_same, refused_same, ends_same, close_same, union_same, next_same}
 use Rattle.djq_determinacy.proofs.DoneSame.{done_same}
@@ -157,9 +155,11 @@ module _ (s : ℕ) (e e' : Effect) (new new' : State) (told : IsTold e) (told' :
       → Same e new e' new'
   front_same old x long such found goes h k = ends_same old s e e' new new' told told' end_long Long old h.1 k.1
   front_same old x (blank l) such found goes h k =
-      let rest = one_rest x.held l h.1.rest k.1.rest h.1.front k.1.front in
-      (nothing_same h.1.then.0 k.1.then.0, ap (λ (st : State). st.store) (h.1.then.1
-      ∙ ap (λ r. with_session old s (behind_line r)) rest ∙ sym k.1.then.1))
+      let rest = one_rest x.held l h.1.rest k.1.rest h.1.front k.1.front in (
+        nothing_same h.1.then.0 k.1.then.0,
+        ap (λ (st : State). st.store) (h.1.then.1
+            ∙ ap (λ r. with_session old s (behind_line r)) rest ∙ sym k.1.then.1),
+      )
   front_same old x (slow l) such found goes h k =
       let rest = one_rest x.held l h.2.rest k.2.rest h.2.front k.2.front in
       let mid = with_session old s (behind_line h.2.rest) in
@@ -262,12 +262,14 @@ is_determined old event e e' new new' such h k memory memory' =
     let left = ap (λ (st : State). st.store) h.queued ∙ queued_store (with_relations h.mid h.relations) e.queued in
     let left' = ap (λ (st : State). st.store) k.queued ∙ queued_store (with_relations k.mid k.relations) e'.queued in
     let stores : SameStore (record h.mid.store { relations = h.relations }) (record k.mid.store { relations = k.relations }) =
-        record {
-          relations = same_reordered h.mid.store.relations h.relations k.relations h.reordered
-              (subst (λ (st : Store). SameRelations st.relations k.relations) (sym same.1) k.reordered);
-          texts = ap (λ (st : Store). st.texts) same.1;
-          queries = ap (λ (st : Store). st.queries) same.1;
-          seq = ap (λ (st : Store). st.seq) same.1;
-        } in
-    (same.0, subst (λ (st : Store). SameStore st new'.store) (sym left)
-    (subst (λ (st : Store). SameStore (record h.mid.store { relations = h.relations }) st) (sym left') stores))
+    record {
+      relations = same_reordered h.mid.store.relations h.relations k.relations h.reordered
+          (subst (λ (st : Store). SameRelations st.relations k.relations) (sym same.1) k.reordered);
+      texts = ap (λ (st : Store). st.texts) same.1;
+      queries = ap (λ (st : Store). st.queries) same.1;
+      seq = ap (λ (st : Store). st.seq) same.1;
+    } in (
+      same.0,
+      subst (λ (st : Store). SameStore st new'.store) (sym left)
+          (subst (λ (st : Store). SameStore (record h.mid.store { relations = h.relations }) st) (sym left') stores),
+    )

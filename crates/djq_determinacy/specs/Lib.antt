@@ -1,3 +1,4 @@
 pub mod Memory
 pub mod Prefixes
 pub mod Determinacy
+pub mod Dialogues
