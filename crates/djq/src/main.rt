@@ -4,7 +4,7 @@
 //! told. With `--log PATH` the second and the third begin with what the lines of that file give, and
 //! keep in it what changes that.
 //!
-//! `main` makes the real source, sink, hub and disk, of which the sink and the hub note their calls for the
+//! `main` makes the real source, sink, hub and disk, of which all but the source note their calls for the
 //! proofs, and calls [`run_program`], which is the program over any of them.
 //!
 //! What surprises: a failed call of the system is said on standard error, with the system's reason, by
@@ -21,14 +21,14 @@ ghost use Rattle.std.specs.Prelude.{◌≡◌};
 
 use djq_counters::{Blanks, Ledgers, Steps};
 use djq_program::{Status, Telling, run_program};
-use djq_system::{FileDisk, StandardInput, StandardOutput, StdSink, StdSource, TcpHub};
+use djq_system::{FileDisk, Oracle, StandardInput, StandardOutput, StdSink, StdSource, TcpHub};
 use std::alloc::AllocError;
 use std::marker::Brand;
 use std::process::ExitCode;
 use std::{env, io};
 
 fn main(rt: HostRuntime) -> ExitCode {
-    let status = start::<Brand>(&rt, Blanks::new(&rt)).unwrap_or(Status::NoMemory);
+    let status = start::<Brand, Brand>(&rt, Blanks::new(&rt)).unwrap_or(Status::NoMemory);
     say_why(&rt, status);
     ExitCode::from(status.number())
 }
@@ -64,8 +64,9 @@ fn say_why(rt: &HostRuntime, status: Status) {
     let _ = eprintln!(rt; "djq: {reason}");
 }
 
-/// Runs the program on standard input and output, by the words of its command line.
-fn start<L: Ledgers>(rt: &HostRuntime, blanks: Blanks) -> Result<Status, AllocError>
+/// Runs the program on standard input and output, by the words of its command line. What is proved holds whatever the
+/// oracle says of the file: so it holds of what comes true.
+fn start<L: Ledgers, O: Oracle>(rt: &HostRuntime, blanks: Blanks) -> Result<Status, AllocError>
     requires listing { blanks.listing.name ≡ L.listing }
     requires update { blanks.update.name ≡ L.update }
     requires rows { blanks.rows.name ≡ L.rows }
@@ -79,7 +80,7 @@ fn start<L: Ledgers>(rt: &HostRuntime, blanks: Blanks) -> Result<Status, AllocEr
         &mut StdSource::new(Telling::new(StandardInput::new(rt.reader()), *rt)),
         &mut StdSink::new(Telling::new(StandardOutput::new(io::writer(rt), *rt), *rt)),
         &mut TcpHub::new(*rt, alloc)?,
-        &mut FileDisk::new(*rt),
+        &mut FileDisk::<HostRuntime, O>::new(*rt),
         &mut Steps::<L>::new(rt, blanks),
     ))
 }

@@ -1,5 +1,6 @@
 use djq_disk::{Disk, DiskDid, DiskLen, DiskOpen, DiskRead};
 use djq_system::FileDisk;
+use std::marker::Brand;
 use std::test::Fail;
 use std::{env, fs, process};
 
@@ -10,12 +11,12 @@ fn a_file_is_written_and_read_by_one_at_a_time(rt: HostRuntime) -> Result<(), Fa
     let path = env::temp_dir(&rt)?
         .join(rt.alloc(), name.as_str())?
         .into_string();
-    let mut disk = FileDisk::new(rt);
+    let mut disk = FileDisk::<HostRuntime, Brand>::new(rt);
     assert!(rt; disk.open(path.as_str()) == DiskOpen::Ready);
     assert!(rt; disk.len() == DiskLen::Len(0));
     assert!(rt; disk.write_at(2, b"abc") == DiskDid::Done);
     assert!(rt; disk.sync() == DiskDid::Done);
-    let mut other = FileDisk::new(rt);
+    let mut other = FileDisk::<HostRuntime, Brand>::new(rt);
     assert!(rt; other.open(path.as_str()) == DiskOpen::Failed);
     drop(disk);
     assert!(rt; other.open(path.as_str()) == DiskOpen::Ready);

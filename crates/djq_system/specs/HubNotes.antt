@@ -1,6 +1,6 @@
 -- How the calls of a hub are noted: by numbers, which are the call, its answer, the session, how many bytes the answer
 -- counts and how many were offered, as far as the call has them; and by bytes.
-use Rattle.std.specs.Prelude.{ℕ, List, ◌==◌, if◌then◌else◌, slice_index_or}
+use Rattle.std.specs.Prelude.{ℕ, ◌==◌, if◌then◌else◌, slice_index_or}
 use Rattle.djq_io.specs.declared.hub.Class.TheVariants.{Client}
 use Rattle.djq_io.specs.declared.hub.Listened.{Listened}
 use Rattle.djq_io.specs.declared.hub.Listened.TheVariants.{Ready, Failed as Unheard}

@@ -6,3 +6,6 @@ pub mod Request
 pub mod FileDisk
 pub mod Notes
 pub mod HubNotes
+pub mod Oracle
+pub mod FileCalls
+pub mod DiskNotes

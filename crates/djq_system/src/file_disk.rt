@@ -1,13 +1,24 @@
-ghost use Rattle.std.specs.Prelude.{◌≡◌, ◌+◌, ◌<◌, ◌≤◌, length, None, IfOk, true, false};
+ghost use Rattle.std.specs.Prelude.{◌≡◌, ◌+◌, ◌<◌, ◌≤◌, [], ◌∷◌, ◌++◌, length, IfOk, true, false};
 ghost use Rattle.djq_io.specs.Faults.{Counted};
-ghost use Rattle.djq_disk.specs.History.{Opens, FitsRead};
+ghost use Rattle.djq_disk.specs.History.{WhereHistoryTold, OpensPath, Opens, Sizes, DiskReads, FitsRead, DiskWrites};
+ghost use Rattle.djq_disk.specs.History.{Syncs, BeginsNext, WritesNext, SyncsNext, Replaces};
 ghost use Rattle.djq_disk.specs.DiskFaults.{CountsOpen, CountsLen, CountsDiskRead, CountsDid};
+ghost use Rattle.djq_disk.specs.declared.call_log.DiskCall.TheVariants.{Opening, Measuring, Reading, Writing, Syncing};
+ghost use Rattle.djq_disk.specs.declared.call_log.DiskCall.TheVariants.{BeginningNext, WritingNext, SyncingNext};
+ghost use Rattle.djq_disk.specs.declared.call_log.DiskCall.TheVariants.{Replacing};
+ghost use Rattle.djq_system.specs.FileCalls.{history_of_calls, given_by_read};
 
+use crate::disk_notes::{
+    note_begin_next, note_len, note_open, note_read, note_replace, note_sync, note_sync_next,
+    note_write, note_write_next,
+};
+use crate::notes::Notes;
+use crate::oracle::Oracle;
 use crate::size_limit::{passes_limit, past_limit};
 use djq_disk::{Disk, DiskDid, DiskLen, DiskOpen, DiskRead};
 use std::fs::{self, Files, OpenOptions, Permissions, TryLockError};
 use std::io::{self, Eprint, ErrorKind};
-use std::marker::Model;
+use std::marker::{Model, PhantomData};
 use std::os::unix::fs::{FileExt, MetadataExt, OpenOptionsExt, PermissionsExt, fchown};
 use std::path::{Path, PathBuf};
 
@@ -20,8 +31,9 @@ const READ_BYTES: usize = 1 << 20;
 /// Who may read and write a file that is made: its owner.
 const MODE: u32 = 0o600;
 
-/// A file of the operating system as a disk, seen as whether it is open and its count of faults. It records
-/// no history.
+/// A file of the operating system as a disk, seen as its calls with their answers, whether it is open and its count
+/// of faults. Its history is that of a file of which such calls are answered so, and which beside that does what the
+/// oracle says.
 ///
 /// The next file is made beside the file, under its name with `.new` after it, and is renamed to the file's name when
 /// it replaces it.
@@ -29,8 +41,9 @@ const MODE: u32 = 0o600;
 /// For each call that fails it prints to standard error which call it was, the path as it was given, and the
 /// system's reason.
 #[derive(Drop)]
-pub struct FileDisk<R: Files<File = fs::File> + AllocGlobal + Eprint + Drop> {
+pub struct FileDisk<R: Files<File = fs::File> + AllocGlobal + Eprint + Drop, O: Oracle> {
     rt: R,
+    oracle: PhantomData<O>,
     file: Option<fs::File>,
     /// The next file, once it is begun.
     next: Option<fs::File>,
@@ -42,15 +55,21 @@ pub struct FileDisk<R: Files<File = fs::File> + AllocGlobal + Eprint + Drop> {
     /// The path that was opened last, if there was memory for it.
     path: Option<String>,
     faults: u64,
+    notes: Notes,
 }
 
-impl<R: Files<File = fs::File> + AllocGlobal + Eprint + Drop> Model for FileDisk<R> {
-    ghost use Rattle.std.specs.Prelude.{is_some};
+impl<R: Files<File = fs::File> + AllocGlobal + Eprint + Drop, O: Oracle> Model for FileDisk<R, O> {
+    ghost use Rattle.std.specs.Prelude.{is_some, map};
+    ghost use Rattle.djq_system.specs.DiskNotes.{file_call_noted};
     ghost use Rattle.djq_system.specs.FileDisk.{FileSeen};
 
     ghost Value = { FileSeen };
 
-    ghost view = { λ d. record { is_open = is_some d.file; faults = d.faults } };
+    ghost view = { λ d. record {
+      calls = map file_call_noted d.notes.calls;
+      is_open = is_some d.file;
+      faults = d.faults;
+    } };
 }
 
 /// The path of a file, through symbolic links, and that of the next one beside it.
@@ -208,19 +227,21 @@ fn write_all(file: &fs::File, at: u64, piece: &[u8]) -> io::Result<()>
     file.write_all_at(piece, at)
 }
 
-impl<R: Files<File = fs::File> + AllocGlobal + Eprint + Drop> FileDisk<R> {
+impl<R: Files<File = fs::File> + AllocGlobal + Eprint + Drop, O: Oracle> FileDisk<R, O> {
     /// A disk without a file, over the runtime.
     pub fn new(rt: R) -> Self
-        ensures { result ≡ record { is_open = false; faults = 0 } }
+        ensures { result ≡ record { calls = []; is_open = false; faults = 0 } }
     {
         FileDisk {
             rt,
+            oracle: PhantomData,
             file: None,
             next: None,
             replaced: None,
             place: None,
             path: None,
             faults: 0,
+            notes: Notes::new(),
         }
     }
 
@@ -236,6 +257,7 @@ impl<R: Files<File = fs::File> + AllocGlobal + Eprint + Drop> FileDisk<R> {
 
     /// Counts a fault, and prints what failed on which file, and why.
     fn fail(&mut self, call: &str, error: io::Error)
+        ensures calls { self.new.calls ≡ self.old.calls }
         ensures is_open { self.new.is_open ≡ self.old.is_open }
         ensures faults { Counted self.old.faults self.new.faults }
     {
@@ -245,6 +267,25 @@ impl<R: Files<File = fs::File> + AllocGlobal + Eprint + Drop> FileDisk<R> {
         };
         let _ = eprintln!(self.rt; "djq: {call} {path} failed: {error}");
         self.faults = self.faults.saturating_add(1);
+    }
+
+    /// Reads from the file, and prints why if it fails.
+    fn read_file(&mut self, at: u64, buf: &mut [u8]) -> DiskRead
+        requires is_open { self.old.is_open ≡ true }
+        requires room { 0 < length buf.old }
+        ensures calls { self.new.calls ≡ self.old.calls }
+        ensures is_open { self.new.is_open ≡ true }
+        ensures fits { FitsRead result at buf.new }
+        ensures faults { CountsDiskRead result self.old.faults self.new.faults }
+    {
+        match read_some(self.file(), at, buf) {
+            Ok(0) => DiskRead::End,
+            Ok(n) => DiskRead::Got(n),
+            Err(error) => {
+                self.fail("reading the log", error);
+                DiskRead::Failed
+            }
+        }
     }
 
     /// Gives the next file the file's name, and lets that outlive a crash. The next file is the file then.
@@ -263,6 +304,7 @@ impl<R: Files<File = fs::File> + AllocGlobal + Eprint + Drop> FileDisk<R> {
 
     /// Returns what the system did, and counts a fault if it failed.
     fn did(&mut self, call: &str, answer: io::Result<()>) -> DiskDid
+        ensures calls { self.new.calls ≡ self.old.calls }
         ensures is_open { self.new.is_open ≡ self.old.is_open }
         ensures faults { CountsDid result self.old.faults self.new.faults }
     {
@@ -276,15 +318,21 @@ impl<R: Files<File = fs::File> + AllocGlobal + Eprint + Drop> FileDisk<R> {
     }
 }
 
-impl<R: Files<File = fs::File> + AllocGlobal + Eprint + Drop> Disk for FileDisk<R> {
-    ghost told = { λ _. None };
+impl<R: Files<File = fs::File> + AllocGlobal + Eprint + Drop, O: Oracle> Disk for FileDisk<R, O> {
+    ghost use Rattle.djq_system.specs.FileCalls.{history_of_calls};
+
+    ghost told = { λ d. history_of_calls O.file d.calls };
 
     ghost is_open = { λ d. d.is_open };
 
     ghost faults = { λ d. d.faults };
 
+    #[tactic(auto, using(crate::proofs::FileHistory::opens_so))]
     fn open(&mut self, path: &str) -> DiskOpen
+        ensures call { self.new.calls ≡ self.old.calls ++ record { call = Opening path.now result; gave = [] } ∷ [] }
         ensures is_open { Opens result self.old.is_open self.new.is_open }
+        ensures told { WhereHistoryTold (history_of_calls O.file self.old.calls)
+            (history_of_calls O.file self.new.calls) (OpensPath path.now) }
         ensures faults { CountsOpen result self.old.faults self.new.faults }
     {
         self.path = String::from_str(self.rt.alloc(), path).ok();
@@ -293,68 +341,95 @@ impl<R: Files<File = fs::File> + AllocGlobal + Eprint + Drop> Disk for FileDisk<
                 self.file = Some(file);
                 self.next = None;
                 self.place = Some(place);
+                note_open(&mut self.notes, path, DiskOpen::Ready);
                 DiskOpen::Ready
             }
             Err(Failure { call, error }) => {
                 self.fail(call, error);
+                note_open(&mut self.notes, path, DiskOpen::Failed);
                 DiskOpen::Failed
             }
         }
     }
 
+    #[tactic(auto, using(crate::proofs::FileHistory::sizes_so))]
     fn len(&mut self) -> DiskLen
         requires { self.old.is_open ≡ true }
+        ensures call { self.new.calls ≡ self.old.calls ++ record { call = Measuring result; gave = [] } ∷ [] }
         ensures is_open { self.new.is_open ≡ true }
+        ensures told { WhereHistoryTold (history_of_calls O.file self.old.calls)
+            (history_of_calls O.file self.new.calls) (Sizes result) }
         ensures faults { CountsLen result self.old.faults self.new.faults }
     {
         match self.file().metadata() {
-            Ok(found) => DiskLen::Len(found.len()),
+            Ok(found) => {
+                let answer = DiskLen::Len(found.len());
+                note_len(&mut self.notes, answer);
+                answer
+            }
             Err(error) => {
                 self.fail("measuring the log", error);
+                note_len(&mut self.notes, DiskLen::Failed);
                 DiskLen::Failed
             }
         }
     }
 
+    #[tactic(auto, using(crate::proofs::FileHistory::reads_so))]
     fn read(&mut self, at: u64, buf: &mut [u8]) -> DiskRead
         requires is_open { self.old.is_open ≡ true }
         requires room { 0 < length buf.old }
+        ensures call { self.new.calls ≡ self.old.calls
+            ++ record { call = Reading at result; gave = given_by_read result buf.new } ∷ [] }
         ensures is_open { self.new.is_open ≡ true }
         ensures fits { FitsRead result at buf.new }
+        ensures told { WhereHistoryTold (history_of_calls O.file self.old.calls)
+            (history_of_calls O.file self.new.calls) (DiskReads result at buf.new) }
         ensures faults { CountsDiskRead result self.old.faults self.new.faults }
     {
-        match read_some(self.file(), at, buf) {
-            Ok(0) => DiskRead::End,
-            Ok(n) => DiskRead::Got(n),
-            Err(error) => {
-                self.fail("reading the log", error);
-                DiskRead::Failed
-            }
-        }
+        let answer = self.read_file(at, buf);
+        note_read(&mut self.notes, at, buf, answer);
+        answer
     }
 
+    #[tactic(auto, using(crate::proofs::FileHistory::writes_so))]
     fn write_at(&mut self, at: u64, piece: &[u8]) -> DiskDid
         requires is_open { self.old.is_open ≡ true }
         requires place { at + length piece.now ≤ 18446744073709551615 }
+        ensures call { self.new.calls ≡ self.old.calls ++ record { call = Writing at piece.now result; gave = [] } ∷ [] }
         ensures is_open { self.new.is_open ≡ true }
+        ensures told { WhereHistoryTold (history_of_calls O.file self.old.calls)
+            (history_of_calls O.file self.new.calls) (DiskWrites result at piece.now) }
         ensures faults { CountsDid result self.old.faults self.new.faults }
     {
         let answer = write_all(self.file(), at, piece);
-        self.did("writing the log", answer)
+        let did = self.did("writing the log", answer);
+        note_write(&mut self.notes, at, piece, did);
+        did
     }
 
+    #[tactic(auto, using(crate::proofs::FileHistory::syncs_so))]
     fn sync(&mut self) -> DiskDid
         requires { self.old.is_open ≡ true }
+        ensures call { self.new.calls ≡ self.old.calls ++ record { call = Syncing result; gave = [] } ∷ [] }
         ensures is_open { self.new.is_open ≡ true }
+        ensures told { WhereHistoryTold (history_of_calls O.file self.old.calls)
+            (history_of_calls O.file self.new.calls) (Syncs result) }
         ensures faults { CountsDid result self.old.faults self.new.faults }
     {
         let answer = self.file().sync_all();
-        self.did("syncing the log", answer)
+        let did = self.did("syncing the log", answer);
+        note_sync(&mut self.notes, did);
+        did
     }
 
+    #[tactic(auto, using(crate::proofs::FileHistory::begins_next_so))]
     fn begin_next(&mut self) -> DiskDid
         requires { self.old.is_open ≡ true }
+        ensures call { self.new.calls ≡ self.old.calls ++ record { call = BeginningNext result; gave = [] } ∷ [] }
         ensures is_open { self.new.is_open ≡ true }
+        ensures told { WhereHistoryTold (history_of_calls O.file self.old.calls)
+            (history_of_calls O.file self.new.calls) (BeginsNext result) }
         ensures faults { CountsDid result self.old.faults self.new.faults }
     {
         // One that was begun before is closed, and so unlocked.
@@ -363,46 +438,67 @@ impl<R: Files<File = fs::File> + AllocGlobal + Eprint + Drop> Disk for FileDisk<
             Some(place) => make_next(&self.rt, place.next.as_path(), self.file()),
             None => Err(not_begun()),
         };
-        match made {
+        let answer = match made {
             Ok(next) => {
                 self.next = Some(next);
-                DiskDid::Done
+                Ok(())
             }
-            Err(error) => self.did("making the new log", Err(error)),
-        }
+            Err(error) => Err(error),
+        };
+        let did = self.did("making the new log", answer);
+        note_begin_next(&mut self.notes, did);
+        did
     }
 
+    #[tactic(auto, using(crate::proofs::FileHistory::writes_next_so))]
     fn write_next(&mut self, at: u64, piece: &[u8]) -> DiskDid
         requires is_open { self.old.is_open ≡ true }
         requires place { at + length piece.now ≤ 18446744073709551615 }
+        ensures call { self.new.calls ≡ self.old.calls ++ record { call = WritingNext at piece.now result; gave = [] } ∷ [] }
         ensures is_open { self.new.is_open ≡ true }
+        ensures told { WhereHistoryTold (history_of_calls O.file self.old.calls)
+            (history_of_calls O.file self.new.calls) (WritesNext result at piece.now) }
         ensures faults { CountsDid result self.old.faults self.new.faults }
     {
         let answer = match &self.next {
             Some(next) => write_all(next, at, piece),
             None => Err(not_begun()),
         };
-        self.did("writing the new log", answer)
+        let did = self.did("writing the new log", answer);
+        note_write_next(&mut self.notes, at, piece, did);
+        did
     }
 
+    #[tactic(auto, using(crate::proofs::FileHistory::syncs_next_so))]
     fn sync_next(&mut self) -> DiskDid
         requires { self.old.is_open ≡ true }
+        ensures call { self.new.calls ≡ self.old.calls ++ record { call = SyncingNext result; gave = [] } ∷ [] }
         ensures is_open { self.new.is_open ≡ true }
+        ensures told { WhereHistoryTold (history_of_calls O.file self.old.calls)
+            (history_of_calls O.file self.new.calls) (SyncsNext result) }
         ensures faults { CountsDid result self.old.faults self.new.faults }
     {
         let answer = match &self.next {
             Some(next) => next.sync_all(),
             None => Err(not_begun()),
         };
-        self.did("syncing the new log", answer)
+        let did = self.did("syncing the new log", answer);
+        note_sync_next(&mut self.notes, did);
+        did
     }
 
+    #[tactic(auto, using(crate::proofs::FileHistory::replaces_so))]
     fn replace(&mut self) -> DiskDid
         requires { self.old.is_open ≡ true }
+        ensures call { self.new.calls ≡ self.old.calls ++ record { call = Replacing result; gave = [] } ∷ [] }
         ensures is_open { self.new.is_open ≡ true }
+        ensures told { WhereHistoryTold (history_of_calls O.file self.old.calls)
+            (history_of_calls O.file self.new.calls) (Replaces result) }
         ensures faults { CountsDid result self.old.faults self.new.faults }
     {
         let answer = self.rename_next();
-        self.did("renaming the log", answer)
+        let did = self.did("renaming the log", answer);
+        note_replace(&mut self.notes, did);
+        did
     }
 }

@@ -5,10 +5,12 @@
 //! [`StdSink`] a reader and a writer of `std::io`, such as [`StandardInput`] and [`StandardOutput`]. Each
 //! is a few lines over std, `mio` or `libc`, and each counts its faults.
 //!
-//! [`StdSink`] and [`TcpHub`] note each call with its answer, in a list that exists in the proofs alone and takes no
-//! memory. So what is proved of the bytes that are written, brought and sent holds of them. That they make the calls
-//! that they note has to be read. [`StdSource`] and [`FileDisk`] show no record (it is `None`): it would contain what
-//! no call answers, the bytes that are left to read and what a crash leaves of a file.
+//! [`StdSink`], [`TcpHub`] and [`FileDisk`] note each call with its answer, in a list that exists in the proofs alone and
+//! takes no memory. So what is proved of the bytes that are written, brought, sent and stored holds of them. That they
+//! make the calls that they note has to be read. What a crash leaves of a file no call answers: a disk tells the history
+//! that follows from its calls and an [`Oracle`] of what no answer tells, and nothing if a file with that oracle
+//! wouldn't have answered so. [`StdSource`] shows no record (it is `None`): it would contain the bytes that are left to
+//! read.
 //!
 //! What this crate is not: it runs no lines, has no authentication and no encryption, and buffers
 //! nothing. What a client doesn't read remains with the server, which ends such a session by its
@@ -74,10 +76,12 @@
 #![tactic(auto)]
 
 mod conn;
+mod disk_notes;
 mod file_disk;
 mod hub_notes;
 mod listening;
 mod notes;
+mod oracle;
 mod request;
 mod size_limit;
 mod standard;
@@ -86,6 +90,7 @@ mod std_source;
 mod tcp_hub;
 
 pub use file_disk::FileDisk;
+pub use oracle::Oracle;
 pub use standard::{StandardInput, StandardOutput};
 pub use std_sink::StdSink;
 pub use std_source::StdSource;

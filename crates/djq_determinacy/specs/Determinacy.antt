@@ -1,0 +1,74 @@
+-- What of a step is determined by its state and its event, memory aside.
+use Rattle.std.specs.Prelude.{ℕ, List, [], ◌∷◌, ◌≡◌, ◌≢◌, ◌++◌, ◌<◌, Bool, true, false, All, IsPermutation, length, ⊤}
+use Rattle.djq_model.specs.Data.{Bytes, Tuple}
+use Rattle.djq_protocol.specs.declared.limits.TheConstants.{SESSIONS}
+use Rattle.djq_protocol.specs.declared.answer.Refusal.TheVariants.{NoMemory}
+use Rattle.djq_protocol.specs.declared.command.Command.{Command}
+use Rattle.djq_protocol.specs.declared.command.Command.TheVariants.{Query}
+use Rattle.djq_protocol.specs.Grammar.{Reading, outside, past_limit, says_command, reading_of}
+use Rattle.djq_protocol.specs.Reply.{refusal_line, end_memory, text_of, listing_lines}
+use Rattle.djq_store_spec.specs.Store.{Store}
+use Rattle.djq_store_spec.specs.Delta.{Change, delta_lines}
+use Rattle.djq_machine.specs.State.{State}
+use Rattle.djq_machine.specs.Effect.{Effect}
+use Rattle.djq_machine.specs.LineStep.{run}
+use Rattle.djq_machine.specs.Step.{Event, opened, stepped, Step, SameRelations}
+use Rattle.djq_machine.specs.Call.{IsOpen}
+
+-- Two texts say the same. They are equal; or they are the page of a listing, as long and as near to its end, and the
+-- last page has the same answers, in some order; or they are a delta, whose changes are the same in some order.
+pub data SameText (a b : Bytes) : Type 0 where
+  is_equal : a ≡ b → SameText a b
+  are_pages : (told told' : List Tuple) (end : Bool) → a ≡ text_of (listing_lines told end)
+      → b ≡ text_of (listing_lines told' end) → length told ≡ length told' → (end ≡ true → IsPermutation told told')
+      → SameText a b
+  are_deltas : (query : Bytes) (changes changes' : List Change) (n : ℕ) → IsPermutation changes changes'
+      → a ≡ text_of (delta_lines query changes n) → b ≡ text_of (delta_lines query changes' n) → SameText a b
+
+-- the same is queued, part by part, to the same sessions
+abbrev pub SameParts : List (ℕ × Bytes) → List (ℕ × Bytes) → Type 0
+SameParts [] [] = ⊤
+SameParts (p ∷ ps) (q ∷ qs) = (p.0 ≡ q.0) × SameText p.1 q.1 × SameParts ps qs
+SameParts _ _ = ⊥
+
+-- the same store, but for the order of rows
+pub record SameStore (a b : Store) : Type 0 where
+  pub relations : SameRelations a.relations b.relations
+  pub texts : a.texts ≡ b.texts
+  pub queries : a.queries ≡ b.queries
+  pub seq : a.seq ≡ b.seq
+
+-- No memory was refused: no session is told so, and one that may open is open.
+abbrev pub OpensIfRoom : State → Event → State → Type 0
+OpensIfRoom old (opened s) new = length old.sessions < SESSIONS → IsOpen new s
+OpensIfRoom old _ new = ⊤
+
+abbrev pub IsNoRefusal : Bytes → Type 0
+IsNoRefusal text = (text ≢ refusal_line NoMemory) × ((front : Bytes) → text ≢ front ++ end_memory)
+
+pub record HasMemory (old : State) (event : Event) (e : Effect) (new : State) : Type 0 where
+  pub told : All (λ q. IsNoRefusal q.1) e.queued
+  pub opens : OpensIfRoom old event new
+
+-- a line of which this holds of the command, if it says one
+abbrev pub SaysSuch : (Command → Bool) → Reading → Type 0
+SaysSuch such outside = ⊤
+SaysSuch such (past_limit c) = ⊤
+SaysSuch such (says_command c) = such c ≡ true
+
+abbrev pub IsSuch : (Command → Bool) → Event → Type 0
+IsSuch such (stepped s (run l)) = SaysSuch such (reading_of l)
+IsSuch such _ = ⊤
+
+-- The commands of which it is proved: all but `query`. Of a query that isn't free-connex it isn't shown yet that it has one
+-- rest alone.
+abbrev pub is_settled : Command → Bool
+is_settled (Query q) = false
+is_settled c = true
+
+-- **Nothing loose.** Two steps of one event from one state, to neither of which memory is refused, queue the same and
+-- leave the same store. Of commands it is said of such ones.
+abbrev pub IsDetermined : (Command → Bool) → Type 0
+IsDetermined such = (old : State) (event : Event) (e e' : Effect) (new new' : State) → IsSuch such event
+    → Step old event e new → Step old event e' new' → HasMemory old event e new → HasMemory old event e' new'
+    → SameParts e.queued e'.queued × SameStore new.store new'.store

@@ -1,0 +1,4 @@
+pub mod Memory
+pub mod Prefixes
+pub mod Determinacy
+pub mod Dialogues

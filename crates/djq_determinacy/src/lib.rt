@@ -1,0 +1,47 @@
+//! How much of what the machine and the server do is determined, and what of it no memory is needed for.
+//!
+//! The definitions of djq_machine say what a step may do, as a relation: so they could be loose, and allow a reply that
+//! nobody meant. Each function here is empty, and its contract is a law that says how far they aren't.
+//!
+//! ```text
+//! steps_are_determined         two steps of one event, to neither of which memory is refused, queue the same
+//!                              and leave the same store
+//! never_refused_for_memory     del, drop, next, close, has, unwatch, explain, shape, abandon, quit, stop
+//! prefixes_return              a run of serve that is cut off is a first part of one that returns
+//! exchanges_are_answered       has q 7: yes, and not yet
+//! ```
+//!
+//! What "the same" leaves open is said by `SameText`: the order of the answers on a page and of the changes in a delta,
+//! and, on a page that isn't the last, which answers come first. The rows of a store may stand in another order.
+//!
+//! What this crate is not: it isn't said of `query` yet, since of a query that isn't free-connex it isn't shown that it
+//! has one rest alone. And nothing is said of memory: any command that needs some may be refused.
+//!
+//! What surprises: a `del` may be refused for memory while its line is read, and never once it is read.
+#![tactic(auto)]
+
+ghost use Rattle.djq_determinacy.specs.Determinacy.{IsDetermined, is_settled};
+ghost use Rattle.djq_determinacy.specs.Dialogues.{AllAnswered, exchanges};
+ghost use Rattle.djq_determinacy.specs.Memory.{NeverRefusedForMemory};
+ghost use Rattle.djq_determinacy.specs.Prefixes.{PrefixesReturn};
+
+/// Two steps of one event from one state, to neither of which memory is refused, queue the same to each session, up to
+/// the order of a listing, and leave the same store, up to the order of rows. This is so of all commands but `query`.
+pub fn steps_are_determined()
+    ensures { IsDetermined is_settled }
+{}
+
+/// Which commands are never refused for memory: those that take away, ask or end, once they are read.
+pub fn never_refused_for_memory()
+    ensures { NeverRefusedForMemory }
+{}
+
+/// A run of `serve` that is cut off, at any move, is a first part of one that returns: at each point the hub may be over.
+pub fn prefixes_return()
+    ensures { PrefixesReturn }
+{}
+
+/// Twelve exchanges of a session: each may be answered so, and with one byte of the reply changed it may not.
+pub fn exchanges_are_answered()
+    ensures { AllAnswered exchanges }
+{}
