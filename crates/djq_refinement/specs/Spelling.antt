@@ -1,0 +1,142 @@
+-- Which bytes spell a message of the core.
+use Rattle.std.specs.Prelude.{ℕ, List, [], ◌∷◌, ◌++◌, ◌≡◌, ◌⊎◌, Bool, Ok, codes}
+use Rattle.djq_model.specs.Data.{Bytes}
+use Rattle.djq_model.specs.Listed.{Listed, a_query, a_union, listed_name}
+use Rattle.djq_protocol.specs.declared.answer.Refusal.{Refusal}
+use Rattle.djq_protocol.specs.declared.answer.Refusal.TheVariants.{Syntax}
+use Rattle.djq_protocol.specs.declared.answer.Shape.{Shape}
+use Rattle.djq_protocol.specs.declared.answer.Sign.TheVariants.{Came, Went}
+use Rattle.djq_protocol.specs.declared.rest.NamedRest.{NamedRest}
+use Rattle.djq_protocol.specs.declared.rest.QueryOutcome.TheVariants.{Cyclic, NotConnex}
+use Rattle.djq_protocol.specs.declared.command.Command.{Command}
+use Rattle.djq_protocol.specs.declared.command.Command.TheVariants.{
+  Rel,
+  Add,
+  Del,
+  Query as Register,
+  Union,
+  Drop,
+  Open,
+  Next,
+  Close,
+  Watch,
+  Unwatch,
+  Explain,
+  Shape as AskShape,
+  Batch,
+  Done,
+  Abandon,
+}
+use Rattle.djq_protocol.specs.Grammar.{Reading, outside, past_limit, says_command}
+use Rattle.djq_protocol.specs.Hypergraph.{edges_of, head_of}
+use Rattle.djq_protocol.specs.Reply.{
+  line,
+  numbered_line,
+  numbered_twice,
+  refusal_line,
+  listing_lines,
+  text_of,
+  stale_line,
+  query_reply,
+  has_reply,
+  shape_reply,
+}
+use Rattle.djq_tree.specs.Tree.{Tree}
+use Rattle.djq_tree.specs.Growing.{IsTreeOf}
+use Rattle.djq_store_spec.specs.Delta.{Change, delta_lines}
+use Rattle.djq_machine.specs.Command.{explain_lines, union_lines}
+use Rattle.djq_run_laws.specs.Added.{of_sign}
+use Rattle.djq_abstract.specs.Deltas.{AnswerDelta}
+use Rattle.djq_abstract.specs.Clients.{
+  CoreMessage,
+  ok,
+  refused,
+  not_free_connex,
+  replied,
+  is_answer,
+  page,
+  delta,
+}
+
+-- Words, and a number behind them.
+abbrev pub IsNumbered : Bytes → Bytes → Type 0
+IsNumbered words text = (n : ℕ) × (text ≡ numbered_line words n)
+
+-- Words, and two numbers behind them.
+abbrev pub IsNumberedTwice : Bytes → Bytes → Type 0
+IsNumberedTwice words text = (n : ℕ) × (m : ℕ) × (text ≡ numbered_twice words n m)
+
+-- The line that accepts a command.
+abbrev pub IsAccepting : Command → Bytes → Type 0
+IsAccepting (Add name row) text = IsNumberedTwice (codes "ok added ") text ⊎ IsNumbered (codes "ok held ") text
+IsAccepting (Del name row) text = IsNumberedTwice (codes "ok removed ") text ⊎ IsNumbered (codes "ok held ") text
+IsAccepting (Register q) text = IsNumbered (codes "ok query ") text
+IsAccepting (Union name members) text = IsNumbered (codes "ok union ") text
+IsAccepting (Drop q) text = text ≡ line (codes "ok")
+IsAccepting (Open c q) text = text ≡ line (codes "ok open")
+IsAccepting (Close c) text = text ≡ line (codes "ok")
+IsAccepting (Watch q) text = IsNumbered (codes "ok watch ") text
+IsAccepting (Unwatch q) text = text ≡ line (codes "ok")
+IsAccepting Batch text = text ≡ line (codes "ok batch")
+IsAccepting (Done given) text = IsNumberedTwice (codes "ok done ") text
+IsAccepting Abandon text = text ≡ line (codes "ok")
+IsAccepting _ text = ⊥
+
+-- A line of a refusal.
+abbrev pub IsRefusalLine : Bytes → Type 0
+IsRefusalLine text = (why : Refusal) × (text ≡ refusal_line why)
+
+-- The line that refuses a command: of `del` also that the row isn't there, of `next` also that its cursor is stale.
+abbrev pub IsRefusing : Command → Bytes → Type 0
+IsRefusing (Del name row) text = IsRefusalLine text ⊎ IsNumbered (codes "ok absent ") text
+IsRefusing (Next c count) text =
+    IsRefusalLine text ⊎ ((relation : Bytes) × (n : ℕ) × (text ≡ stale_line c relation n))
+IsRefusing _ text = IsRefusalLine text
+
+-- The lines that explain a query by a tree of it, or a union by its members.
+abbrev pub IsExplaining : Listed → Bytes → Type 0
+IsExplaining (a_query q) text =
+    (tree : Tree) × IsTreeOf (edges_of q) (head_of q) tree × (text ≡ text_of (explain_lines q tree))
+IsExplaining (a_union name qs) text = text ≡ text_of (union_lines qs)
+
+-- The lines that reply to what asks: `rel`, `explain`, `shape`, and a line outside the grammar.
+abbrev pub IsReplying : Reading → Bytes → Type 0
+IsReplying outside text = text ≡ refusal_line Syntax
+IsReplying (says_command (Rel name types)) text = text ≡ line (codes "ok")
+IsReplying (says_command (Explain q)) text = (l : Listed) × (listed_name l ≡ q) × IsExplaining l text
+IsReplying (says_command (AskShape q)) text = (shape : Shape) × (text ≡ shape_reply (Ok shape))
+IsReplying _ text = ⊥
+
+-- What accepts, and what refuses, a line that is read as this.
+abbrev pub IsAcceptingReading : Reading → Bytes → Type 0
+IsAcceptingReading (says_command c) text = IsAccepting c text
+IsAcceptingReading _ text = ⊥
+
+abbrev pub IsRefusingReading : Reading → Bytes → Type 0
+IsRefusingReading outside text = ⊥
+IsRefusingReading (past_limit c) text = IsRefusalLine text
+IsRefusingReading (says_command c) text = IsRefusing c text
+
+-- The lines of a delta: in any order one for each answer that was inserted and each that was deleted; behind them the
+-- number of the change.
+abbrev pub IsDeltaText : Bytes → AnswerDelta → ℕ → Bytes → Type 0
+IsDeltaText q d seq text = (changes : List Change) × (of_sign Came changes ≡ d.inserted)
+    × (of_sign Went changes ≡ d.deleted) × (text ≡ text_of (delta_lines q changes seq))
+
+-- A message that is sent in a step of a line that is read as this is spelled by these bytes.
+abbrev pub Spells : Reading → CoreMessage → Bytes → Type 0
+Spells r ok text = IsAcceptingReading r text
+Spells r refused text = IsRefusingReading r text
+Spells r not_free_connex text = (rest : NamedRest)
+    × ((text ≡ query_reply (Ok (Cyclic rest))) ⊎ (text ≡ query_reply (Ok (NotConnex rest))))
+Spells r replied text = IsReplying r text
+Spells r (is_answer holds) text = text ≡ has_reply (Ok holds)
+Spells r (page ts last) text = text ≡ text_of (listing_lines ts last)
+Spells r (delta q d seq) text = IsDeltaText q d seq text
+
+-- Messages are spelled by texts, one by one, in order.
+abbrev pub AreSpelled : (CoreMessage → Bytes → Type 0) → List CoreMessage → List Bytes → Type 0
+AreSpelled S [] [] = Unit {0}
+AreSpelled S (m ∷ ms) (text ∷ texts) = S m text × AreSpelled S ms texts
+AreSpelled S [] (text ∷ texts) = ⊥
+AreSpelled S (m ∷ ms) [] = ⊥

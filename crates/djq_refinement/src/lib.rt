@@ -1,0 +1,9 @@
+//! The join machine refines the abstract core.
+#![tactic(auto)]
+
+ghost use Rattle.djq_refinement.specs.Refinement.{MachineRefinesCore};
+
+/// Each step of the machine from a sound state is a run of the core.
+pub fn machine_refines_core()
+    ensures { MachineRefinesCore }
+{}
