@@ -1,3 +1,5 @@
 pub mod Clients
 pub mod Events
+pub mod Stores
+pub mod Sessions
 pub mod RowChanges
