@@ -174,7 +174,7 @@ module _ (old : State) (kept : AreKept old) (s : ℕ) (x : Session) (found : ses
   )
 
   -- it stays
-  only_stays : (m : CoreMessage) (new : State) → core_of new ≡ core_of old
+  pub only_stays : (m : CoreMessage) (new : State) → core_of new ≡ core_of old
       → OnlyReplies (core_of old) s m author (only_sent s (m ∷ [])) (core_of new)
   only_stays m new same = (refl, same ∙ sym (with_same (core_of old) s author refl))
 

@@ -4,3 +4,4 @@ pub mod Stores
 pub mod Sessions
 pub mod Commands
 pub mod RowChanges
+pub mod Steps
