@@ -3,5 +3,7 @@ pub mod Events
 pub mod Stores
 pub mod Sessions
 pub mod Commands
+pub mod Telling
+pub mod DeltaMessages
 pub mod RowChanges
 pub mod Steps

@@ -10,6 +10,8 @@ use Rattle.djq_machine.specs.Command.{AddStep, DeleteStep, DoneStep}
 use Rattle.djq_run_laws.specs.Sound.{IsSoundStore}
 use Rattle.djq_run_laws.proofs.SoundStates.{AreKept}
 use Rattle.djq_refinement.proofs.Clients.{LineGoes}
+use Rattle.djq_refinement.proofs.Telling.{last_parts}
+use Rattle.djq_refinement.proofs.DeltaMessages.{delta_between}
 
 module _ (old : State) (kept : AreKept old) (s : ℕ) (x : Session) (found : session_of old s ≡ Some x)
     (runs : x.cause ≡ None) where
