@@ -5,5 +5,6 @@ pub mod Sessions
 pub mod Commands
 pub mod Telling
 pub mod DeltaMessages
+pub mod ChangeSteps
 pub mod RowChanges
 pub mod Steps

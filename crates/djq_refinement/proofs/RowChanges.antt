@@ -10,8 +10,7 @@ use Rattle.djq_machine.specs.Command.{AddStep, DeleteStep, DoneStep}
 use Rattle.djq_run_laws.specs.Sound.{IsSoundStore}
 use Rattle.djq_run_laws.proofs.SoundStates.{AreKept}
 use Rattle.djq_refinement.proofs.Clients.{LineGoes}
-use Rattle.djq_refinement.proofs.Telling.{last_parts}
-use Rattle.djq_refinement.proofs.DeltaMessages.{delta_between}
+use Rattle.djq_refinement.proofs.ChangeSteps.{quiet_change}
 
 module _ (old : State) (kept : AreKept old) (s : ℕ) (x : Session) (found : session_of old s ≡ Some x)
     (runs : x.cause ≡ None) where
