@@ -86,7 +86,7 @@ stale_client old change n None y =
     (outdated_cursor old.store.queries change.outdater n) (λ k. refl) y.cursors)
     ∙ stale_cursor old.store.queries change n (cursor_of y.cursors c)) (λ q. refl) refl
 
-found_behind : (old : State) (change : RowsChange) (store : Store) (t : ℕ)
+pub found_behind : (old : State) (change : RowsChange) (store : Store) (t : ℕ)
     → session_of (changed old (Some change) store) t ≡ option_map (behind_change old change store.seq) (session_of old t)
 found_behind old change store t =
     find_mapped (λ (y : Session). y.id == t) (behind_change old change store.seq) (λ y. refl) old.sessions

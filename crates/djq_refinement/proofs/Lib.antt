@@ -6,5 +6,6 @@ pub mod Commands
 pub mod Telling
 pub mod DeltaMessages
 pub mod ChangeSteps
+pub mod AcceptedChanges
 pub mod RowChanges
 pub mod Steps

@@ -11,6 +11,7 @@ use Rattle.djq_run_laws.specs.Sound.{IsSoundStore}
 use Rattle.djq_run_laws.proofs.SoundStates.{AreKept}
 use Rattle.djq_refinement.proofs.Clients.{LineGoes}
 use Rattle.djq_refinement.proofs.ChangeSteps.{quiet_change}
+use Rattle.djq_refinement.proofs.AcceptedChanges.{sent_by}
 
 module _ (old : State) (kept : AreKept old) (s : ℕ) (x : Session) (found : session_of old s ≡ Some x)
     (runs : x.cause ≡ None) where
