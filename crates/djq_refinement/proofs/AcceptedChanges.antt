@@ -4,7 +4,7 @@ use Rattle.std.specs.Prelude.{Some, is_some, All, AllPairs, Contains, filter, ma
 use Rattle.std.specs.List.{list_any}
 use Rattle.std.specs.Option.{option_map}
 use Rattle.std.proofs.Common.{refl, sym, ap, ap₂, ◌∙◌, subst, inl, inr, append-nil}
-use Rattle.std.proofs.lemmas.Bool.{eqb-true, and_from}
+use Rattle.std.proofs.lemmas.Bool.{eqb-true, and_from, and_parts}
 use Rattle.std.proofs.lemmas.List.Elements.{All-nil, All-cons, All-head, All-tail, All-contains}
 use Rattle.std.proofs.lemmas.List.Kept.{AllPairs-cons}
 use Rattle.djq_model.specs.Data.{Bytes, Tuple, bytes_eq}
@@ -20,7 +20,9 @@ use Rattle.djq_answer_laws.proofs.Lists.{some_there, kept_there, mapped_there, h
 use Rattle.djq_machine.specs.State.{Session, State, session_of, with_session, state_ids, ended_by}
 use Rattle.djq_machine.specs.Effect.{Effect}
 use Rattle.djq_machine.specs.Outdating.{changed}
+use Rattle.djq_machine.specs.Call.{IsOpen}
 use Rattle.djq_machine.specs.Watch.{is_watching, Telling, ends_more, ChangeStep}
+use Rattle.djq_run_laws.specs.Moved.{EndsByRun}
 use Rattle.djq_run_laws.specs.Rising.{AreRising}
 use Rattle.djq_run_laws.specs.Sound.{AreApart, IsSoundStore}
 use Rattle.djq_run_laws.specs.Watched.{parts_for}
@@ -277,3 +279,216 @@ module _ (old : State) (s : ℕ) (change : RowsChange) (store : Store) (reply : 
         by true a false i false j ks k o more =
             skips (not_watched i) ks
             (more ks (k ∙ ap₂ (λ b c. cond (b && c) (q ∷ filter is_listed qs) (filter is_listed qs)) a j) o)
+
+  -- ---- each client
+
+  module _ (names : AreApart (map listed_name old.store.queries)) (rising : AreRising old)
+      (before : IsSoundStore old.store) (after : IsSoundStore store) (relations : store.relations ≡ change.after)
+      (r : Reading) (spells : Spells r ok reply) (there : ((core_of old).client s).connected ≡ true) where
+    abbrev start : Telling
+    start = beginning old (is_accepted change) store
+
+    new_store : new.store ≡ store
+    new_store = change_store old s (is_accepted change) store reply e new h
+
+    -- the delta of a query that a session watches is right
+    right_delta : (t : ℕ) (y : Session) → session_of old t ≡ Some y → (n : Bytes) (q : Listed)
+        → listed_of queries n ≡ Some q → (affects queries change n && is_watching n y) ≡ true
+        → IsDeltaBetween (AnswersOver (core_of old).db q) (AnswersOver (core_of new).db q) (delta_of n)
+    right_delta t y found n q is due =
+        let both = and_parts (affects queries change n) (is_watching n y) due in
+        let name : listed_name q ≡ n = found_named queries n q is in
+        let outdated : is_outdated change q ≡ true = sym (affects_found queries change n q is) ∙ both.0 in
+        let watched : is_watching (listed_name q) y ≡ true = ap (λ m. is_watching m y) name ∙ both.1 in
+        let among : Contains (filter is_listed queries) q = kept_there is_listed queries q
+        (and_from (is_outdated change q) (list_any (is_watching (listed_name q)) old.sessions) outdated
+        (any_watches t y (listed_name q) found watched))
+        (found_there (λ (l : Listed). bytes_eq (listed_name l) n) queries q is) in
+        let d = mapped_from (λ (k : Delta). k.query) h.deltas q
+        (subst (λ (qs : List Listed). Contains qs q) (sym h.listed.of_queries) among) in
+        let known : delta_of (listed_name (d.0).query) ≡ delta_seen (d.0).changes =
+        All-contains (λ (k : Delta). delta_of (listed_name k.query) ≡ delta_seen k.changes) h.deltas d.0
+        (deltas_found names) d.1 in
+        let its : delta_of n ≡ delta_seen (d.0).changes =
+        ap delta_of (sym name ∙ ap listed_name (sym d.2)) ∙ known in
+        let listed : IsDelta (AnswersOf old.store.relations (d.0).query) (AnswersOf change.after (d.0).query)
+        (d.0).changes = All-contains (λ (k : Delta). IsDelta (AnswersOf old.store.relations k.query)
+        (AnswersOf change.after k.query) k.changes) h.deltas d.0 h.listed.are_deltas d.1 in
+        let of_q : IsDelta (AnswersOf old.store.relations q) (AnswersOf store.relations q) (d.0).changes =
+        subst (λ (rs : List Relation). IsDelta (AnswersOf old.store.relations q) (AnswersOf rs q) (d.0).changes)
+        (sym relations)
+        (subst (λ (p : Listed). IsDelta (AnswersOf old.store.relations p) (AnswersOf change.after p) (d.0).changes)
+        d.2 listed) in
+        subst (λ (c : AnswerDelta). IsDeltaBetween (AnswersOver (core_of old).db q) (AnswersOver (core_of new).db q) c)
+        (sym its)
+        (subst (λ (k : Store). IsDeltaBetween (AnswersOver (core_of old).db q) (AnswersOver (database_of k.relations) q)
+        (delta_seen (d.0).changes)) (sym new_store)
+        (delta_between old.store store before after q (d.0).changes of_q))
+
+    -- a client that isn't connected stays so, and is sent nothing
+    stays_nobody : (t : ℕ) → (core_of old).client t ≡ nobody → (core_of new).client t ≡ nobody
+    stays_nobody t none =
+        ap (λ (st : State). client_in (session_of st t)) h.state
+        ∙ change_keeps (λ (m : Telling). client_in (session_of m.state t) ≡ nobody) (λ m i text there k. k) ends old s
+        (is_accepted change) store reply e new h
+        (overtaken_client old change store t ∙ ap (client_overtaken (affects queries change)) none)
+      where
+        gone : (o : Option Session) (cause : EndCause) → client_in (option_map (ended_by cause) o) ≡ nobody
+        gone None cause = refl
+        gone (Some y) cause = refl
+
+        ends : (m : Telling) (i : ℕ) (text : Bytes) (cause : EndCause) → EndsByRun cause → IsOpen m.state i
+            → client_in (session_of m.state t) ≡ nobody
+            → client_in (session_of (with_session m.state i (ended_by cause)) t) ≡ nobody
+        ends m i text cause may there k = client_with m.state i (ended_by cause) (λ y. refl) t ∙ by (t == i)
+          where
+            by : (b : Bool) → cond b (client_in (option_map (ended_by cause) (session_of m.state i)))
+                (client_in (session_of m.state t)) ≡ nobody
+            by true = gone (session_of m.state i) cause
+            by false = k
+
+    none_due : (f : Bytes → Bool) (ns : List Bytes) → filter (λ n. f n && false) ns ≡ []
+    none_due f [] = refl
+    none_due f (n ∷ ns) = by (f n) (none_due f ns)
+      where
+        by : (b : Bool) → filter (λ m. f m && false) ns ≡ []
+            → cond (b && false) (n ∷ filter (λ m. f m && false) ns) (filter (λ m. f m && false) ns) ≡ []
+        by true k = k
+        by false k = k
+
+    nobody_sent : (t : ℕ) → (core_of old).client t ≡ nobody → sent_by t ≡ []
+    nobody_sent t none =
+        ap (λ (y : Client). deltas_for y new.store.seq ++ only_sent s (ok ∷ []) t) none
+        ∙ ap (λ ns. map (λ m. delta m (delta_of m) new.store.seq) ns ++ only_sent s (ok ∷ []) t)
+        (none_due (affects queries change) (map listed_name queries))
+        ∙ by (t == s) refl
+      where
+        by : (b : Bool) → (t == s) ≡ b → cond b (ok ∷ []) [] ≡ []
+        by false k = refl
+        by true k =
+            let no : ((core_of old).client s).connected ≡ false =
+            ap (λ i. ((core_of old).client i).connected) (sym (eqb-true t s k)) ∙ ap (λ (y : Client). y.connected) none in
+            absurd (cc (no, there))
+
+    -- What the change is for a client: it stays connected and is sent what the parts spell, or it isn't connected.
+    abbrev IsForClient : ℕ → Type 0
+    IsForClient t =
+        (StaysConnected (core_of old) (affects queries change) (core_of new) t (sent_by t) (only_sent s (ok ∷ []) t)
+        × AreSpelled (Spells r) (sent_by t) (parts_for t e.queued))
+        ⊎ (((core_of new).client t ≡ nobody) × (((core_of old).client t).connected ≡ false → sent_by t ≡ []))
+
+    for_nobody : (t : ℕ) → (core_of old).client t ≡ nobody → IsForClient t
+    for_nobody t none = inr (stays_nobody t none, λ k. nobody_sent t none)
+
+    -- of a session that goes on as the change begins
+    module _ (t : ℕ) (y : Session) (found : session_of old t ≡ Some y) (going : y.cause ≡ None) where
+      abbrev moved : Session
+      moved = behind_change old change store.seq y
+
+      is_client : (core_of old).client t ≡ client_by None y
+      is_client = ap client_in found ∙ ap (λ c. client_by c y) going
+
+      started : session_of start.state t ≡ Some moved
+      started = found_behind old change store t ∙ ap (λ o. option_map (behind_change old change store.seq) o) found
+
+      its_id : y.id ≡ t
+      its_id = eqb-true y.id t (found_passes (λ (z : Session). z.id == t) old.sessions y found)
+
+      same_ids : state_ids start.state ≡ state_ids old
+      same_ids = map_twice (behind_change old change store.seq) (λ (z : Session). z.id) old.sessions
+
+      parts : HasParts t moved going
+          (watched_texts store.seq moved h.deltas ++ reply_part t moved going s reply) h.last
+      parts =
+          last_parts t moved going (watched_texts store.seq moved h.deltas) h.told s reply h.last h.replies
+          (deltas_walk t moved going store.seq (state_ids old) rising
+          (subst (λ (i : ℕ). Contains (state_ids old) i) its_id
+          (mapped_there (λ (z : Session). z.id) old.sessions y
+          (found_there (λ (z : Session). z.id == t) old.sessions y found))) [] h.deltas start h.told h.tells same_ids
+          (inl (started, refl)))
+
+      reply_spelled : (b : Bool) → AreSpelled (Spells r) (cond b (ok ∷ []) []) (cond b (reply ∷ []) [])
+      reply_spelled true = (spells, tt)
+      reply_spelled false = tt
+
+      spelled : AreSpelled (Spells r) (sent_by t)
+          (watched_texts store.seq moved h.deltas ++ reply_part t moved going s reply)
+      spelled =
+          subst (λ (k : Store). AreSpelled (Spells r)
+          (deltas_for ((core_of old).client t) k.seq ++ only_sent s (ok ∷ []) t)
+          (watched_texts store.seq moved h.deltas ++ reply_part t moved going s reply)) (sym new_store)
+          (subst (λ (z : Client). AreSpelled (Spells r) (deltas_for z store.seq ++ only_sent s (ok ∷ []) t)
+          (watched_texts store.seq moved h.deltas ++ reply_part t moved going s reply)) (sym is_client)
+          (spelled_append (Spells r) (messages r t y found store.seq queries) (only_sent s (ok ∷ []) t)
+          (texts r t y found store.seq h.deltas) (reply_part t moved going s reply)
+          (deltas_spelled r t y found store.seq queries h.deltas h.listed.of_queries (each_affected names)
+          (deltas_found names)) (reply_spelled (t == s))))
+
+      for_going : IsForClient t
+      for_going = by parts
+        where
+          by : HasParts t moved going (watched_texts store.seq moved h.deltas ++ reply_part t moved going s reply) h.last
+              → IsForClient t
+          by (inr over) = inr (
+            ap (λ (st : State). client_in (session_of st t)) h.state ∙ over,
+            λ k. let is : ((core_of old).client t).connected ≡ true = ap (λ (z : Client). z.connected) is_client in
+                absurd (cc (is, k)),
+          )
+          by (inl p) = inl (
+            record {
+              was_connected = ap (λ (z : Client). z.connected) is_client;
+              becomes = ap (λ (st : State). client_in (session_of st t)) h.state
+                  ∙ ap client_in (p.0 ∙ sym started) ∙ overtaken_client old change store t;
+              delta_of = delta_of;
+              are_deltas = λ n q is due. right_delta t y found n q is
+                  (ap (λ (z : Client). affects queries change n && z.subscribed n) (sym is_client) ∙ due);
+              is_sent = refl;
+            },
+            subst (λ (ts : List Bytes). AreSpelled (Spells r) (sent_by t) ts)
+                (sym (ap (λ (qs : List (ℕ × Bytes)). parts_for t qs) h.queued ∙ p.1)) spelled,
+          )
+
+    pub for_client : (t : ℕ) → IsForClient t
+    for_client t = by (session_of old t) refl
+      where
+        by : (o : Option Session) → session_of old t ≡ o → IsForClient t
+        by None found = for_nobody t (ap client_in found)
+        by (Some y) found = at y.cause refl
+          where
+            at : (c : Option EndCause) → y.cause ≡ c → IsForClient t
+            at None going = for_going t y found going
+            at (Some cause) over = for_nobody t (ap client_in found ∙ ap (λ c. client_by c y) over)
+
+    pub spelled_to : (t : ℕ) → ((core_of new).client t).connected ≡ true
+        → AreSpelled (Spells r) (sent_by t) (parts_for t e.queued)
+    spelled_to t k = by (for_client t)
+      where
+        by : IsForClient t → AreSpelled (Spells r) (sent_by t) (parts_for t e.queued)
+        by (inl g) = g.1
+        by (inr g) = let no : ((core_of new).client t).connected ≡ false = ap (λ (z : Client). z.connected) g.0 in
+            absurd (cc (no, k))
+
+    -- The database is changed as the core changes it, where rows came or went and the right queries are affected.
+    pub changes_database : store.queries ≡ old.store.queries → store.seq ≡ suc old.store.seq
+        → AreRowsChanged (core_of old).db (database_of store.relations)
+        → ((q : Listed) → (is_outdated change q ≡ true) ↔ IsAffected (core_of old).db (database_of store.relations) q)
+        → ChangesDatabase (core_of old) s (database_of store.relations) sent_by (core_of new)
+    changes_database same_queries seq turned outdates = record {
+      db_is = ap (λ (k : Store). database_of k.relations) new_store;
+      queries_stay = ap (λ (k : Store). k.queries) new_store ∙ same_queries;
+      counts = true;
+      counts_if = (λ k. turned, λ a. refl);
+      seq_is = ap (λ (k : Store). k.seq) new_store ∙ seq;
+      affected = affects queries change;
+      affected_if = λ n q is. (
+        λ k. (outdates q).0 (sym (affects_found queries change n q is) ∙ k),
+        λ a. affects_found queries change n q is ∙ (outdates q).1 a,
+      );
+      clients = λ t. by t (for_client t);
+    }
+      where
+        by : (t : ℕ) → IsForClient t
+            → StaysConnected (core_of old) (affects queries change) (core_of new) t (sent_by t) (only_sent s (ok ∷ []) t)
+            ⊎ (((core_of new).client t ≡ nobody) × (((core_of old).client t).connected ≡ false → sent_by t ≡ []))
+        by t (inl g) = inl g.0
+        by t (inr g) = inr g
