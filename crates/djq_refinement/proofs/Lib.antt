@@ -7,5 +7,6 @@ pub mod Telling
 pub mod DeltaMessages
 pub mod ChangeSteps
 pub mod AcceptedChanges
+pub mod Edits
 pub mod RowChanges
 pub mod Steps

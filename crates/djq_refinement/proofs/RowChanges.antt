@@ -12,6 +12,7 @@ use Rattle.djq_run_laws.proofs.SoundStates.{AreKept}
 use Rattle.djq_refinement.proofs.Clients.{LineGoes}
 use Rattle.djq_refinement.proofs.ChangeSteps.{quiet_change}
 use Rattle.djq_refinement.proofs.AcceptedChanges.{sent_by}
+use Rattle.djq_refinement.proofs.Edits.{lines_affect}
 
 module _ (old : State) (kept : AreKept old) (s : ℕ) (x : Session) (found : session_of old s ≡ Some x)
     (runs : x.cause ≡ None) where
