@@ -610,10 +610,10 @@ module _ (old : State) (kept : AreKept old) (s : ℕ) (x : Session) (found : ses
 
   -- ---- batches
 
-  no_batch : x.batch ≡ None → author.batch ≡ None
+  pub no_batch : x.batch ≡ None → author.batch ≡ None
   no_batch none = ap (λ (y : Client). y.batch) is_author ∙ ap (λ o. option_map line_edits o) none
 
-  some_batch : (held : HeldTransaction) → x.batch ≡ Some held → author.batch ≡ Some (line_edits held)
+  pub some_batch : (held : HeldTransaction) → x.batch ≡ Some held → author.batch ≡ Some (line_edits held)
   some_batch held is = ap (λ (y : Client). y.batch) is_author ∙ ap (λ o. option_map line_edits o) is
 
   pub batch_goes : (e : Effect) (new : State) → x.batch ≡ None → BatchStep old s e new

@@ -1,5 +1,5 @@
 -- Each line that is run, and each step of the machine, is a run of the core.
-use Rattle.std.specs.Prelude.{ℕ, List, [], ◌∷◌, ◌++◌, ◌==◌, ◌≡◌, Bool, true, false, cond, Option, None, Some, MatchOption}
+use Rattle.std.specs.Prelude.{ℕ, List, [], ◌∷◌, ◌++◌, ◌==◌, ◌≡◌, ◌<◌, AllPairs, Bool, true, false, cond, Option, None, Some, MatchOption}
 use Rattle.std.specs.Option.{option_map}
 use Rattle.std.proofs.Common.{refl, sym, ap, ◌∙◌, subst, inl, inr}
 use Rattle.djq_model.specs.declared.relation.Relation.{Relation}
@@ -27,7 +27,9 @@ use Rattle.djq_machine.specs.LineStep.{behind_line, FrontStep}
 use Rattle.djq_machine.specs.Step.{Event, opened, fed, stepped, took, ended, closed, Acts, with_relations, Step}
 use Rattle.djq_machine.specs.Step.{SameRelations}
 use Rattle.std.proofs.lemmas.List.Sorted.{IsPermutation-refl}
+use Rattle.djq_run_laws.specs.Rising.{AreRising}
 use Rattle.djq_run_laws.specs.Sound.{IsSoundStore, IsSoundState}
+use Rattle.djq_run_laws.proofs.Sessions.{changed_ids}
 use Rattle.djq_run_laws.proofs.Lists.{some_there, session_changed}
 use Rattle.djq_run_laws.proofs.Deltas.{queued_store}
 use Rattle.djq_run_laws.proofs.SoundStates.{AreKept, without_line_kept, step_sound}
@@ -114,8 +116,8 @@ refuses_any (Del name row) why = inl (why, refl)
 refuses_any (Next c count) why = inl (why, refl)
 refuses_any _ why = (why, refl)
 
-module _ (old : State) (kept : AreKept old) (s : ℕ) (x : Session) (found : session_of old s ≡ Some x)
-    (runs : x.cause ≡ None) where
+module _ (old : State) (kept : AreKept old) (rising : AreRising old) (s : ℕ) (x : Session)
+    (found : session_of old s ≡ Some x) (runs : x.cause ≡ None) where
   -- a plain command is refused
   plain_goes : (r : Reading) (c : Command) (e : Effect) (new : State) (why : Refusal) → is_plain c ≡ true
       → core_reading old.store.queries r ≡ core_command old.store.queries c → Spells r refused (refusal_line why)
@@ -181,14 +183,14 @@ module _ (old : State) (kept : AreKept old) (s : ℕ) (x : Session) (found : ses
       → (o : Option HeldTransaction) → x.batch ≡ o
       → MatchOption o (AddStep old s name row e new) (λ held. HoldStep old s held l Adds name row e new)
       → LineGoes old s (says_command (Add name row)) e new
-  add_or_holds l name row e new sound None is h = add_goes old kept s x found runs name row e new sound is h
+  add_or_holds l name row e new sound None is h = add_goes old kept rising s x found runs name row e new sound is h
   add_or_holds l name row e new sound (Some held) is h = hold_add_goes old kept s x found runs held l name row e new is h
 
   delete_or_holds : (l name : Bytes) (row : Tuple) (e : Effect) (new : State) → IsSoundStore new.store
       → (o : Option HeldTransaction) → x.batch ≡ o
       → MatchOption o (DeleteStep old s name row e new) (λ held. HoldStep old s held l Deletes name row e new)
       → LineGoes old s (says_command (Del name row)) e new
-  delete_or_holds l name row e new sound None is h = delete_goes old kept s x found runs name row e new sound is h
+  delete_or_holds l name row e new sound None is h = delete_goes old kept rising s x found runs name row e new sound is h
   delete_or_holds l name row e new sound (Some held) is h =
       hold_delete_goes old kept s x found runs held l name row e new is h
 
@@ -196,7 +198,7 @@ module _ (old : State) (kept : AreKept old) (s : ℕ) (x : Session) (found : ses
       → (o : Option HeldTransaction) → x.batch ≡ o → MatchOption o ⊥ (λ held. DoneStep old s held given e new)
       → LineGoes old s (says_command (Done given)) e new
   does_lines given e new sound None is h = absurd h
-  does_lines given e new sound (Some held) is h = done_goes old kept s x found runs held given e new sound is h
+  does_lines given e new sound (Some held) is h = done_goes old kept rising s x found runs held given e new sound is h
 
   begins : (e : Effect) (new : State) (o : Option HeldTransaction) → x.batch ≡ o → is_misplaced o Batch ≡ false
       → CommandStep old s x [] Batch e new → LineGoes old s (says_command Batch) e new
@@ -266,8 +268,8 @@ module _ (old : State) (kept : AreKept old) (s : ℕ) (x : Session) (found : ses
 
 -- ---- the front of a session's bytes
 
-module _ (old : State) (kept : AreKept old) (s : ℕ) (x : Session) (found : session_of old s ≡ Some x)
-    (runs : x.cause ≡ None) where
+module _ (old : State) (kept : AreKept old) (rising : AreRising old) (s : ℕ) (x : Session)
+    (found : session_of old s ≡ Some x) (runs : x.cause ≡ None) where
   abbrev without : Bytes → State
   without rest = with_session old s (behind_line rest)
 
@@ -277,6 +279,10 @@ module _ (old : State) (kept : AreKept old) (s : ℕ) (x : Session) (found : ses
   without_found : (rest : Bytes) → session_of (without rest) s ≡ Some (behind_line rest x)
   without_found rest = session_changed old s (behind_line rest) (λ y. refl)
       ∙ ap (λ o. option_map (behind_line rest) o) found
+
+  still_rising : (rest : Bytes) → AreRising (without rest)
+  still_rising rest = subst (λ (is : List ℕ). AllPairs (λ a b. a < b) is)
+      (sym (changed_ids (λ (y : Session). y.id == s) (behind_line rest) (λ y. refl) old.sessions)) rising
 
   front_goes : (outcome : LineOutcome) (e : Effect) (mid : State) → IsSoundStore mid.store
       → FrontStep old s x outcome e mid → EventGoes old (stepped s outcome) e mid
@@ -294,21 +300,21 @@ module _ (old : State) (kept : AreKept old) (s : ℕ) (x : Session) (found : ses
       (without_found h.2.rest) runs h.2.then)
   front_goes (run l) e mid sound h = goes_from (AreCoreEvents old.store.queries (stepped s (run l)))
       (Spells (reading_by (stepped s (run l)))) old (without h.2.rest) e mid mid (without_core h.2.rest) refl
-      (read_goes (without h.2.rest) (without_line_kept old s h.2.rest kept) s (behind_line h.2.rest x)
+      (read_goes (without h.2.rest) (without_line_kept old s h.2.rest kept) (still_rising h.2.rest) s (behind_line h.2.rest x)
       (without_found h.2.rest) runs l (reading_of l) e mid refl sound h.2.then)
 
 -- ---- a step
 
-acts_go : (old : State) (event : Event) (e : Effect) (mid : State) → AreKept old → IsSoundStore mid.store
+acts_go : (old : State) (event : Event) (e : Effect) (mid : State) → AreKept old → AreRising old → IsSoundStore mid.store
     → Acts old event e mid → EventGoes old event e mid
-acts_go old (opened s) e mid kept sound h = open_goes old s e mid h
-acts_go old (fed s bytes) e mid kept sound h = fed_goes old s bytes e mid h
-acts_go old (took s bytes) e mid kept sound h = took_goes old s bytes e mid h
-acts_go old (ended s) e mid kept sound h = input_goes old s e mid h
-acts_go old (closed s bytes) e mid kept sound h = closed_goes old s bytes e mid h
-acts_go old (stepped s outcome) e mid kept sound h =
+acts_go old (opened s) e mid kept rising sound h = open_goes old s e mid h
+acts_go old (fed s bytes) e mid kept rising sound h = fed_goes old s bytes e mid h
+acts_go old (took s bytes) e mid kept rising sound h = took_goes old s bytes e mid h
+acts_go old (ended s) e mid kept rising sound h = input_goes old s e mid h
+acts_go old (closed s bytes) e mid kept rising sound h = closed_goes old s bytes e mid h
+acts_go old (stepped s outcome) e mid kept rising sound h =
     let f = some_there (session_of old s) (λ x. (x.cause ≡ None) × FrontStep old s x outcome e mid) h in
-    front_goes old kept s f.0 f.1 f.2.0 outcome e mid sound f.2.1
+    front_goes old kept rising s f.0 f.1 f.2.0 outcome e mid sound f.2.1
 
 -- the store before its rows may be reordered is sound too
 same_itself : (rs : List Relation) → SameRelations rs rs
@@ -337,7 +343,7 @@ machine_refines_core old event e new h sound =
     (λ n row. reordered_copies mid.store.relations h.relations store.rows h.reordered n row) refl refl (λ t. refl) in
     let goes = goes_from (AreCoreEvents old.store.queries event) (Spells (reading_by event)) old old e mid new refl
     (ap core_of h.queued ∙ core_queued (with_relations mid h.relations) e.queued ∙ moved)
-    (acts_go old event e mid (sound.store, sound.sessions) store h.acts) in record {
+    (acts_go old event e mid (sound.store, sound.sessions) sound.rising store h.acts) in record {
       happenings = goes.happenings;
       events = goes.events;
       is_run = goes.is_run;
