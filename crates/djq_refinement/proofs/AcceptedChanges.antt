@@ -37,6 +37,7 @@ use Rattle.djq_refinement.specs.View.{database_of, client_by, client_in, core_of
 use Rattle.djq_refinement.specs.Spelling.{Spells, AreSpelled}
 use Rattle.djq_refinement.proofs.Clients.{client_with, same_id}
 use Rattle.djq_refinement.proofs.Telling.{delta_text, watched_texts, HasParts, HasIds, deltas_walk, reply_part, last_parts}
+use Rattle.djq_refinement.proofs.Telling.{WatchesNothing, silent_deltas, silent_last}
 use Rattle.djq_refinement.proofs.DeltaMessages.{delta_seen, delta_between}
 use Rattle.djq_refinement.proofs.ChangeSteps.{affects, affects_found, behind_change, found_behind, overtaken_client}
 use Rattle.djq_refinement.proofs.ChangeSteps.{nobody_connected}
@@ -467,6 +468,29 @@ module _ (old : State) (s : ℕ) (change : RowsChange) (store : Store) (reply : 
         by (inl g) = g.1
         by (inr g) = let no : ((core_of new).client t).connected ≡ false = ap (λ (z : Client). z.connected) g.0 in
             absurd (cc (no, k))
+
+    -- one that wasn't connected is sent nothing, and nothing is queued to it
+    pub silent_to : (t : ℕ) → WatchesNothing (session_of old t) → ((core_of old).client t).connected ≡ false
+        → (sent_by t ≡ []) × (parts_for t e.queued ≡ [])
+    silent_to t over k = (
+      nobody_sent t (nobody_connected (session_of old t) k),
+      ap (λ (qs : List (ℕ × Bytes)). parts_for t qs) h.queued
+          ∙ (silent_last t h.told s reply h.last (other (s == t) refl) h.replies
+          (silent_deltas t store.seq h.deltas start h.told h.tells
+          (subst WatchesNothing (sym (found_behind old change store t)) (moves (session_of old t) over), refl))).1,
+    )
+      where
+        moves : (o : Option Session) → WatchesNothing o
+            → WatchesNothing (option_map (behind_change old change store.seq) o)
+        moves None i = tt
+        moves (Some z) i = i
+
+        other : (b : Bool) → (s == t) ≡ b → b ≡ false
+        other false i = refl
+        other true i =
+            let is : ((core_of old).client t).connected ≡ true =
+            ap (λ j. ((core_of old).client j).connected) (sym (eqb-true s t i)) ∙ there in
+            absurd (cc (is, k))
 
     -- The database is changed as the core changes it, where rows came or went and the right queries are affected.
     pub changes_database : store.queries ≡ old.store.queries → store.seq ≡ suc old.store.seq

@@ -134,6 +134,13 @@ pub is_connected : (st : State) (s : ℕ) (x : Session) → session_of st s ≡ 
     → ((core_of st).client s).connected ≡ true
 is_connected st s x found runs = ap (λ (y : Client). y.connected) (going_client st s x found runs)
 
+-- another client than one that is connected
+pub not_both : (st : Core) (s t : ℕ) → (t == s) ≡ true → (st.client s).connected ≡ true
+    → (st.client t).connected ≡ false → ⊥
+not_both st s t i there k =
+    let is : (st.client t).connected ≡ true = ap (λ j. (st.client j).connected) (eqb-true t s i) ∙ there in
+    absurd (cc (is, k))
+
 -- ---- what is queued
 
 parts_alone : (s t : ℕ) (text : Bytes) (b : Bool) → (t == s) ≡ b
@@ -163,6 +170,8 @@ pub record Going (E : List CoreEvent → Type 0) (S : CoreMessage → Bytes → 
   pub is_after : state_after (core_of old) happenings ≡ core_of new
   pub spelled : (t : ℕ) → ((core_of new).client t).connected ≡ true
       → AreSpelled S (all_sent t happenings) (parts_for t e.queued)
+  pub silent : (t : ℕ) → ((core_of old).client t).connected ≡ false
+      → (all_sent t happenings ≡ []) × (parts_for t e.queued ≡ [])
 
 -- seen from states that the core sees alike
 pub goes_from : (E : List CoreEvent → Type 0) (S : CoreMessage → Bytes → Type 0) (old from : State) (e : Effect)
@@ -174,6 +183,7 @@ goes_from E S old from e mid new before after h = record {
   is_run = subst (λ (c : Core). CoreRun c h.happenings) before h.is_run;
   is_after = ap (λ (c : Core). state_after c h.happenings) (sym before) ∙ h.is_after ∙ sym after;
   spelled = λ t k. h.spelled t (ap (λ (c : Core). (c.client t).connected) (sym after) ∙ k);
+  silent = λ t k. h.silent t (ap (λ (c : Core). (c.client t).connected) before ∙ k);
 }
 
 -- nothing happens
@@ -185,6 +195,7 @@ goes_silent E S old e new events same quiet = record {
   is_run = tt;
   is_after = sym same;
   spelled = λ t k. subst (λ (qs : List (ℕ × Bytes)). AreSpelled S [] (parts_for t qs)) (sym quiet) tt;
+  silent = λ t k. (refl, ap (λ (qs : List (ℕ × Bytes)). parts_for t qs) quiet);
 }
 
 -- a client is disconnected
@@ -198,8 +209,14 @@ goes_away E S old s e new events there after quiet = record {
   is_run = ((there, [], refl, after), tt);
   is_after = refl;
   spelled = λ t k. by t (t == s) refl (ap (λ (c : Core). (c.client t).connected) (sym after) ∙ k);
+  silent = λ t k. gone t (t == s) refl k;
 }
   where
+    gone : (t : ℕ) (b : Bool) → (t == s) ≡ b → ((core_of old).client t).connected ≡ false
+        → ((cond {A = List CoreMessage} b [] [] ++ []) ≡ []) × (parts_for t e.queued ≡ [])
+    gone t true i k = absurd (not_both (core_of old) s t i there k)
+    gone t false i k = (refl, quiet t i)
+
     by : (t : ℕ) (b : Bool) → (t == s) ≡ b → (cond b nobody ((core_of old).client t)).connected ≡ true
         → AreSpelled S (cond b [] [] ++ []) (parts_for t e.queued)
     by t true i k = absurd cc
@@ -225,7 +242,13 @@ line_says old s r e new c m text is step queued spelled = record {
   is_after = refl;
   spelled = λ t k. subst (λ (qs : List (ℕ × Bytes)). AreSpelled (Spells r) (only_sent s (m ∷ []) t ++ []) (parts_for t qs))
       (sym queued) (spelled_alone (Spells r) s t m text spelled);
+  silent = λ t k. gone t (t == s) refl k;
 }
+  where
+    gone : (t : ℕ) (b : Bool) → (t == s) ≡ b → ((core_of old).client t).connected ≡ false
+        → ((cond b (m ∷ []) [] ++ []) ≡ []) × (parts_for t e.queued ≡ [])
+    gone t true i k = absurd (not_both (core_of old) s t i step.0 k)
+    gone t false i k = (refl, ap (λ (qs : List (ℕ × Bytes)). parts_for t qs) queued ∙ parts_other s t text i)
 
 -- A line ends its session.
 pub line_ends : (old : State) (s : ℕ) (x : Session) (r : Reading) (e : Effect) (mid : State) (cause : EndCause)

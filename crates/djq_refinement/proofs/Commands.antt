@@ -70,7 +70,7 @@ use Rattle.djq_refinement.specs.View.{queries_under, cursor_seen, cursor_state}
 use Rattle.djq_refinement.specs.Spelling.{Spells, AreSpelled, IsExplaining}
 use Rattle.djq_refinement.specs.Refinement.{AreOfLine}
 use Rattle.djq_refinement.proofs.Clients.{core_path, client_path, core_with, with_same, going_client, is_connected}
-use Rattle.djq_refinement.proofs.Clients.{core_ended, parts_other, LineGoes, line_says, line_ends}
+use Rattle.djq_refinement.proofs.Clients.{core_ended, not_both, parts_other, LineGoes, line_says, line_ends}
 use Rattle.djq_refinement.proofs.Stores.{answer_seen, answer_back, copies_with_new, under_seen, union_admitted}
 use Rattle.djq_refinement.proofs.Stores.{query_admitted, admitted_query, own_names, dropped_seen}
 use Rattle.djq_refinement.proofs.Sessions.{opened_client, moved_client, closed_client, watched_client, unwatched_client}
@@ -277,6 +277,13 @@ module _ (old : State) (kept : AreKept old) (s : ℕ) (x : Session) (found : ses
       by_end same test said = line_ends old s x r e mid Memory new end_memory found runs same h.ends.1
           (queued_of e _ said)
 
+      gone : (t : ℕ) (b : Bool) → (t == s) ≡ b → ((core_of old).client t).connected ≡ false
+          → e.queued ≡ (s, end_memory) ∷ []
+          → ((cond b (ok ∷ []) [] ++ (cond b [] [] ++ [])) ≡ []) × (parts_for t e.queued ≡ [])
+      gone t true i k said = absurd (not_both (core_of old) s t i (is_connected old s x found runs) k)
+      gone t false i k said =
+          (refl, ap (λ (qs : List (ℕ × Bytes)). parts_for t qs) said ∙ parts_other s t end_memory i)
+
       quiet : (t : ℕ) (b : Bool) → (t == s) ≡ b → (cond b nobody ((core_of mid).client t)).connected ≡ true
           → e.queued ≡ (s, end_memory) ∷ []
           → AreSpelled (Spells r) (cond b (ok ∷ []) [] ++ (cond b [] [] ++ [])) (parts_for t e.queued)
@@ -308,6 +315,7 @@ module _ (old : State) (kept : AreKept old) (s : ℕ) (x : Session) (found : ses
             is_after = refl;
             spelled = λ t there. quiet t (t == s) refl
                 (ap (λ (c : Core). (c.client t).connected) (sym after) ∙ there) (queued_of e _ said);
+            silent = λ t none. gone t (t == s) refl none (queued_of e _ said);
           }
 
   pub union_goes : (name : Bytes) (members : List Bytes) (e : Effect) (new : State)

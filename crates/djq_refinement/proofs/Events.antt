@@ -82,8 +82,13 @@ open_goes old s e mid h = by h.2
       is_after = refl;
       spelled = λ t k. subst (λ (d : Effect). AreSpelled (Spells (reading_by (opened s)))
           (only_sent s [] t ++ []) (parts_for t d.queued)) (sym h.0) (quiet (t == s));
+      silent = λ t k. (nothing_sent (t == s), ap (λ (d : Effect). parts_for t d.queued) h.0);
     }
       where
+        nothing_sent : (b : Bool) → (cond {A = List CoreMessage} b [] [] ++ []) ≡ []
+        nothing_sent true = refl
+        nothing_sent false = refl
+
         quiet : (b : Bool) → AreSpelled (Spells (reading_by (opened s))) (cond b [] [] ++ []) []
         quiet true = tt
         quiet false = tt

@@ -1,6 +1,6 @@
 -- `add`, `del` and `done` change rows as the core does, and send what it sends.
 use Rattle.std.specs.Prelude.{ℕ, zero, suc, List, [], ◌∷◌, ◌++◌, ◌+◌, ◌-◌, ◌==◌, ◌≡◌, ◌≢◌, ◌⊎◌, ◌↔◌, ◌&&◌, ◌<◌, Bool, true, false}
-use Rattle.std.specs.Prelude.{cond, nat_lt, Option, None, Some, is_some, IsSomeAnd, IfSome, MatchOption, Result, Ok, Err}
+use Rattle.std.specs.Prelude.{cond, nat_lt, Option, None, Some, is_some, IsSome, IsSomeAnd, IfSome, MatchOption, Result, Ok, Err}
 use Rattle.std.specs.Prelude.{AllPairs, filter, map, codes}
 use Rattle.std.specs.Option.{option_map, option_and_then}
 use Rattle.std.proofs.Common.{refl, sym, ap, ◌∙◌, subst, inl, inr, arith, append-nil}
@@ -41,7 +41,7 @@ use Rattle.djq_run_laws.specs.Form.{LearnsTexts}
 use Rattle.djq_run_laws.specs.Rising.{AreRising}
 use Rattle.djq_run_laws.specs.Sound.{IsSoundStore, IsSoundSession, IsSoundBatch}
 use Rattle.djq_run_laws.specs.Watched.{parts_for}
-use Rattle.djq_run_laws.proofs.Lists.{session_changed, and_some}
+use Rattle.djq_run_laws.proofs.Lists.{session_changed, session_other, and_some, all_found}
 use Rattle.djq_run_laws.proofs.Copies.{adds_copy, takes_copy}
 use Rattle.djq_run_laws.proofs.Forms.{done_of, refused_learned, late_learned}
 use Rattle.djq_run_laws.proofs.Deltas.{change_store}
@@ -61,7 +61,8 @@ use Rattle.djq_refinement.proofs.Commands.{stays_client, may_refuse, author, is_
 use Rattle.djq_refinement.proofs.Commands.{no_batch, some_batch}
 use Rattle.djq_refinement.proofs.Stores.{present_row}
 use Rattle.djq_refinement.proofs.ChangeSteps.{affects, overtaken_client, IsQuietChange, quiet_change, nobody_connected}
-use Rattle.djq_refinement.proofs.AcceptedChanges.{sent_by, spelled_to, changes_database}
+use Rattle.djq_refinement.proofs.Telling.{WatchesNothing}
+use Rattle.djq_refinement.proofs.AcceptedChanges.{sent_by, spelled_to, silent_to, changes_database}
 use Rattle.djq_refinement.proofs.Edits.{set_seen, unchanged_rows, rows_changed_by, affects_by, lines_edited}
 use Rattle.djq_refinement.proofs.Edits.{lines_unchanged, lines_changed, lines_affect}
 
@@ -127,15 +128,31 @@ module _ (old : State) (kept : AreKept old) (rising : AreRising old) (s : ℕ) (
   line_changes : (r : Reading) (e : Effect) (new : State) (c : CoreCommand) (sent : Sent)
       → core_reading old.store.queries r ≡ Some c → Accepts (core_of old) s c sent (core_of new)
       → ((t : ℕ) → ((core_of new).client t).connected ≡ true → AreSpelled (Spells r) (sent t) (parts_for t e.queued))
+      → ((t : ℕ) → ((core_of old).client t).connected ≡ false → (sent t ≡ []) × (parts_for t e.queued ≡ []))
       → LineGoes old s r e new
-  line_changes r e new c sent is does spelled = record {
+  line_changes r e new c sent is does spelled silent = record {
     happenings = record { event = says s c; sent = sent; after = core_of new } ∷ [];
     events = subst (λ o. AreOfLine s o (says s c ∷ [])) (sym is) (inl refl);
     is_run = ((connected, inl does), tt);
     is_after = refl;
     spelled = λ t k. subst (λ ms. AreSpelled (Spells r) ms (parts_for t e.queued)) (sym (append-nil (sent t)))
         (spelled t k);
+    silent = λ t k. (ap (λ ms. ms ++ []) (silent t k).0, (silent t k).1);
   }
+
+  -- a session that isn't connected watches nothing
+  over_watches : (t : ℕ) → ((core_of old).client t).connected ≡ false → WatchesNothing (session_of old t)
+  over_watches t k = by (session_of old t) refl k
+    where
+      ended : (c : Option EndCause) (y : Session) → (client_by c y).connected ≡ false → IsSome c
+      ended None y i = absurd cc
+      ended (Some cause) y i = refl
+
+      by : (o : Option Session) → session_of old t ≡ o → (client_in o).connected ≡ false → WatchesNothing o
+      by None f i = tt
+      by (Some y) f i =
+          ((all_found (IsSoundSession old.store) (λ (z : Session). z.id == t) old.sessions y kept.1 f).ended
+          (ended y.cause y i)).1
 
   -- A change that is refused: of cursors over queries that it was to affect it may make stale ones.
   refused_change : (base : State) (r : Reading) (c : CoreCommand) (o : Option RowsChange) (store : Store) (reply : Bytes)
@@ -268,6 +285,8 @@ module _ (old : State) (kept : AreKept old) (rising : AreRising old) (s : ℕ) (
           (copies_of old.store name row == 0) copies turned q)))
           (spelled_to old s (row_in old.store.relations name row) h.store reply e new c kept.0.queries rising kept.0 after
           relations r (inl (h.store.seq, 1, refl)) connected)
+          (λ t i. silent_to old s (row_in old.store.relations name row) h.store reply e new c kept.0.queries rising kept.0
+          after relations r (inl (h.store.seq, 1, refl)) connected t (over_watches t i) i)
 
   pub delete_goes : (name : Bytes) (row : Tuple) (e : Effect) (new : State) → IsSoundStore new.store → x.batch ≡ None
       → DeleteStep old s name row e new → LineGoes old s (says_command (Del name row)) e new
@@ -350,6 +369,8 @@ module _ (old : State) (kept : AreKept old) (rising : AreRising old) (s : ℕ) (
           (copies_of old.store name row == 1) copies turned q)))
           (spelled_to old s (row_out old.store.relations name row) h.store reply e new c kept.0.queries rising kept.0 after
           relations r (inl (h.store.seq, 0, refl)) connected)
+          (λ t i. silent_to old s (row_out old.store.relations name row) h.store reply e new c kept.0.queries rising kept.0
+          after relations r (inl (h.store.seq, 0, refl)) connected t (over_watches t i) i)
 
   -- ---- lines
 
@@ -371,6 +392,25 @@ module _ (old : State) (kept : AreKept old) (rising : AreRising old) (s : ℕ) (
   closed_rising : AreRising closed
   closed_rising = subst (λ (is : List ℕ). AllPairs (λ a b. a < b) is)
       (sym (changed_ids (λ (y : Session). y.id == s) without_batch (λ y. refl) old.sessions)) rising
+
+  other_session : (t : ℕ) → ((core_of old).client t).connected ≡ false → (s == t) ≡ false
+  other_session t k = by (s == t) refl
+    where
+      by : (b : Bool) → (s == t) ≡ b → b ≡ false
+      by false i = refl
+      by true i =
+          let is : ((core_of old).client t).connected ≡ true =
+          ap (λ j. ((core_of old).client j).connected) (sym (eqb-true s t i)) ∙ connected in
+          absurd (cc (is, k))
+
+  same_session : (t : ℕ) → ((core_of old).client t).connected ≡ false → session_of closed t ≡ session_of old t
+  same_session t k = session_other old s t without_batch (λ y. refl) (other_session t k)
+
+  closed_watches : (t : ℕ) → ((core_of old).client t).connected ≡ false → WatchesNothing (session_of closed t)
+  closed_watches t k = subst WatchesNothing (sym (same_session t k)) (over_watches t k)
+
+  closed_over : (t : ℕ) → ((core_of old).client t).connected ≡ false → ((core_of closed).client t).connected ≡ false
+  closed_over t k = ap (λ o. (client_in o).connected) (same_session t k) ∙ k
 
   not_carried_out : (lines : List HeldLine) (why : DoneRefusal)
       → is_made (lines_outcome old.store.relations lines (Err why)) ≡ false
@@ -451,3 +491,5 @@ module _ (old : State) (kept : AreKept old) (rising : AreRising old) (s : ℕ) (
           (λ q. lines_affect old.store kept.0 held.lines suit given (suc n) h.store kept_after k q)))
           (spelled_to closed s change h.store reply e new c kept.0.queries closed_rising kept.0 kept_after relations r
           (h.store.seq, suc n, refl) closed_connected)
+          (λ t i. silent_to closed s change h.store reply e new c kept.0.queries closed_rising kept.0 kept_after relations
+          r (h.store.seq, suc n, refl) closed_connected t (closed_watches t i) (closed_over t i))

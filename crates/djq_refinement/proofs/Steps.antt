@@ -349,4 +349,5 @@ machine_refines_core old event e new h sound =
       is_run = goes.is_run;
       is_after = goes.is_after;
       spelled = goes.spelled;
+      silent = goes.silent;
     }

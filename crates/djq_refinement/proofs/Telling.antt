@@ -8,7 +8,7 @@ use Rattle.std.proofs.Common.{refl, sym, ap, ◌∙◌, subst, inl, inr, arith, 
 use Rattle.std.proofs.lemmas.Bool.{eqb-true}
 use Rattle.std.proofs.lemmas.List.{map-append}
 use Rattle.std.proofs.lemmas.List.Elements.{All-head, All-tail, All-weaker}
-use Rattle.djq_model.specs.Data.{Bytes}
+use Rattle.djq_model.specs.Data.{Bytes, bytes_eq}
 use Rattle.djq_model.specs.Listed.{listed_name}
 use Rattle.djq_protocol.specs.declared.answer.EndCause.{EndCause}
 use Rattle.djq_protocol.specs.declared.answer.EndCause.TheVariants.{Slow, Memory}
@@ -22,6 +22,7 @@ use Rattle.djq_machine.specs.Effect.{queue_all}
 use Rattle.djq_machine.specs.Run.{Walk, to_session}
 use Rattle.djq_machine.specs.Watch.{is_watching, Telling, says_more, ends_more, watching, watcher_of, TellsWatcher}
 use Rattle.djq_machine.specs.Watch.{TellsSession, TellsDelta, RepliesLast}
+use Rattle.djq_machine.proofs.Relations.{walk_keeps}
 use Rattle.djq_run_laws.specs.Watched.{parts_for}
 use Rattle.djq_run_laws.proofs.Lists.{gaining, queued_all, session_other, found_there, found_passes, delta_keeps}
 use Rattle.djq_run_laws.proofs.Sessions.{changed_ids}
@@ -284,3 +285,80 @@ module _ (t : ℕ) (x : Session) (runs : x.cause ≡ None) where
       by true e = here (eqb-true t s e) p
       by false e = subst (λ (qs : List Bytes). HasParts qs new) (sym (append-nil ps))
           (other_reply ps m s reply new (f.0).cause (other_id t s e) f.2 p)
+
+-- ---- a session that doesn't watch
+
+-- Nothing is queued to a session that watches nothing, or isn't open, if the reply is for another one.
+abbrev pub WatchesNothing : Option Session → Type 0
+WatchesNothing None = Unit {0}
+WatchesNothing (Some z) = z.watches ≡ []
+
+module _ (t : ℕ) where
+  abbrev pub IsSilent : Telling → Type 0
+  IsSilent m = WatchesNothing (session_of m.state t) × (parts_for t m.queued ≡ [])
+
+  silent_says : (m : Telling) (s : ℕ) (text : Bytes) → (s == t) ≡ false → IsSilent m → IsSilent (says_more s text m)
+  silent_says m s text apart h =
+      (h.0, parts_more t m.queued ((s, text) ∷ []) ∙ rw apart (append-nil (parts_for t m.queued)) ∙ h.1)
+
+  silent_ends : (m : Telling) (s : ℕ) (text : Bytes) (cause : EndCause) → (s == t) ≡ false → IsSilent m
+      → IsSilent (ends_more s text cause m)
+  silent_ends m s text cause apart h = (
+    subst WatchesNothing (sym (session_other m.state s t (ended_by cause) (λ y. refl) apart)) h.0,
+    parts_more t m.queued ((s, text) ∷ []) ∙ rw apart (append-nil (parts_for t m.queued)) ∙ h.1,
+  )
+
+  silent_watcher : (d : Delta) (n : ℕ) (m : Telling) (s : ℕ) (new : Telling) (o : Option Session) → (s == t) ≡ false
+      → MatchOption o (new ≡ m) (λ y. TellsWatcher d n s y.pending m new) → IsSilent m → IsSilent new
+  silent_watcher d n m s new None apart h p = subst IsSilent (sym h) p
+  silent_watcher d n m s new (Some y) apart (inl h) p =
+      subst IsSilent (sym h.1) (silent_ends m s end_slow Slow apart p)
+  silent_watcher d n m s new (Some y) apart (inr (inl h)) p =
+      subst IsSilent (sym h.1) (silent_says m s _ apart p)
+  silent_watcher d n m s new (Some y) apart (inr (inr h)) p =
+      subst IsSilent (sym h.4) (silent_ends m s _ Memory apart p)
+
+  no_watcher : (m : Telling) (q : Bytes) → WatchesNothing (session_of m.state t) → watcher_of m q t ≡ None
+  no_watcher m q h = ap (λ o. watching q o) (queued_all m.state m.queued t) ∙ by (session_of m.state t) h
+    where
+      by : (o : Option Session) → WatchesNothing o → watching q (option_map (gaining (to_session t m.queued)) o) ≡ None
+      by None k = refl
+      by (Some z) k =
+          ap (λ (ws : List Bytes). cond (list_any (λ w. bytes_eq w q) ws)
+          (Some (gaining (to_session t m.queued) z)) None) k
+
+  silent_session : (d : Delta) (n : ℕ) (m : Telling) (s : ℕ) (new : Telling) → TellsSession d n m s new → IsSilent m
+      → IsSilent new
+  silent_session d n m s new h p = by (s == t) refl
+    where
+      by : (b : Bool) → (s == t) ≡ b → IsSilent new
+      by false e = silent_watcher d n m s new (watcher_of m (listed_name d.query) s) e h p
+      by true e =
+          let same : new ≡ m =
+          subst (λ (o : Option Session). MatchOption o (new ≡ m) (λ y. TellsWatcher d n s y.pending m new))
+          (ap (λ i. watcher_of m (listed_name d.query) i) (eqb-true s t e) ∙ no_watcher m (listed_name d.query) p.0) h in
+          subst IsSilent (sym same) p
+
+  pub silent_deltas : (n : ℕ) (ds : List Delta) (m new : Telling) → Walk (TellsDelta n) m ds new → IsSilent m
+      → IsSilent new
+  silent_deltas n ds m new w p = walk_keeps (TellsDelta n) IsSilent
+      (λ from d to h k. walk_keeps (TellsSession d n) IsSilent (λ a s b i j. silent_session d n a s b i j) from
+      (state_ids from.state) to h k) m ds new w p
+
+  pub silent_last : (m : Telling) (s : ℕ) (reply : Bytes) (new : Telling) → (s == t) ≡ false
+      → RepliesLast s reply m new → IsSilent m → IsSilent new
+  silent_last m s reply new apart h p = by (f.0).cause f.2
+    where
+      f : (y : Session) × (session_of m.state s ≡ Some y) × MatchOption y.cause
+          ((new ≡ says_more s reply m)
+          ⊎ ((list_any (λ part. part.0 == s) m.queued ≡ true) × (new ≡ ends_more s end_memory Memory m)))
+          (λ _. new ≡ m)
+      f = some_there (session_of m.state s) _ h
+
+      by : (c : Option EndCause) → MatchOption c
+          ((new ≡ says_more s reply m)
+          ⊎ ((list_any (λ part. part.0 == s) m.queued ≡ true) × (new ≡ ends_more s end_memory Memory m)))
+          (λ _. new ≡ m) → IsSilent new
+      by None (inl k) = subst IsSilent (sym k) (silent_says m s reply apart p)
+      by None (inr k) = subst IsSilent (sym k.1) (silent_ends m s end_memory Memory apart p)
+      by (Some c) k = subst IsSilent (sym k) p

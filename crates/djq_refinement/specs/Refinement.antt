@@ -1,5 +1,5 @@
 -- The machine refines the core: what each step, and each run, of the machine is for the core.
-use Rattle.std.specs.Prelude.{ℕ, List, [], ◌∷◌, ◌++◌, ◌≡◌, ◌⊎◌, true, Option, None, Some, IsSomeAnd, All, map}
+use Rattle.std.specs.Prelude.{ℕ, List, [], ◌∷◌, ◌++◌, ◌≡◌, ◌⊎◌, true, false, Option, None, Some, IsSomeAnd, All, map}
 use Rattle.djq_model.specs.Data.{Bytes, Tuple}
 use Rattle.djq_model.specs.Answer.{IsListing}
 use Rattle.djq_model.specs.Listed.{Listed, listed_name, AnswersOf, listed_of}
@@ -50,7 +50,8 @@ reading_by (stepped s (run l)) = reading_of l
 reading_by _ = outside
 
 -- A step of the machine is a run of the core, of none of its steps or of some. To each session that goes on behind it
--- the messages are sent that are spelled by the texts queued to it.
+-- the messages are sent that are spelled by the texts queued to it; to one that didn't before it nothing is sent, and
+-- nothing is queued.
 pub record RefinesStep (old : State) (event : Event) (e : Effect) (new : State) : Type 0 where
   pub happenings : List Happening
   pub events : AreCoreEvents old.store.queries event (map (λ h. h.event) happenings)
@@ -58,6 +59,8 @@ pub record RefinesStep (old : State) (event : Event) (e : Effect) (new : State) 
   pub is_after : state_after (core_of old) happenings ≡ core_of new
   pub spelled : (t : ℕ) → ((core_of new).client t).connected ≡ true
       → AreSpelled (Spells (reading_by event)) (all_sent t happenings) (parts_for t e.queued)
+  pub silent : (t : ℕ) → ((core_of old).client t).connected ≡ false
+      → (all_sent t happenings ≡ []) × (parts_for t e.queued ≡ [])
 
 -- So it is of each step from a sound state.
 abbrev pub MachineRefinesCore : Type 0
