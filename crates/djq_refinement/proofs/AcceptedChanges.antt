@@ -101,7 +101,7 @@ module _ {A : Type 0} (name : A → Bytes) where
       (later_named x xs xs (from_map (λ n. name x ≢ n) name xs (pairs_head (λ a b. a ≢ b) (name x) (map name xs) h))
       (each_named xs (pairs_tail (λ a b. a ≢ b) (name x) (map name xs) h)))
 
-spelled_append : (S : CoreMessage → Bytes → Type 0) (ms ns : List CoreMessage) (ts us : List Bytes)
+pub spelled_append : (S : CoreMessage → Bytes → Type 0) (ms ns : List CoreMessage) (ts us : List Bytes)
     → AreSpelled S ms ts → AreSpelled S ns us → AreSpelled S (ms ++ ns) (ts ++ us)
 spelled_append S [] ns [] us h k = k
 spelled_append S (m ∷ ms) ns (t ∷ ts) us h k = (h.0, spelled_append S ms ns ts us h.1 k)

@@ -10,3 +10,4 @@ pub mod AcceptedChanges
 pub mod Edits
 pub mod RowChanges
 pub mod Steps
+pub mod Runs

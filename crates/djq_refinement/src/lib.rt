@@ -1,9 +1,14 @@
 //! The join machine refines the abstract core.
 #![tactic(auto)]
 
-ghost use Rattle.djq_refinement.specs.Refinement.{MachineRefinesCore};
+ghost use Rattle.djq_refinement.specs.Refinement.{MachineRefinesCore, RunsRefineCore};
 
 /// Each step of the machine from a sound state is a run of the core.
 pub fn machine_refines_core()
     ensures { MachineRefinesCore }
+{}
+
+/// Each run of the machine from a sound state is a run of the core.
+pub fn runs_refine_core()
+    ensures { RunsRefineCore }
 {}
