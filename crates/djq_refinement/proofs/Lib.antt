@@ -11,3 +11,4 @@ pub mod Edits
 pub mod RowChanges
 pub mod Steps
 pub mod Runs
+pub mod Promises

@@ -2,6 +2,7 @@
 #![tactic(auto)]
 
 ghost use Rattle.djq_refinement.specs.Refinement.{MachineRefinesCore, RunsRefineCore};
+ghost use Rattle.djq_refinement.specs.Refinement.{MachineFinishedListed, MachineSubscribersHaveAnswers};
 
 /// Each step of the machine from a sound state is a run of the core.
 pub fn machine_refines_core()
@@ -11,4 +12,10 @@ pub fn machine_refines_core()
 /// Each run of the machine from a sound state is a run of the core.
 pub fn runs_refine_core()
     ensures { RunsRefineCore }
+{}
+
+/// promises
+pub fn promises_hold_of_runs()
+    ensures finished { MachineFinishedListed }
+    ensures subscribers { MachineSubscribersHaveAnswers }
 {}
