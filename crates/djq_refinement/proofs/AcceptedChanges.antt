@@ -160,7 +160,10 @@ module _ (old : State) (s : ℕ) (change : RowsChange) (store : Store) (reply : 
       (found_there (λ (z : Session). z.id == t) old.sessions y found) w
 
   -- the deltas are spelled
-  module _ (r : Reading) (t : ℕ) (y : Session) (found : session_of old t ≡ Some y) where
+  module _ (seen : Core) (r : Reading) (t : ℕ) (y : Session) (found : session_of old t ≡ Some y) where
+    abbrev Spelling : CoreMessage → Bytes → Type 0
+    Spelling = Spells s r seen (core_of new)
+
     abbrev messages : ℕ → List Listed → List CoreMessage
     messages n qs = map (λ m. delta m (delta_of m) n)
         (filter (λ m. affects queries change m && is_watching m y) (map listed_name qs))
@@ -171,7 +174,7 @@ module _ (old : State) (s : ℕ) (change : RowsChange) (store : Store) (reply : 
     deltas_spelled : (n : ℕ) (qs : List Listed) (ds : List Delta) → map (λ (d : Delta). d.query) ds ≡ filter is_listed qs
         → All (λ (q : Listed). affects queries change (listed_name q) ≡ is_outdated change q) qs
         → All (λ (d : Delta). delta_of (listed_name d.query) ≡ delta_seen d.changes) ds
-        → AreSpelled (Spells r) (messages n qs) (texts n ds)
+        → AreSpelled Spelling (messages n qs) (texts n ds)
     deltas_spelled n [] [] same aff of = tt
     deltas_spelled n [] (d ∷ ds) same aff of = absurd cc
     deltas_spelled n (q ∷ qs) ds same aff of =
@@ -190,26 +193,26 @@ module _ (old : State) (s : ℕ) (change : RowsChange) (store : Store) (reply : 
 
         -- the query isn't due to this session
         skips : (affects queries change (listed_name q) && is_watching (listed_name q) y) ≡ false → (ks : List Delta)
-            → AreSpelled (Spells r) (messages n qs) (texts n ks) → AreSpelled (Spells r) (messages n (q ∷ qs)) (texts n ks)
-        skips e ks k = subst (λ b. AreSpelled (Spells r) (map (λ m. delta m (delta_of m) n)
+            → AreSpelled Spelling (messages n qs) (texts n ks) → AreSpelled Spelling (messages n (q ∷ qs)) (texts n ks)
+        skips e ks k = subst (λ b. AreSpelled Spelling (map (λ m. delta m (delta_of m) n)
             (cond b (listed_name q ∷ rest_messages) rest_messages)) (texts n ks)) (sym e) k
 
         -- it is, and the first of these deltas is its
         takes : affects queries change (listed_name q) ≡ true → is_watching (listed_name q) y ≡ true → (d : Delta)
-            (ks : List Delta) → d.query ≡ q → Known d → AreSpelled (Spells r) (messages n qs) (texts n ks)
-            → AreSpelled (Spells r) (messages n (q ∷ qs)) (texts n (d ∷ ks))
+            (ks : List Delta) → d.query ≡ q → Known d → AreSpelled Spelling (messages n qs) (texts n ks)
+            → AreSpelled Spelling (messages n (q ∷ qs)) (texts n (d ∷ ks))
         takes a w d ks is known k =
             let due : (affects queries change (listed_name q) && is_watching (listed_name q) y) ≡ true =
             and_from (affects queries change (listed_name q)) (is_watching (listed_name q) y) a w in
             let its : is_watching (listed_name d.query) y ≡ true =
             ap (λ (p : Listed). is_watching (listed_name p) y) is ∙ w in
-            subst (λ b. AreSpelled (Spells r) (map (λ m. delta m (delta_of m) n)
+            subst (λ b. AreSpelled Spelling (map (λ m. delta m (delta_of m) n)
             (cond b (listed_name q ∷ rest_messages) rest_messages)) (texts n (d ∷ ks))) (sym due)
-            (subst (λ b. AreSpelled (Spells r) (delta (listed_name q) (delta_of (listed_name q)) n ∷ messages n qs)
+            (subst (λ b. AreSpelled Spelling (delta (listed_name q) (delta_of (listed_name q)) n ∷ messages n qs)
             (map (delta_text n) (cond b (d ∷ filter (λ k. is_watching (listed_name k.query) y) ks)
             (filter (λ k. is_watching (listed_name k.query) y) ks)))) (sym its)
             (
-              subst (λ (p : Listed). Spells r (delta (listed_name p) (delta_of (listed_name p)) n) (delta_text n d)) is
+              subst (λ (p : Listed). Spelling (delta (listed_name p) (delta_of (listed_name p)) n) (delta_text n d)) is
                   (
                     d.changes,
                     ap (λ (c : AnswerDelta). c.inserted) (sym known),
@@ -221,12 +224,12 @@ module _ (old : State) (s : ℕ) (change : RowsChange) (store : Store) (reply : 
 
         -- the first of these deltas isn't due to this session
         passes : is_watching (listed_name q) y ≡ false → (d : Delta) (ks : List Delta) → d.query ≡ q
-            → AreSpelled (Spells r) (messages n (q ∷ qs)) (texts n ks)
-            → AreSpelled (Spells r) (messages n (q ∷ qs)) (texts n (d ∷ ks))
+            → AreSpelled Spelling (messages n (q ∷ qs)) (texts n ks)
+            → AreSpelled Spelling (messages n (q ∷ qs)) (texts n (d ∷ ks))
         passes w d ks is k =
             let its : is_watching (listed_name d.query) y ≡ false =
             ap (λ (p : Listed). is_watching (listed_name p) y) is ∙ w in
-            subst (λ b. AreSpelled (Spells r) (messages n (q ∷ qs))
+            subst (λ b. AreSpelled Spelling (messages n (q ∷ qs))
             (map (delta_text n) (cond b (d ∷ filter (λ k. is_watching (listed_name k.query) y) ks)
             (filter (λ k. is_watching (listed_name k.query) y) ks)))) (sym its) k
 
@@ -248,8 +251,8 @@ module _ (old : State) (s : ℕ) (change : RowsChange) (store : Store) (reply : 
         with_delta : (w : Bool) → is_watching (listed_name q) y ≡ w → is_outdated change q ≡ true → (ks : List Delta)
             → map (λ (d : Delta). d.query) ks ≡ q ∷ filter is_listed qs → All Known ks
             → ((js : List Delta) → map (λ (d : Delta). d.query) js ≡ filter is_listed qs → All Known js
-            → AreSpelled (Spells r) (messages n qs) (texts n js))
-            → AreSpelled (Spells r) (messages n (q ∷ qs)) (texts n ks)
+            → AreSpelled Spelling (messages n qs) (texts n js))
+            → AreSpelled Spelling (messages n (q ∷ qs)) (texts n ks)
         with_delta w is a [] k o more = absurd cc
         with_delta true is a (d ∷ js) k o more =
             let first : d.query ≡ q = cc in
@@ -266,8 +269,8 @@ module _ (old : State) (s : ℕ) (change : RowsChange) (store : Store) (reply : 
             ≡ cond (is_outdated change q && list_any (is_watching (listed_name q)) old.sessions) (q ∷ filter is_listed qs)
             (filter is_listed qs) → All Known ks
             → ((js : List Delta) → map (λ (d : Delta). d.query) js ≡ filter is_listed qs → All Known js
-            → AreSpelled (Spells r) (messages n qs) (texts n js))
-            → AreSpelled (Spells r) (messages n (q ∷ qs)) (texts n ks)
+            → AreSpelled Spelling (messages n qs) (texts n js))
+            → AreSpelled Spelling (messages n (q ∷ qs)) (texts n ks)
         by false a w i v j ks k o more =
             skips (not_due (head_affected ∙ a)) ks
             (more ks (k ∙ ap (λ b. cond (b && list_any (is_watching (listed_name q)) old.sessions)
@@ -285,7 +288,7 @@ module _ (old : State) (s : ℕ) (change : RowsChange) (store : Store) (reply : 
 
   module _ (names : AreApart (map listed_name old.store.queries)) (rising : AreRising old)
       (before : IsSoundStore old.store) (after : IsSoundStore store) (relations : store.relations ≡ change.after)
-      (r : Reading) (spells : Spells r ok reply) (there : ((core_of old).client s).connected ≡ true) where
+      (seen : Core) (r : Reading) (spells : Spells s r seen (core_of new) ok reply) (there : ((core_of old).client s).connected ≡ true) where
     abbrev start : Telling
     start = beginning old (is_accepted change) store
 
@@ -375,7 +378,7 @@ module _ (old : State) (s : ℕ) (change : RowsChange) (store : Store) (reply : 
     abbrev IsForClient : ℕ → Type 0
     IsForClient t =
         (StaysConnected (core_of old) (affects queries change) (core_of new) t (sent_by t) (only_sent s (ok ∷ []) t)
-        × AreSpelled (Spells r) (sent_by t) (parts_for t e.queued))
+        × AreSpelled (Spells s r seen (core_of new)) (sent_by t) (parts_for t e.queued))
         ⊎ (((core_of new).client t ≡ nobody) × (((core_of old).client t).connected ≡ false → sent_by t ≡ []))
 
     for_nobody : (t : ℕ) → (core_of old).client t ≡ nobody → IsForClient t
@@ -408,21 +411,21 @@ module _ (old : State) (s : ℕ) (change : RowsChange) (store : Store) (reply : 
           (found_there (λ (z : Session). z.id == t) old.sessions y found))) [] h.deltas start h.told h.tells same_ids
           (inl (started, refl)))
 
-      reply_spelled : (b : Bool) → AreSpelled (Spells r) (cond b (ok ∷ []) []) (cond b (reply ∷ []) [])
+      reply_spelled : (b : Bool) → AreSpelled (Spells s r seen (core_of new)) (cond b (ok ∷ []) []) (cond b (reply ∷ []) [])
       reply_spelled true = (spells, tt)
       reply_spelled false = tt
 
-      spelled : AreSpelled (Spells r) (sent_by t)
+      spelled : AreSpelled (Spells s r seen (core_of new)) (sent_by t)
           (watched_texts store.seq moved h.deltas ++ reply_part t moved going s reply)
       spelled =
-          subst (λ (k : Store). AreSpelled (Spells r)
+          subst (λ (k : Store). AreSpelled (Spells s r seen (core_of new))
           (deltas_for ((core_of old).client t) k.seq ++ only_sent s (ok ∷ []) t)
           (watched_texts store.seq moved h.deltas ++ reply_part t moved going s reply)) (sym new_store)
-          (subst (λ (z : Client). AreSpelled (Spells r) (deltas_for z store.seq ++ only_sent s (ok ∷ []) t)
+          (subst (λ (z : Client). AreSpelled (Spells s r seen (core_of new)) (deltas_for z store.seq ++ only_sent s (ok ∷ []) t)
           (watched_texts store.seq moved h.deltas ++ reply_part t moved going s reply)) (sym is_client)
-          (spelled_append (Spells r) (messages r t y found store.seq queries) (only_sent s (ok ∷ []) t)
-          (texts r t y found store.seq h.deltas) (reply_part t moved going s reply)
-          (deltas_spelled r t y found store.seq queries h.deltas h.listed.of_queries (each_affected names)
+          (spelled_append (Spells s r seen (core_of new)) (messages seen r t y found store.seq queries) (only_sent s (ok ∷ []) t)
+          (texts seen r t y found store.seq h.deltas) (reply_part t moved going s reply)
+          (deltas_spelled seen r t y found store.seq queries h.deltas h.listed.of_queries (each_affected names)
           (deltas_found names)) (reply_spelled (t == s))))
 
       for_going : IsForClient t
@@ -445,7 +448,7 @@ module _ (old : State) (s : ℕ) (change : RowsChange) (store : Store) (reply : 
                   (ap (λ (z : Client). affects queries change n && z.subscribed n) (sym is_client) ∙ due);
               is_sent = refl;
             },
-            subst (λ (ts : List Bytes). AreSpelled (Spells r) (sent_by t) ts)
+            subst (λ (ts : List Bytes). AreSpelled (Spells s r seen (core_of new)) (sent_by t) ts)
                 (sym (ap (λ (qs : List (ℕ × Bytes)). parts_for t qs) h.queued ∙ p.1)) spelled,
           )
 
@@ -461,10 +464,10 @@ module _ (old : State) (s : ℕ) (change : RowsChange) (store : Store) (reply : 
             at (Some cause) over = for_nobody t (ap client_in found ∙ ap (λ c. client_by c y) over)
 
     pub spelled_to : (t : ℕ) → ((core_of new).client t).connected ≡ true
-        → AreSpelled (Spells r) (sent_by t) (parts_for t e.queued)
+        → AreSpelled (Spells s r seen (core_of new)) (sent_by t) (parts_for t e.queued)
     spelled_to t k = by (for_client t)
       where
-        by : IsForClient t → AreSpelled (Spells r) (sent_by t) (parts_for t e.queued)
+        by : IsForClient t → AreSpelled (Spells s r seen (core_of new)) (sent_by t) (parts_for t e.queued)
         by (inl g) = g.1
         by (inr g) = let no : ((core_of new).client t).connected ≡ false = ap (λ (z : Client). z.connected) g.0 in
             absurd (cc (no, k))

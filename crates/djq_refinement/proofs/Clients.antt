@@ -162,19 +162,19 @@ spelled_alone S s t m text h = by (t == s) refl
 -- ---- steps
 
 -- What a step of the machine is for the core: RefinesStep, by which events it may be and how messages are spelled.
-pub record Going (E : List CoreEvent → Type 0) (S : CoreMessage → Bytes → Type 0) (old : State) (e : Effect)
-    (new : State) : Type 0 where
+pub record Going (E : List CoreEvent → Type 0) (S : Core → Core → CoreMessage → Bytes → Type 0) (old : State)
+    (e : Effect) (new : State) : Type 0 where
   pub happenings : List Happening
   pub events : E (map (λ (h : Happening). h.event) happenings)
   pub is_run : CoreRun (core_of old) happenings
   pub is_after : state_after (core_of old) happenings ≡ core_of new
   pub spelled : (t : ℕ) → ((core_of new).client t).connected ≡ true
-      → AreSpelled S (all_sent t happenings) (parts_for t e.queued)
+      → AreSpelled (S (core_of old) (core_of new)) (all_sent t happenings) (parts_for t e.queued)
   pub silent : (t : ℕ) → ((core_of old).client t).connected ≡ false
       → (all_sent t happenings ≡ []) × (parts_for t e.queued ≡ [])
 
 -- seen from states that the core sees alike
-pub goes_from : (E : List CoreEvent → Type 0) (S : CoreMessage → Bytes → Type 0) (old from : State) (e : Effect)
+pub goes_from : (E : List CoreEvent → Type 0) (S : Core → Core → CoreMessage → Bytes → Type 0) (old from : State) (e : Effect)
     (mid new : State) → core_of from ≡ core_of old → core_of new ≡ core_of mid → Going E S from e mid
     → Going E S old e new
 goes_from E S old from e mid new before after h = record {
@@ -182,24 +182,28 @@ goes_from E S old from e mid new before after h = record {
   events = h.events;
   is_run = subst (λ (c : Core). CoreRun c h.happenings) before h.is_run;
   is_after = ap (λ (c : Core). state_after c h.happenings) (sym before) ∙ h.is_after ∙ sym after;
-  spelled = λ t k. h.spelled t (ap (λ (c : Core). (c.client t).connected) (sym after) ∙ k);
+  spelled = λ t k. subst (λ (c : Core). AreSpelled (S c (core_of new)) (all_sent t h.happenings) (parts_for t e.queued))
+      before
+      (subst (λ (c : Core). AreSpelled (S (core_of from) c) (all_sent t h.happenings) (parts_for t e.queued)) (sym after)
+      (h.spelled t (ap (λ (c : Core). (c.client t).connected) (sym after) ∙ k)));
   silent = λ t k. h.silent t (ap (λ (c : Core). (c.client t).connected) before ∙ k);
 }
 
 -- nothing happens
-pub goes_silent : (E : List CoreEvent → Type 0) (S : CoreMessage → Bytes → Type 0) (old : State) (e : Effect)
+pub goes_silent : (E : List CoreEvent → Type 0) (S : Core → Core → CoreMessage → Bytes → Type 0) (old : State) (e : Effect)
     (new : State) → E [] → core_of new ≡ core_of old → e.queued ≡ [] → Going E S old e new
 goes_silent E S old e new events same quiet = record {
   happenings = [];
   events = events;
   is_run = tt;
   is_after = sym same;
-  spelled = λ t k. subst (λ (qs : List (ℕ × Bytes)). AreSpelled S [] (parts_for t qs)) (sym quiet) tt;
+  spelled = λ t k. subst (λ (qs : List (ℕ × Bytes)). AreSpelled (S (core_of old) (core_of new)) [] (parts_for t qs))
+      (sym quiet) tt;
   silent = λ t k. (refl, ap (λ (qs : List (ℕ × Bytes)). parts_for t qs) quiet);
 }
 
 -- a client is disconnected
-pub goes_away : (E : List CoreEvent → Type 0) (S : CoreMessage → Bytes → Type 0) (old : State) (s : ℕ) (e : Effect)
+pub goes_away : (E : List CoreEvent → Type 0) (S : Core → Core → CoreMessage → Bytes → Type 0) (old : State) (s : ℕ) (e : Effect)
     (new : State) → E (disconnects s ∷ []) → ((core_of old).client s).connected ≡ true
     → core_of new ≡ with_client s nobody (core_of old)
     → ((t : ℕ) → (t == s) ≡ false → parts_for t e.queued ≡ []) → Going E S old e new
@@ -218,30 +222,31 @@ goes_away E S old s e new events there after quiet = record {
     gone t false i k = (refl, quiet t i)
 
     by : (t : ℕ) (b : Bool) → (t == s) ≡ b → (cond b nobody ((core_of old).client t)).connected ≡ true
-        → AreSpelled S (cond b [] [] ++ []) (parts_for t e.queued)
+        → AreSpelled (S (core_of old) (core_of new)) (cond b [] [] ++ []) (parts_for t e.queued)
     by t true i k = absurd cc
-    by t false i k = subst (λ ts. AreSpelled S [] ts) (sym (quiet t i)) tt
+    by t false i k = subst (λ ts. AreSpelled (S (core_of old) (core_of new)) [] ts) (sym (quiet t i)) tt
 
 -- What the line of a session is for the core.
 abbrev pub LineGoes : State → ℕ → Reading → Effect → State → Type 0
-LineGoes old s r e new = Going (AreOfLine s (core_reading old.store.queries r)) (Spells r) old e new
+LineGoes old s r e new = Going (AreOfLine s (core_reading old.store.queries r)) (Spells s r) old e new
 
 of_ending : (s : ℕ) (o : Option CoreCommand) → AreOfLine s o (disconnects s ∷ [])
 of_ending s None = refl
-of_ending s (Some c) = inr (inl refl)
+of_ending s (Some c) = inr refl
 
 -- A command gets one reply.
 pub line_says : (old : State) (s : ℕ) (r : Reading) (e : Effect) (new : State) (c : CoreCommand) (m : CoreMessage)
     (text : Bytes) → core_reading old.store.queries r ≡ Some c
     → CoreStep (core_of old) (says s c) (only_sent s (m ∷ [])) (core_of new) → e.queued ≡ (s, text) ∷ []
-    → Spells r m text → LineGoes old s r e new
+    → Spells s r (core_of old) (core_of new) m text → LineGoes old s r e new
 line_says old s r e new c m text is step queued spelled = record {
   happenings = record { event = says s c; sent = only_sent s (m ∷ []); after = core_of new } ∷ [];
   events = subst (λ o. AreOfLine s o (says s c ∷ [])) (sym is) (inl refl);
   is_run = (step, tt);
   is_after = refl;
-  spelled = λ t k. subst (λ (qs : List (ℕ × Bytes)). AreSpelled (Spells r) (only_sent s (m ∷ []) t ++ []) (parts_for t qs))
-      (sym queued) (spelled_alone (Spells r) s t m text spelled);
+  spelled = λ t k. subst (λ (qs : List (ℕ × Bytes)).
+      AreSpelled (Spells s r (core_of old) (core_of new)) (only_sent s (m ∷ []) t ++ []) (parts_for t qs))
+      (sym queued) (spelled_alone (Spells s r (core_of old) (core_of new)) s t m text spelled);
   silent = λ t k. gone t (t == s) refl k;
 }
   where
@@ -255,7 +260,7 @@ pub line_ends : (old : State) (s : ℕ) (x : Session) (r : Reading) (e : Effect)
     (new : State) (text : Bytes) → session_of old s ≡ Some x → x.cause ≡ None → core_of mid ≡ core_of old
     → new ≡ with_session mid s (ended_by cause) → e.queued ≡ (s, text) ∷ [] → LineGoes old s r e new
 line_ends old s x r e mid cause new text found runs same after queued =
-    goes_away (AreOfLine s (core_reading old.store.queries r)) (Spells r) old s e new
+    goes_away (AreOfLine s (core_reading old.store.queries r)) (Spells s r) old s e new
     (of_ending s (core_reading old.store.queries r)) (is_connected old s x found runs)
     (core_ended mid (core_of old) s cause new same after)
     (λ t k. ap (λ (qs : List (ℕ × Bytes)). parts_for t qs) queued ∙ parts_other s t text k)

@@ -4,9 +4,12 @@ use Rattle.std.specs.Prelude.{None, Some, is_some, is_none, IsSome, IsSomeAnd, M
 use Rattle.std.specs.Prelude.{filter, All, Contains, find, length}
 use Rattle.std.specs.List.{list_any}
 use Rattle.std.specs.Option.{option_map}
-use Rattle.std.proofs.Common.{refl, sym, ap, ◌∙◌, subst, inl, inr}
+use Rattle.std.proofs.Common.{refl, sym, ap, ap₂, ◌∙◌, subst, inl, inr, arith, length-append}
+use Rattle.std.specs.Prelude.{decimal, ◌<◌, ◌≤◌}
+use Rattle.std.proofs.lemmas.Fmt.{length-decimal-le_succ}
+use Rattle.djq_protocol.specs.declared.limits.TheConstants.{HEAD_VARIABLES, REPLY_BYTES}
 use Rattle.std.proofs.lemmas.Bool.{or_parts, eqb-true}
-use Rattle.std.proofs.lemmas.List.{map-append}
+use Rattle.std.proofs.lemmas.List.{map-append, length-map}
 use Rattle.std.proofs.lemmas.List.Elements.{All-weaker}
 use Rattle.djq_model.specs.declared.relation.ColumnType.{ColumnType}
 use Rattle.djq_model.specs.declared.relation.Relation.{Relation}
@@ -29,13 +32,13 @@ use Rattle.djq_protocol.specs.declared.command.Command.TheVariants.{Next, Close,
 use Rattle.djq_protocol.specs.declared.command.Command.TheVariants.{Shape as AskShape, Batch, Done, Abandon, Quit, Stop}
 use Rattle.djq_protocol.specs.Conditions.{first_refusal, Answers, OutOfMemoryWhere}
 use Rattle.djq_protocol.specs.Grammar.{Reading, outside, past_limit, says_command}
-use Rattle.djq_protocol.specs.Reply.{line, refusal_line, ok_reply, query_reply, union_reply, has_reply, shape_reply}
+use Rattle.djq_protocol.specs.Reply.{line, numbered_line, refusal_line, ok_reply, query_reply, union_reply, has_reply, shape_reply}
 use Rattle.djq_protocol.specs.Reply.{watch_reply, held_reply, text_of, end_memory}
 use Rattle.djq_protocol.specs.Variables.{constants_of}
 use Rattle.djq_store_spec.specs.Store.{Store, Position, open_at, stale as stale_since}
 use Rattle.djq_store_spec.specs.Relations.{MakesRelation, rel_refusal}
 use Rattle.djq_store_spec.specs.Registering.{RefusedLate, RegistersAs, RegistersQuery, DropsQuery, query_refusal}
-use Rattle.djq_store_spec.specs.Registering.{drop_refusal, is_member, answer_steps}
+use Rattle.djq_store_spec.specs.Registering.{drop_refusal, is_member, answer_steps, most_steps}
 use Rattle.djq_store_spec.specs.Asking.{Tells, TellsWhether, TellsShape, has_refusal, IsShapeOf}
 use Rattle.djq_store_spec.specs.Listing.{TellsAnswers}
 use Rattle.djq_store_spec.specs.Union.{union_refusal, AreUnder, RegistersUnion}
@@ -54,7 +57,7 @@ use Rattle.djq_run_laws.specs.Form.{LearnsTexts, without_cursor}
 use Rattle.djq_run_laws.specs.Watched.{parts_for}
 use Rattle.djq_run_laws.proofs.Lists.{all_found, found_there, any_there, and_some}
 use Rattle.djq_run_laws.proofs.Forms.{done_of, none_holds, none_first, none_second, refused_learned, late_learned}
-use Rattle.djq_run_laws.proofs.Forms.{stays_learned}
+use Rattle.djq_run_laws.proofs.Forms.{stays_learned, all_fail, query_conditions, within_limits}
 use Rattle.djq_run_laws.proofs.SoundStates.{AreKept}
 use Rattle.djq_abstract.specs.Rows.{AnswersOver}
 use Rattle.djq_abstract.specs.Clients.{CursorState, valid, stale, Client, Core, nobody, with_client, client_with_cursor}
@@ -67,7 +70,7 @@ use Rattle.djq_abstract.specs.Histories.{Happening}
 use Rattle.djq_abstract.proofs.Names.{found_named}
 use Rattle.djq_refinement.specs.View.{client_by, client_in, core_of, core_reading, line_edit, line_edits, inserts_row}
 use Rattle.djq_refinement.specs.View.{queries_under, cursor_seen, cursor_state}
-use Rattle.djq_refinement.specs.Spelling.{Spells, AreSpelled, IsExplaining}
+use Rattle.djq_refinement.specs.Spelling.{Spells, AreSpelled, IsExplaining, AcceptsEdit}
 use Rattle.djq_refinement.specs.Refinement.{AreOfLine}
 use Rattle.djq_refinement.proofs.Clients.{core_path, client_path, core_with, with_same, going_client, is_connected}
 use Rattle.djq_refinement.proofs.Clients.{core_ended, not_both, parts_other, LineGoes, line_says, line_ends}
@@ -130,13 +133,14 @@ module _ (old : State) (kept : AreKept old) (s : ℕ) (x : Session) (found : ses
   pub accepted : (r : Reading) (e : Effect) (new : State) (c : CoreCommand) (m : CoreMessage) (text : Bytes)
       → core_reading old.store.queries r ≡ Some c
       → Accepts (core_of old) s c (only_sent s (m ∷ [])) (core_of new) → e.queued ≡ (s, text) ∷ []
-      → Spells r m text → LineGoes old s r e new
+      → Spells s r (core_of old) (core_of new) m text → LineGoes old s r e new
   accepted r e new c m text is does queued spelled =
       line_says old s r e new c m text is (is_connected old s x found runs, inl does) queued spelled
 
   pub turned_down : (r : Reading) (e : Effect) (new : State) (c : CoreCommand) (m : CoreMessage) (text : Bytes)
       → core_reading old.store.queries r ≡ Some c → MayRefuse c m → client_refused c author ≡ author
-      → core_of new ≡ core_of old → e.queued ≡ (s, text) ∷ [] → Spells r m text → LineGoes old s r e new
+      → core_of new ≡ core_of old → e.queued ≡ (s, text) ∷ [] → Spells s r (core_of old) (core_of new) m text
+      → LineGoes old s r e new
   turned_down r e new c m text is may left same queued spelled =
       line_says old s r e new c m text is (is_connected old s x found runs, inr (record {
         message = m;
@@ -158,7 +162,8 @@ module _ (old : State) (kept : AreKept old) (s : ℕ) (x : Session) (found : ses
   -- by a step that refuses
   pub refusing : (r : Reading) (e : Effect) (new : State) (c : CoreCommand) (why : Refusal)
       → core_reading old.store.queries r ≡ Some c → client_refused c author ≡ author
-      → RefusedStep old s why e new → Spells r refused (refusal_line why) → LineGoes old s r e new
+      → RefusedStep old s why e new → Spells s r (core_of old) (core_of new) refused (refusal_line why)
+      → LineGoes old s r e new
   refusing r e new c why is left h spelled =
       turned_down r e new c refused (refusal_line why) is (may_refuse c) left (ap core_of h.1)
       (ap (λ (d : Effect). d.queued) h.0) spelled
@@ -262,10 +267,20 @@ module _ (old : State) (kept : AreKept old) (s : ℕ) (x : Session) (found : ses
           (inr (refl, λ a. (d.0.1).no_tree (admitted_query q a).1)) refl (with_store h.store new h.state d.1)
           (queued_of e _ said) (rest, inr refl)
 
-  -- a query whose reply finds no memory: its session ends, maybe once the query is registered
+  -- a query whose reply finds no memory isn't registered: the reply that it is would be short
+  short_reply : (q : Query) (most : ℕ) → length q.head ≤ HEAD_VARIABLES → most ≡ most_steps (length q.head)
+      → REPLY_BYTES < length (query_reply (Ok (Registered most))) → ⊥
+  short_reply q most few is above =
+      let digits = length-decimal-le_succ most (omega (arith, few, is)) in
+      let words : length (codes "ok query " ++ decimal most) ≡ 9 + length (decimal most) =
+      length-append (codes "ok query ") (decimal most) in
+      let whole : length (query_reply (Ok (Registered most))) ≡ length (codes "ok query " ++ decimal most) + 1 =
+      length-append (codes "ok query " ++ decimal most) (10 ∷ []) in
+      absurd (omega (arith, digits, words, whole, above, few, is))
+
   pub query_cut_goes : (q : Query) (e : Effect) (new : State) → QueryCutStep old s q e new
       → LineGoes old s (says_command (Register q)) e new
-  query_cut_goes q e new h = by h.result h.done h.ends.0
+  query_cut_goes q e new h = by h.result h.done h.ends.0 h.above
     where
       r : Reading
       r = says_command (Register q)
@@ -277,46 +292,22 @@ module _ (old : State) (kept : AreKept old) (s : ℕ) (x : Session) (found : ses
       by_end same test said = line_ends old s x r e mid Memory new end_memory found runs same h.ends.1
           (queued_of e _ said)
 
-      gone : (t : ℕ) (b : Bool) → (t == s) ≡ b → ((core_of old).client t).connected ≡ false
-          → e.queued ≡ (s, end_memory) ∷ []
-          → ((cond b (ok ∷ []) [] ++ (cond b [] [] ++ [])) ≡ []) × (parts_for t e.queued ≡ [])
-      gone t true i k said = absurd (not_both (core_of old) s t i (is_connected old s x found runs) k)
-      gone t false i k said =
-          (refl, ap (λ (qs : List (ℕ × Bytes)). parts_for t qs) said ∙ parts_other s t end_memory i)
-
-      quiet : (t : ℕ) (b : Bool) → (t == s) ≡ b → (cond b nobody ((core_of mid).client t)).connected ≡ true
-          → e.queued ≡ (s, end_memory) ∷ []
-          → AreSpelled (Spells r) (cond b (ok ∷ []) [] ++ (cond b [] [] ++ [])) (parts_for t e.queued)
-      quiet t true k there said = absurd cc
-      quiet t false k there said = subst (λ (qs : List (ℕ × Bytes)). AreSpelled (Spells r) [] (parts_for t qs)) (sym said)
-          (subst (λ ts. AreSpelled (Spells r) [] ts) (sym (parts_other s t end_memory k)) tt)
-
       by : (o : Result QueryOutcome Refusal) → RegistersQuery old.store q o h.store
-          → e ≡ answers s end_memory (is_registration o) → LineGoes old s r e new
-      by (Err why) k said = by_end (learned_core h.store (not_registered old.store q why h.store k)) false said
-      by (Ok (Cyclic rest)) k said =
+          → e ≡ answers s end_memory (is_registration o) → REPLY_BYTES < length (query_reply o) → LineGoes old s r e new
+      by (Err why) k said above = by_end (learned_core h.store (not_registered old.store q why h.store k)) false said
+      by (Ok (Cyclic rest)) k said above =
           let d = done_of (query_refusal old.store q) (Cyclic rest) (RegistersAs old.store q h.store)
           (RefusedLate old.store q h.store) k.answer in by_end (with_store h.store mid refl d.1) false said
-      by (Ok (NotConnex rest)) k said =
+      by (Ok (NotConnex rest)) k said above =
           let d = done_of (query_refusal old.store q) (NotConnex rest) (RegistersAs old.store q h.store)
           (RefusedLate old.store q h.store) k.answer in by_end (with_store h.store mid refl d.1) false said
-      by (Ok (Registered most)) k said =
-          let after : core_of new ≡ with_client s nobody (core_of mid) =
-          core_ended mid (core_of mid) s Memory new refl h.ends.1 in record {
-            happenings =
-                record { event = says s (register (a_query q)); sent = only_sent s (ok ∷ []); after = core_of mid }
-                ∷ record { event = disconnects s; sent = only_sent s []; after = core_of new }
-                ∷ [];
-            events = inr (inr refl);
-            is_run = (
-              (is_connected old s x found runs, inl (query_accepts q most h.store mid refl k)),
-              ((is_connected mid s x found runs, [], refl, after), tt),
-            );
-            is_after = refl;
-            spelled = λ t there. quiet t (t == s) refl
-                (ap (λ (c : Core). (c.client t).connected) (sym after) ∙ there) (queued_of e _ said);
-            silent = λ t none. gone t (t == s) refl none (queued_of e _ said);
-          }
+      by (Ok (Registered most)) k said above =
+          let d = done_of (query_refusal old.store q) (Registered most) (RegistersAs old.store q h.store)
+          (RefusedLate old.store q h.store) k.answer in
+          let none = none_holds (query_refusal old.store q) (Registered most) (RegistersAs old.store q h.store)
+          (RefusedLate old.store q h.store) k.answer in
+          let fails = all_fail (query_conditions old.store q) none in
+          absurd (short_reply q most (within_limits q fails.1.1.1.1.1.1.1.1.1.0).head d.1 above)
 
   pub union_goes : (name : Bytes) (members : List Bytes) (e : Effect) (new : State)
       → UnionStep old s name members e new → LineGoes old s (says_command (Union name members)) e new
@@ -592,7 +583,7 @@ module _ (old : State) (kept : AreKept old) (s : ℕ) (x : Session) (found : ses
             only_becomes ok (with_watch q) new (with_subscription q true author) (λ z. refl) refl after
                 (watched_client x q ∙ ap (λ y. with_subscription q true y) (sym is_author)),
           )
-          said (old.store.seq, refl)
+          said (ap (λ (st : State). numbered_line (codes "ok watch ") st.store.seq) (sym after))
 
   pub unwatch_goes : (q : Bytes) (e : Effect) (new : State) → UnwatchStep old s q e new
       → LineGoes old s (says_command (Unwatch q)) e new
@@ -666,6 +657,13 @@ module _ (old : State) (kept : AreKept old) (s : ℕ) (x : Session) (found : ses
       (ap (λ (es : List _). record (client_by None x) { batch = Some es }) (map-append line_edit held.lines (one ∷ []))
       ∙ ap (λ (y : Client). record y { batch = Some (line_edits held ++ line_edit one ∷ []) }) (sym is_author)))
 
+  held_spelled : (held : HeldTransaction) (words : Bytes) (new : State) (name : Bytes) (row : Tuple)
+      → x.batch ≡ Some held
+      → AcceptsEdit words author.batch (core_of new) name row (numbered_line (codes "ok held ") (length held.lines + 1))
+  held_spelled held words new name row is =
+      rw (some_batch held is)
+      (ap (λ n. numbered_line (codes "ok held ") (n + 1)) (sym (length-map held.lines line_edit)))
+
   pub hold_add_goes : (held : HeldTransaction) (l name : Bytes) (row : Tuple) (e : Effect) (new : State)
       → x.batch ≡ Some held → HoldStep old s held l Adds name row e new
       → LineGoes old s (says_command (Add name row)) e new
@@ -679,7 +677,7 @@ module _ (old : State) (kept : AreKept old) (s : ℕ) (x : Session) (found : ses
       by (Err why) said after = turned_down r e new _ refused (refusal_line why) refl refl refl (ap core_of after) said
           (why, refl)
       by (Ok u) said after = accepted r e new _ ok _ refl (hold_accepts held l Adds name row new is after) said
-          (inr (length held.lines + 1, refl))
+          (held_spelled held (codes "ok added ") new name row is)
 
   pub hold_delete_goes : (held : HeldTransaction) (l name : Bytes) (row : Tuple) (e : Effect) (new : State)
       → x.batch ≡ Some held → HoldStep old s held l Deletes name row e new
@@ -694,4 +692,4 @@ module _ (old : State) (kept : AreKept old) (s : ℕ) (x : Session) (found : ses
       by (Err why) said after = turned_down r e new _ refused (refusal_line why) refl refl refl (ap core_of after) said
           (inl (why, refl))
       by (Ok u) said after = accepted r e new _ ok _ refl (hold_accepts held l Deletes name row new is after) said
-          (inr (length held.lines + 1, refl))
+          (held_spelled held (codes "ok removed ") new name row is)

@@ -21,14 +21,14 @@ use Rattle.djq_abstract.specs.Clients.{Client, Core, nobody, with_client, CoreEv
 use Rattle.djq_abstract.specs.Clients.{CoreMessage}
 use Rattle.djq_abstract.specs.Histories.{Happening}
 use Rattle.djq_refinement.specs.View.{client_by, client_in, core_of}
-use Rattle.djq_refinement.specs.Spelling.{Spells, AreSpelled}
-use Rattle.djq_refinement.specs.Refinement.{AreCoreEvents, reading_by}
+use Rattle.djq_refinement.specs.Spelling.{AreSpelled}
+use Rattle.djq_refinement.specs.Refinement.{AreCoreEvents, SpellsBy}
 use Rattle.djq_refinement.proofs.Clients.{core_path, core_with, core_same, core_ended, by_pending, by_held, is_connected}
 use Rattle.djq_refinement.proofs.Clients.{parts_other, other_id, same_id, Going, goes_silent, goes_away}
 
 -- What an event is for the core, before its bytes are queued.
 abbrev pub EventGoes : State → Event → Effect → State → Type 0
-EventGoes old event e mid = Going (AreCoreEvents old.store.queries event) (Spells (reading_by event)) old e mid
+EventGoes old event e mid = Going (AreCoreEvents old.store.queries event) (SpellsBy event) old e mid
 
 -- ---- a session opens
 
@@ -64,7 +64,7 @@ open_goes old s e mid h = by h.2
 
     by : ((length old.sessions < SESSIONS) × (mid ≡ record old { sessions = old.sessions ++ fresh s ∷ [] }))
         ⊎ (mid ≡ old) → EventGoes old (opened s) e mid
-    by (inr same) = goes_silent (AreCoreEvents old.store.queries (opened s)) (Spells (reading_by (opened s))) old e mid
+    by (inr same) = goes_silent (AreCoreEvents old.store.queries (opened s)) (SpellsBy (opened s)) old e mid
         (inl refl) (ap core_of same) (ap (λ (d : Effect). d.queued) h.0)
     by (inl more) = record {
       happenings = record { event = connects s; sent = only_sent s []; after = core_of mid } ∷ [];
@@ -80,7 +80,7 @@ open_goes old s e mid h = by h.2
         tt,
       );
       is_after = refl;
-      spelled = λ t k. subst (λ (d : Effect). AreSpelled (Spells (reading_by (opened s)))
+      spelled = λ t k. subst (λ (d : Effect). AreSpelled (SpellsBy (opened s) (core_of old) (core_of mid))
           (only_sent s [] t ++ []) (parts_for t d.queued)) (sym h.0) (quiet (t == s));
       silent = λ t k. (nothing_sent (t == s), ap (λ (d : Effect). parts_for t d.queued) h.0);
     }
@@ -89,7 +89,7 @@ open_goes old s e mid h = by h.2
         nothing_sent true = refl
         nothing_sent false = refl
 
-        quiet : (b : Bool) → AreSpelled (Spells (reading_by (opened s))) (cond b [] [] ++ []) []
+        quiet : (b : Bool) → AreSpelled (SpellsBy (opened s) (core_of old) (core_of mid)) (cond b [] [] ++ []) []
         quiet true = tt
         quiet false = tt
 
@@ -100,14 +100,14 @@ pub ends_goes : (old : State) (event : Event) (s : ℕ) (x : Session) (text : By
     (mid : State) → AreCoreEvents old.store.queries event (disconnects s ∷ []) → session_of old s ≡ Some x
     → x.cause ≡ None → EndsWith text cause old s e mid → EventGoes old event e mid
 ends_goes old event s x text cause e mid events found runs h =
-    goes_away (AreCoreEvents old.store.queries event) (Spells (reading_by event)) old s e mid events
+    goes_away (AreCoreEvents old.store.queries event) (SpellsBy event) old s e mid events
     (is_connected old s x found runs) (core_ended old (core_of old) s cause mid refl h.1)
     (λ t k. ap (λ (d : Effect). parts_for t d.queued) h.0 ∙ parts_other s t text k)
 
 stays_goes : (old : State) (event : Event) (e : Effect) (mid : State) → AreCoreEvents old.store.queries event []
     → e ≡ nothing → core_of mid ≡ core_of old → EventGoes old event e mid
 stays_goes old event e mid events quiet same =
-    goes_silent (AreCoreEvents old.store.queries event) (Spells (reading_by event)) old e mid events same
+    goes_silent (AreCoreEvents old.store.queries event) (SpellsBy event) old e mid events same
     (ap (λ (d : Effect). d.queued) quiet)
 
 pub fed_goes : (old : State) (s : ℕ) (bytes : Bytes) (e : Effect) (mid : State) → Acts old (fed s bytes) e mid
@@ -151,7 +151,7 @@ input_goes old s e mid h = by _ (f.0).cause refl f.2
         × (mid ≡ with_session old s (ended_by Input)))
         (λ _. (e ≡ nothing) × (mid ≡ old)) → EventGoes old (ended s) e mid
     by P None runs k =
-        goes_away (AreCoreEvents old.store.queries (ended s)) (Spells (reading_by (ended s))) old s e mid (inr refl)
+        goes_away (AreCoreEvents old.store.queries (ended s)) (SpellsBy (ended s)) old s e mid (inr refl)
         (is_connected old s f.0 f.1 runs) (core_ended old (core_of old) s Input mid refl k.2)
         (λ t i. ap (λ (d : Effect). parts_for t d.queued) k.1
         ∙ parts_any s t (cut_line (f.0).held ++ lost_line (f.0).batch) i)
@@ -197,7 +197,7 @@ closed_goes old s bytes e mid h = by (((core_of old).client s).connected) refl
 
     by : (b : Bool) → ((core_of old).client s).connected ≡ b → EventGoes old (closed s bytes) e mid
     by true k =
-        goes_away (AreCoreEvents old.store.queries (closed s bytes)) (Spells (reading_by (closed s bytes))) old s e mid
+        goes_away (AreCoreEvents old.store.queries (closed s bytes)) (SpellsBy (closed s bytes)) old s e mid
         (inr refl) k after (λ t i. ap (λ (d : Effect). parts_for t d.queued) h.0)
     by false k = stays_goes old (closed s bytes) e mid (inl refl) h.0
         (after ∙ same nobody (nobody_there (session_of old s) k))

@@ -27,7 +27,7 @@ use Rattle.djq_abstract.proofs.Sound.{finished_cursors_listed}
 use Rattle.djq_abstract.proofs.Live.{subscribers_have_answers}
 use Rattle.djq_refinement.specs.View.{database_of, client_by, client_in, core_of, core_reading}
 use Rattle.djq_refinement.specs.Spelling.{Spells, AreSpelled}
-use Rattle.djq_refinement.specs.Refinement.{AreOfLine, AreOfFront, AreCoreEvents, reading_by, IsSpelled, HasAnswers}
+use Rattle.djq_refinement.specs.Refinement.{AreOfLine, AreOfFront, AreCoreEvents, SpellsBy, IsSpelled, HasAnswers}
 use Rattle.djq_refinement.specs.Refinement.{MachineFinishedListed, MachineSubscribersHaveAnswers}
 use Rattle.djq_refinement.proofs.Stores.{answer_seen, answer_back, own_names}
 use Rattle.djq_refinement.proofs.Steps.{machine_refines_core}
@@ -73,26 +73,25 @@ machine_finished_listed start h done new w s c q returned e =
 
 -- ---- a session that watches along a run
 
--- at most two events of the core, of which the second disconnects
+-- at most one event of the core
 abbrev AreShort : List CoreEvent → Type 0
-AreShort es = (es ≡ []) ⊎ ((e : CoreEvent) × (es ≡ e ∷ [])) ⊎ ((e : CoreEvent) × (a : ℕ) × (es ≡ e ∷ disconnects a ∷ []))
+AreShort es = (es ≡ []) ⊎ ((e : CoreEvent) × (es ≡ e ∷ []))
 
 short_line : (s : ℕ) (o : Option CoreCommand) (es : List CoreEvent) → AreOfLine s o es → AreShort es
-short_line s None es h = inr (inl (disconnects s, h))
-short_line s (Some c) es (inl h) = inr (inl (says s c, h))
-short_line s (Some c) es (inr (inl h)) = inr (inl (disconnects s, h))
-short_line s (Some c) es (inr (inr h)) = inr (inr (says s c, s, h))
+short_line s None es h = inr (disconnects s, h)
+short_line s (Some c) es (inl h) = inr (says s c, h)
+short_line s (Some c) es (inr h) = inr (disconnects s, h)
 
 short_front : (qs : List Listed) (s : ℕ) (o : LineOutcome) (es : List CoreEvent) → AreOfFront qs s o es → AreShort es
 short_front qs s (run l) es h = short_line s (core_reading qs (reading_of l)) es h
 short_front qs s (blank l) es h = inl h
-short_front qs s long es h = inr (inl (disconnects s, h))
-short_front qs s (slow l) es h = inr (inl (disconnects s, h))
-short_front qs s (no_room l) es h = inr (inl (disconnects s, h))
+short_front qs s long es h = inr (disconnects s, h)
+short_front qs s (slow l) es h = inr (disconnects s, h)
+short_front qs s (no_room l) es h = inr (disconnects s, h)
 
 none_or_one : (e : CoreEvent) (es : List CoreEvent) → (es ≡ []) ⊎ (es ≡ e ∷ []) → AreShort es
 none_or_one e es (inl h) = inl h
-none_or_one e es (inr h) = inr (inl (e, h))
+none_or_one e es (inr h) = inr (e, h)
 
 short_events : (qs : List Listed) (event : Event) (es : List CoreEvent) → AreCoreEvents qs event es → AreShort es
 short_events qs (opened s) es h = none_or_one (connects s) es h
@@ -105,36 +104,15 @@ short_events qs (closed s bytes) es h = none_or_one (disconnects s) es h
 abbrev Subscribes : ℕ → Bytes → Core → Type 0
 Subscribes s q st = (st.client s).subscribed q ≡ true
 
--- one that subscribes behind another's end did before it
-before_end : (s : ℕ) (q : Bytes) (st : Core) (e : CoreEvent) (a : ℕ) (sent : Sent) (after : Core) → e ≡ disconnects a
-    → CoreStep st e sent after → Subscribes s q after → Subscribes s q st
-before_end s q st e a sent after is step k = by (s == a) (ap (λ (c : Core). (c.client s).subscribed q) (sym its.3) ∙ k)
-  where
-    its : ((st.client a).connected ≡ true) × (ms : List CoreMessage) × (sent ≡ only_sent a ms)
-        × (after ≡ with_client a nobody st)
-    its = subst (λ (i : CoreEvent). CoreStep st i sent after) is step
-
-    by : (b : Bool) → (cond b nobody (st.client s)).subscribed q ≡ true → (st.client s).subscribed q ≡ true
-    by true i = absurd cc
-    by false i = i
-
 short_along : (s : ℕ) (q : Bytes) (st : Core) (hs : List Happening) → AreShort (map (λ (h : Happening). h.event) hs)
     → CoreRun st hs → Subscribes s q st → Subscribes s q (state_after st hs) → IsSubscribedAlong s q st hs
 short_along s q st [] short r first last = first
 short_along s q st (h ∷ []) short r first last = (first, last)
-short_along s q st (h ∷ k ∷ []) short r first last = (first, (middle short, last))
+short_along s q st (h ∷ k ∷ hs) short r first last = absurd (long_list short)
   where
-    middle : AreShort (h.event ∷ k.event ∷ []) → Subscribes s q h.after
-    middle (inl e) = absurd cc
-    middle (inr (inl (e, is))) = absurd cc
-    middle (inr (inr (e, a, is))) =
-        let second : k.event ≡ disconnects a = cc in before_end s q h.after k.event a k.sent k.after second r.1.0 last
-short_along s q st (h ∷ k ∷ j ∷ hs) short r first last = absurd (long_list short)
-  where
-    long_list : AreShort (h.event ∷ k.event ∷ j.event ∷ map (λ (i : Happening). i.event) hs) → ⊥
+    long_list : AreShort (h.event ∷ k.event ∷ map (λ (i : Happening). i.event) hs) → ⊥
     long_list (inl e) = absurd cc
-    long_list (inr (inl (e, is))) = absurd cc
-    long_list (inr (inr (e, a, is))) = absurd cc
+    long_list (inr (e, is)) = absurd cc
 
 along_more : (s : ℕ) (q : Bytes) (st : Core) (hs ks : List Happening) → IsSubscribedAlong s q st hs
     → IsSubscribedAlong s q (state_after st hs) ks → IsSubscribedAlong s q st (hs ++ ks)
@@ -193,7 +171,8 @@ watched_run q s old sound watcher (d ∷ done) new w =
       spelled = subst (λ ms. AreSpelled IsSpelled ms (parts_for s d.effect.queued ++ parts_to s done))
           (sym (sent_more s hs ks))
           (spelled_append IsSpelled (all_sent s hs) (all_sent s ks) (parts_for s d.effect.queued) (parts_to s done)
-          (spelled_as (Spells (reading_by d.event)) IsSpelled (λ m text j. (reading_by d.event, j)) (all_sent s hs)
+          (spelled_as (SpellsBy d.event (core_of old) (core_of w.0)) IsSpelled
+          (λ m text j. (d.event, core_of old, core_of w.0, j)) (all_sent s hs)
           (parts_for s d.effect.queued) (first.spelled s behind.0)) rest.spelled);
     }
 

@@ -3,7 +3,7 @@ use Rattle.std.specs.Prelude.{ℕ, zero, suc, List, [], ◌∷◌, ◌++◌, ◌
 use Rattle.std.specs.Prelude.{cond, nat_lt, Option, None, Some, is_some, IsSome, IsSomeAnd, IfSome, MatchOption, Result, Ok, Err}
 use Rattle.std.specs.Prelude.{AllPairs, filter, map, codes}
 use Rattle.std.specs.Option.{option_map, option_and_then}
-use Rattle.std.proofs.Common.{refl, sym, ap, ◌∙◌, subst, inl, inr, arith, append-nil}
+use Rattle.std.proofs.Common.{refl, sym, ap, ap₂, ◌∙◌, subst, inl, inr, arith, append-nil}
 use Rattle.std.proofs.lemmas.Bool.{eqb-true, lt-ltb, le-ltb}
 use Rattle.djq_model.specs.Data.{Bytes, Tuple, rows_of, has_row}
 use Rattle.djq_model.specs.Listed.{Listed, listed_name}
@@ -22,7 +22,7 @@ use Rattle.djq_protocol.specs.declared.held.LineRefusal.TheVariants.{Limit as Ov
 use Rattle.djq_protocol.specs.declared.command.Command.TheVariants.{Add, Del, Done}
 use Rattle.djq_protocol.specs.Conditions.{OutOfMemoryWhere}
 use Rattle.djq_protocol.specs.Grammar.{Reading, says_command}
-use Rattle.djq_protocol.specs.Reply.{refusal_line, add_reply, delete_reply, done_reply, done_word}
+use Rattle.djq_protocol.specs.Reply.{numbered_line, numbered_twice, refusal_line, add_reply, delete_reply, done_reply, done_word}
 use Rattle.djq_store_spec.specs.Store.{Store}
 use Rattle.djq_store_spec.specs.Relations.{RefusedByTexts}
 use Rattle.djq_store_spec.specs.Rows.{copies_of, add_refusal, AddsAs, AddsRow, delete_refusal, DeletesAs, DeletesRow}
@@ -54,7 +54,7 @@ use Rattle.djq_abstract.specs.Clients.{CoreMessage, ok, refused, delta, says, Se
 use Rattle.djq_abstract.specs.Moves.{StaysConnected, ChangesDatabase, Edits, Accepts, client_refused, RefusesCommand}
 use Rattle.djq_abstract.specs.Histories.{Happening}
 use Rattle.djq_refinement.specs.View.{database_of, client_by, client_in, core_of, core_reading, line_edits}
-use Rattle.djq_refinement.specs.Spelling.{Spells, AreSpelled}
+use Rattle.djq_refinement.specs.Spelling.{Spells, AreSpelled, AcceptsEdit}
 use Rattle.djq_refinement.specs.Refinement.{AreOfLine}
 use Rattle.djq_refinement.proofs.Clients.{core_path, core_with, sent_path, with_same, is_connected, LineGoes, line_says}
 use Rattle.djq_refinement.proofs.Commands.{stays_client, may_refuse, author, is_author, accepted, sound_session}
@@ -127,7 +127,7 @@ module _ (old : State) (kept : AreKept old) (rising : AreRising old) (s : ℕ) (
   -- an accepted change
   line_changes : (r : Reading) (e : Effect) (new : State) (c : CoreCommand) (sent : Sent)
       → core_reading old.store.queries r ≡ Some c → Accepts (core_of old) s c sent (core_of new)
-      → ((t : ℕ) → ((core_of new).client t).connected ≡ true → AreSpelled (Spells r) (sent t) (parts_for t e.queued))
+      → ((t : ℕ) → ((core_of new).client t).connected ≡ true → AreSpelled (Spells s r (core_of old) (core_of new)) (sent t) (parts_for t e.queued))
       → ((t : ℕ) → ((core_of old).client t).connected ≡ false → (sent t ≡ []) × (parts_for t e.queued ≡ []))
       → LineGoes old s r e new
   line_changes r e new c sent is does spelled silent = record {
@@ -135,7 +135,7 @@ module _ (old : State) (kept : AreKept old) (rising : AreRising old) (s : ℕ) (
     events = subst (λ o. AreOfLine s o (says s c ∷ [])) (sym is) (inl refl);
     is_run = ((connected, inl does), tt);
     is_after = refl;
-    spelled = λ t k. subst (λ ms. AreSpelled (Spells r) ms (parts_for t e.queued)) (sym (append-nil (sent t)))
+    spelled = λ t k. subst (λ ms. AreSpelled (Spells s r (core_of old) (core_of new)) ms (parts_for t e.queued)) (sym (append-nil (sent t)))
         (spelled t k);
     silent = λ t k. (ap (λ ms. ms ++ []) (silent t k).0, (silent t k).1);
   }
@@ -159,7 +159,7 @@ module _ (old : State) (kept : AreKept old) (rising : AreRising old) (s : ℕ) (
       (e : Effect) (new : State) → core_reading old.store.queries r ≡ Some c
       → core_of base ≡ with_client s (client_refused c me) (core_of old)
       → database_of store.relations ≡ (core_of old).db → store.queries ≡ old.store.queries → store.seq ≡ old.store.seq
-      → IsQuietChange base s o store reply e new → Spells r refused reply → LineGoes old s r e new
+      → IsQuietChange base s o store reply e new → Spells s r (core_of old) (core_of new) refused reply → LineGoes old s r e new
   refused_change base r c o store reply e new is before db queries seq quiet spelled =
       line_says old s r e new c refused reply is (connected, inr (record {
         message = refused;
@@ -199,6 +199,15 @@ module _ (old : State) (kept : AreKept old) (rising : AreRising old) (s : ℕ) (
       (λ t. (has_row (rows_of old.store.relations name) row ≡ false)
       × RefusedByTexts old.store (texts_in row) store t) old.store store h.answer h.stays
       (λ late. late_learned old.store (texts_in row) store why late.1)
+
+  -- the line that accepts an edit outside a batch
+  edit_spelled : (words : Bytes) (name : Bytes) (row : Tuple) (new : State) (store : Store) (n : ℕ) → x.batch ≡ None
+      → new.store ≡ store → n ≡ copies_of store name row
+      → AcceptsEdit words me.batch (core_of new) name row (numbered_twice words store.seq n)
+  edit_spelled words name row new store n none same is =
+      rw (no_batch old kept s x found runs none)
+      (ap₂ (λ (a b : ℕ). numbered_twice words a b) (ap (λ (k : Store). k.seq) (sym same))
+      (is ∙ ap (λ (k : Store). copies_of k name row) (sym same)))
 
   abbrev inserting : Bytes → Tuple → RowEdit
   inserting name row = record { inserts = true; relation = name; row = row }
@@ -261,7 +270,8 @@ module _ (old : State) (kept : AreKept old) (rising : AreRising old) (s : ℕ) (
           (unchanged_rows old.store h.store name row (copies_of old.store name row + 1)
           (copies_of old.store name row == 0) (adds_copy old.store kept.0 name row (More copies) h.store k).0
           (was true d.0 ∙ sym is_then))))
-          quiet.queued (inl (h.store.seq, copies, refl))
+          quiet.queued (edit_spelled (codes "ok added ") name row new h.store copies none
+          (ap (λ (st : State). st.store) quiet.state) (adds_copy old.store kept.0 name row (More copies) h.store k).1)
       by (Ok First) k c =
           let d = done_of (add_refusal old.store name row) First (AddsAs old.store name row h.store) _ k.answer in
           let copies = (adds_copy old.store kept.0 name row First h.store k).0 in
@@ -269,6 +279,9 @@ module _ (old : State) (kept : AreKept old) (rising : AreRising old) (s : ℕ) (
           let after : IsSoundStore h.store =
           subst IsSoundStore (change_store old s (is_accepted (row_in old.store.relations name row)) h.store reply e new c)
           sound in
+          let spelled = edit_spelled (codes "ok added ") name row new h.store 1 none
+          (change_store old s (is_accepted (row_in old.store.relations name row)) h.store reply e new c)
+          (adds_copy old.store kept.0 name row First h.store k).1 in
           let relations = ap (λ (m : Store). m.relations) d.2 in
           let seq : h.store.seq ≡ old.store.seq + 1 = ap (λ (m : Store). m.seq) d.2 in
           let turned = λ (same : nat_lt 0 (copies_of old.store name row) ≡ nat_lt 0 (copies_of old.store name row + 1)).
@@ -277,16 +290,16 @@ module _ (old : State) (kept : AreKept old) (rising : AreRising old) (s : ℕ) (
           (sent_by old s (row_in old.store.relations name row) h.store reply e new c) refl
           (edits_alone (inserting name row) _ new (database_of h.store.relations) none (made First k)
           (changes_database old s (row_in old.store.relations name row) h.store reply e new c kept.0.queries rising kept.0
-          after relations r (inl (h.store.seq, 1, refl)) connected (ap (λ (m : Store). m.queries) d.2)
+          after relations (core_of old) r spelled connected (ap (λ (m : Store). m.queries) d.2)
           (omega (arith, seq))
           (rows_changed_by old.store h.store name row (copies_of old.store name row + 1)
           (copies_of old.store name row == 0) copies turned)
           (λ q. affects_by old.store h.store name row (copies_of old.store name row + 1)
           (copies_of old.store name row == 0) copies turned q)))
           (spelled_to old s (row_in old.store.relations name row) h.store reply e new c kept.0.queries rising kept.0 after
-          relations r (inl (h.store.seq, 1, refl)) connected)
+          relations (core_of old) r spelled connected)
           (λ t i. silent_to old s (row_in old.store.relations name row) h.store reply e new c kept.0.queries rising kept.0
-          after relations r (inl (h.store.seq, 1, refl)) connected t (over_watches t i) i)
+          after relations (core_of old) r spelled connected t (over_watches t i) i)
 
   pub delete_goes : (name : Bytes) (row : Tuple) (e : Effect) (new : State) → IsSoundStore new.store → x.batch ≡ None
       → DeleteStep old s name row e new → LineGoes old s (says_command (Del name row)) e new
@@ -322,11 +335,12 @@ module _ (old : State) (kept : AreKept old) (rising : AreRising old) (s : ℕ) (
       by (Ok Absent) k c =
           let d = done_of (delete_refusal old.store name row) Absent (DeletesAs old.store name row h.store)
           (OutOfMemoryWhere ⊥) k.answer in
+          let quiet = quiet_change old s x unchanged h.store (delete_reply (Ok Absent) h.store.seq) e new found runs refl c
+          in
           refused_change old r (edit (deleting name row)) None h.store (delete_reply (Ok Absent) h.store.seq) e new refl
           (same_author (edit (deleting name row)) refl) (ap (λ (m : Store). database_of m.relations) d.1)
-          (ap (λ (m : Store). m.queries) d.1) (ap (λ (m : Store). m.seq) d.1)
-          (quiet_change old s x unchanged h.store (delete_reply (Ok Absent) h.store.seq) e new found runs refl c)
-          (inr (h.store.seq, refl))
+          (ap (λ (m : Store). m.queries) d.1) (ap (λ (m : Store). m.seq) d.1) quiet
+          (inr (ap (λ (st : State). numbered_line (codes "ok absent ") st.store.seq) (sym quiet.state)))
       by (Ok (Left copies)) k c =
           let d = done_of (delete_refusal old.store name row) (Left copies) (DeletesAs old.store name row h.store)
           (OutOfMemoryWhere ⊥) k.answer in
@@ -342,7 +356,8 @@ module _ (old : State) (kept : AreKept old) (rising : AreRising old) (s : ℕ) (
           (unchanged_rows old.store h.store name row (copies_of old.store name row - 1)
           (copies_of old.store name row == 1) (takes_copy old.store kept.0 name row (Left copies) h.store k).0
           (was true d.0 ∙ sym still))))
-          quiet.queued (inl (h.store.seq, copies, refl))
+          quiet.queued (edit_spelled (codes "ok removed ") name row new h.store copies none
+          (ap (λ (st : State). st.store) quiet.state) (takes_copy old.store kept.0 name row (Left copies) h.store k).1)
       by (Ok Last) k c =
           let d = done_of (delete_refusal old.store name row) Last (DeletesAs old.store name row h.store)
           (OutOfMemoryWhere ⊥) k.answer in
@@ -351,6 +366,9 @@ module _ (old : State) (kept : AreKept old) (rising : AreRising old) (s : ℕ) (
           let after : IsSoundStore h.store =
           subst IsSoundStore (change_store old s (is_accepted (row_out old.store.relations name row)) h.store reply e new
           c) sound in
+          let spelled = edit_spelled (codes "ok removed ") name row new h.store 0 none
+          (change_store old s (is_accepted (row_out old.store.relations name row)) h.store reply e new c)
+          (takes_copy old.store kept.0 name row Last h.store k).1 in
           let relations = ap (λ (m : Store). m.relations) d.2 in
           let seq : h.store.seq ≡ old.store.seq + 1 = ap (λ (m : Store). m.seq) d.2 in
           let gone : nat_lt 0 (copies_of old.store name row - 1) ≡ false =
@@ -361,16 +379,16 @@ module _ (old : State) (kept : AreKept old) (rising : AreRising old) (s : ℕ) (
           (sent_by old s (row_out old.store.relations name row) h.store reply e new c) refl
           (edits_alone (deleting name row) _ new (database_of h.store.relations) none (made Last d.0 k)
           (changes_database old s (row_out old.store.relations name row) h.store reply e new c kept.0.queries rising kept.0
-          after relations r (inl (h.store.seq, 0, refl)) connected (ap (λ (m : Store). m.queries) d.2)
+          after relations (core_of old) r spelled connected (ap (λ (m : Store). m.queries) d.2)
           (omega (arith, seq))
           (rows_changed_by old.store h.store name row (copies_of old.store name row - 1)
           (copies_of old.store name row == 1) copies turned)
           (λ q. affects_by old.store h.store name row (copies_of old.store name row - 1)
           (copies_of old.store name row == 1) copies turned q)))
           (spelled_to old s (row_out old.store.relations name row) h.store reply e new c kept.0.queries rising kept.0 after
-          relations r (inl (h.store.seq, 0, refl)) connected)
+          relations (core_of old) r spelled connected)
           (λ t i. silent_to old s (row_out old.store.relations name row) h.store reply e new c kept.0.queries rising kept.0
-          after relations r (inl (h.store.seq, 0, refl)) connected t (over_watches t i) i)
+          after relations (core_of old) r spelled connected t (over_watches t i) i)
 
   -- ---- lines
 
@@ -472,7 +490,7 @@ module _ (old : State) (kept : AreKept old) (rising : AreRising old) (s : ℕ) (
           (copies_change closed s h.store new closed_connected (ap core_of quiet.state)
           (ap (λ (m : Store). m.queries) k.does.1) seq
           (lines_unchanged old.store kept.0 held.lines suit given zero h.store (after (Ok zero) c) k (sym k.does.0))))
-          quiet.queued (h.store.seq, zero, refl)
+          quiet.queued (zero, ap (λ (st : State). numbered_twice (codes "ok done ") st.store.seq 0) (sym quiet.state))
       by (Ok (suc n)) k c =
           let reply = done_reply (Ok (suc n)) h.store.seq in
           let change = lines_change old.store.relations held.lines in
@@ -483,13 +501,16 @@ module _ (old : State) (kept : AreKept old) (rising : AreRising old) (s : ℕ) (
           let seq : h.store.seq ≡ suc old.store.seq = omega (arith, more) in
           let kept_after = after (Ok (suc n)) c in
           let relations = ap (λ (m : Store). m.relations) k.does.1 in
+          let numbers : reply ≡ numbered_twice (codes "ok done ") new.store.seq (suc n) =
+          ap (λ (m : Store). numbered_twice (codes "ok done ") m.seq (suc n))
+          (sym (change_store closed s (is_accepted change) h.store reply e new c)) in
           line_changes r e new done (sent_by closed s change h.store reply e new c) refl
           (carried_out (suc n) _ kept_after k
           (changes_database closed s change h.store reply e new c kept.0.queries closed_rising kept.0 kept_after relations
-          r (h.store.seq, suc n, refl) closed_connected (ap (λ (m : Store). m.queries) k.does.1) seq
+          (core_of old) r (suc n, numbers) closed_connected (ap (λ (m : Store). m.queries) k.does.1) seq
           (lines_changed old.store kept.0 held.lines suit given (suc n) h.store kept_after k seq)
           (λ q. lines_affect old.store kept.0 held.lines suit given (suc n) h.store kept_after k q)))
-          (spelled_to closed s change h.store reply e new c kept.0.queries closed_rising kept.0 kept_after relations r
-          (h.store.seq, suc n, refl) closed_connected)
+          (spelled_to closed s change h.store reply e new c kept.0.queries closed_rising kept.0 kept_after relations
+          (core_of old) r (suc n, numbers) closed_connected)
           (λ t i. silent_to closed s change h.store reply e new c kept.0.queries closed_rising kept.0 kept_after relations
-          r (h.store.seq, suc n, refl) closed_connected t (closed_watches t i) (closed_over t i))
+          (core_of old) r (suc n, numbers) closed_connected t (closed_watches t i) (closed_over t i))

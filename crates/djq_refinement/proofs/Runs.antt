@@ -26,7 +26,7 @@ use Rattle.djq_abstract.specs.Clients.{Core, CoreMessage, CoreEvent}
 use Rattle.djq_abstract.specs.Histories.{Happening, state_after, CoreRun, all_sent}
 use Rattle.djq_refinement.specs.View.{client_by, client_in, core_of}
 use Rattle.djq_refinement.specs.Spelling.{Spells, AreSpelled}
-use Rattle.djq_refinement.specs.Refinement.{reading_by, RefinesStep, AreRunEvents, IsSpelled, RefinesRun, RunsRefineCore}
+use Rattle.djq_refinement.specs.Refinement.{SpellsBy, RefinesStep, AreRunEvents, IsSpelled, RefinesRun, RunsRefineCore}
 use Rattle.djq_refinement.proofs.Steps.{machine_refines_core}
 use Rattle.djq_refinement.proofs.AcceptedChanges.{spelled_append}
 
@@ -124,7 +124,8 @@ first_spelled t old sound d mid step first done new w spared later goes =
   where
     by : (a : Bool) → ((core_of mid).client t).connected ≡ a → (b : Bool) → ((core_of old).client t).connected ≡ b
         → AreSpelled IsSpelled (all_sent t first.happenings) (parts_for t d.effect.queued)
-    by true k b i = spelled_as (Spells (reading_by d.event)) IsSpelled (λ m text j. (reading_by d.event, j))
+    by true k b i = spelled_as (SpellsBy d.event (core_of old) (core_of mid)) IsSpelled
+        (λ m text j. (d.event, core_of old, core_of mid, j))
         (all_sent t first.happenings) (parts_for t d.effect.queued) (first.spelled t k)
     by false k false i =
         let none = first.silent t i in

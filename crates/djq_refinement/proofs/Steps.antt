@@ -38,7 +38,7 @@ use Rattle.djq_abstract.specs.Clients.{open_cursor, next, close, has, subscribe,
 use Rattle.djq_abstract.specs.Moves.{client_refused}
 use Rattle.djq_refinement.specs.View.{client_by, core_of, core_command, core_reading, line_edits}
 use Rattle.djq_refinement.specs.Spelling.{Spells, IsRefusing, IsRefusalLine}
-use Rattle.djq_refinement.specs.Refinement.{AreCoreEvents, AreOfLine, reading_by, RefinesStep, MachineRefinesCore}
+use Rattle.djq_refinement.specs.Refinement.{AreCoreEvents, AreOfLine, SpellsBy, RefinesStep, MachineRefinesCore}
 use Rattle.djq_refinement.proofs.Clients.{core_path, core_same, core_queued, by_held, going_client, Going, goes_from}
 use Rattle.djq_refinement.proofs.Clients.{goes_silent, LineGoes, line_ends}
 use Rattle.djq_refinement.proofs.Events.{EventGoes, open_goes, fed_goes, took_goes, input_goes, closed_goes, ends_goes}
@@ -111,16 +111,16 @@ past_range l c e = by (command_of l) e
         within false r i = let same : d ≡ c = cc in ap is_in_range (sym same) ∙ r
 
 -- a refusal's line refuses any command
-refuses_any : (c : Command) (why : Refusal) → IsRefusing c (refusal_line why)
-refuses_any (Del name row) why = inl (why, refl)
-refuses_any (Next c count) why = inl (why, refl)
-refuses_any _ why = (why, refl)
+refuses_any : (new : Core) (c : Command) (why : Refusal) → IsRefusing new c (refusal_line why)
+refuses_any new (Del name row) why = inl (why, refl)
+refuses_any new (Next c count) why = inl (why, refl)
+refuses_any new _ why = (why, refl)
 
 module _ (old : State) (kept : AreKept old) (rising : AreRising old) (s : ℕ) (x : Session)
     (found : session_of old s ≡ Some x) (runs : x.cause ≡ None) where
   -- a plain command is refused
   plain_goes : (r : Reading) (c : Command) (e : Effect) (new : State) (why : Refusal) → is_plain c ≡ true
-      → core_reading old.store.queries r ≡ core_command old.store.queries c → Spells r refused (refusal_line why)
+      → core_reading old.store.queries r ≡ core_command old.store.queries c → Spells s r (core_of old) (core_of new) refused (refusal_line why)
       → RefusedStep old s why e new → LineGoes old s r e new
   plain_goes r c e new why plain is spelled h =
       let p = leaves_client old.store.queries c plain in
@@ -137,7 +137,7 @@ module _ (old : State) (kept : AreKept old) (rising : AreRising old) (s : ℕ) (
     where
       plain : (d : Command) → c ≡ d → is_plain d ≡ true → LineGoes old s (says_command c) e new
       plain d same p = plain_goes (says_command c) c e new Misplaced (ap is_plain same ∙ p) refl
-          (refuses_any c Misplaced) h
+          (refuses_any (core_of new) c Misplaced) h
 
       with_done : (given : Option ℕ) → c ≡ Done given → (o : Option HeldTransaction) → x.batch ≡ o
           → is_misplaced o (Done given) ≡ true → LineGoes old s (says_command c) e new
@@ -264,7 +264,7 @@ module _ (old : State) (kept : AreKept old) (rising : AreRising old) (s : ℕ) (
       by true m k = misplaced_goes c e new m k
       by false m (true, k) = command_goes l c e new sound m k
       by false m (false, k) =
-          plain_goes (says_command c) c e new NoMemory (plain_memory c k.0) refl (refuses_any c NoMemory) k.1
+          plain_goes (says_command c) c e new NoMemory (plain_memory c k.0) refl (refuses_any (core_of new) c NoMemory) k.1
 
 -- ---- the front of a session's bytes
 
@@ -288,18 +288,18 @@ module _ (old : State) (kept : AreKept old) (rising : AreRising old) (s : ℕ) (
       → FrontStep old s x outcome e mid → EventGoes old (stepped s outcome) e mid
   front_goes long e mid sound h = ends_goes old (stepped s long) s x end_long Long e mid refl found runs h.1
   front_goes (blank l) e mid sound h =
-      goes_silent (AreCoreEvents old.store.queries (stepped s (blank l))) (Spells (reading_by (stepped s (blank l))))
+      goes_silent (AreCoreEvents old.store.queries (stepped s (blank l))) (SpellsBy (stepped s (blank l)))
       old e mid refl (ap core_of h.1.then.1 ∙ without_core h.1.rest) (ap (λ (d : Effect). d.queued) h.1.then.0)
   front_goes (slow l) e mid sound h = goes_from (AreCoreEvents old.store.queries (stepped s (slow l)))
-      (Spells (reading_by (stepped s (slow l)))) old (without h.2.rest) e mid mid (without_core h.2.rest) refl
+      (SpellsBy (stepped s (slow l))) old (without h.2.rest) e mid mid (without_core h.2.rest) refl
       (ends_goes (without h.2.rest) (stepped s (slow l)) s (behind_line h.2.rest x) end_slow Slow e mid refl
       (without_found h.2.rest) runs h.2.then)
   front_goes (no_room l) e mid sound h = goes_from (AreCoreEvents old.store.queries (stepped s (no_room l)))
-      (Spells (reading_by (stepped s (no_room l)))) old (without h.2.rest) e mid mid (without_core h.2.rest) refl
+      (SpellsBy (stepped s (no_room l))) old (without h.2.rest) e mid mid (without_core h.2.rest) refl
       (ends_goes (without h.2.rest) (stepped s (no_room l)) s (behind_line h.2.rest x) end_memory Memory e mid refl
       (without_found h.2.rest) runs h.2.then)
   front_goes (run l) e mid sound h = goes_from (AreCoreEvents old.store.queries (stepped s (run l)))
-      (Spells (reading_by (stepped s (run l)))) old (without h.2.rest) e mid mid (without_core h.2.rest) refl
+      (SpellsBy (stepped s (run l))) old (without h.2.rest) e mid mid (without_core h.2.rest) refl
       (read_goes (without h.2.rest) (without_line_kept old s h.2.rest kept) (still_rising h.2.rest) s (behind_line h.2.rest x)
       (without_found h.2.rest) runs l (reading_of l) e mid refl sound h.2.then)
 
@@ -341,7 +341,7 @@ machine_refines_core old event e new h sound =
     let moved : core_of (with_relations mid h.relations) ≡ core_of mid =
     core_path (core_of (with_relations mid h.relations)) (core_of mid)
     (λ n row. reordered_copies mid.store.relations h.relations store.rows h.reordered n row) refl refl (λ t. refl) in
-    let goes = goes_from (AreCoreEvents old.store.queries event) (Spells (reading_by event)) old old e mid new refl
+    let goes = goes_from (AreCoreEvents old.store.queries event) (SpellsBy event) old old e mid new refl
     (ap core_of h.queued ∙ core_queued (with_relations mid h.relations) e.queued ∙ moved)
     (acts_go old event e mid (sound.store, sound.sessions) sound.rising store h.acts) in record {
       happenings = goes.happenings;

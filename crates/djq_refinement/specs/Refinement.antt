@@ -3,7 +3,7 @@ use Rattle.std.specs.Prelude.{ℕ, List, [], ◌∷◌, ◌++◌, ◌≡◌, ◌
 use Rattle.djq_model.specs.Data.{Bytes, Tuple}
 use Rattle.djq_model.specs.Answer.{IsListing}
 use Rattle.djq_model.specs.Listed.{Listed, listed_name, AnswersOf, listed_of}
-use Rattle.djq_protocol.specs.Grammar.{Reading, outside, reading_of}
+use Rattle.djq_protocol.specs.Grammar.{reading_of}
 use Rattle.djq_machine.specs.State.{State}
 use Rattle.djq_machine.specs.Effect.{Effect}
 use Rattle.djq_machine.specs.LineStep.{LineOutcome, blank, run}
@@ -13,7 +13,7 @@ use Rattle.djq_run_laws.specs.Moved.{SparesSession}
 use Rattle.djq_run_laws.specs.Sound.{IsSoundState, IsStart}
 use Rattle.djq_run_laws.specs.Staying.{GoesOn}
 use Rattle.djq_run_laws.specs.Watched.{WatchesAlong, parts_for, parts_to}
-use Rattle.djq_abstract.specs.Clients.{CoreCommand, CoreMessage, valid, CoreEvent, connects, disconnects, says}
+use Rattle.djq_abstract.specs.Clients.{Core, CoreCommand, CoreMessage, valid, CoreEvent, connects, disconnects, says}
 use Rattle.djq_abstract.specs.Histories.{Happening, state_after, CoreRun, deltas_applied, all_sent}
 use Rattle.djq_refinement.specs.View.{client_by, core_of, core_reading}
 use Rattle.djq_refinement.specs.Spelling.{Spells, AreSpelled}
@@ -22,12 +22,11 @@ use Rattle.djq_refinement.specs.Spelling.{Spells, AreSpelled}
 abbrev pub MayDisconnect : ℕ → List CoreEvent → Type 0
 MayDisconnect s events = (events ≡ []) ⊎ (events ≡ disconnects s ∷ [])
 
--- The events of the core that the line of a session is: its command; or the session is disconnected, since the line
--- ends it, or memory is out as it is answered, maybe once the command is carried out.
+-- The event of the core that the line of a session is: its command; or the session is disconnected, since the line ends
+-- it, or memory is out as it is answered.
 abbrev pub AreOfLine : ℕ → Option CoreCommand → List CoreEvent → Type 0
 AreOfLine s None events = events ≡ disconnects s ∷ []
 AreOfLine s (Some c) events = (events ≡ says s c ∷ []) ⊎ (events ≡ disconnects s ∷ [])
-    ⊎ (events ≡ says s c ∷ disconnects s ∷ [])
 
 -- The events of the core that the front of a session's bytes is.
 abbrev pub AreOfFront : List Listed → ℕ → LineOutcome → List CoreEvent → Type 0
@@ -44,12 +43,12 @@ AreCoreEvents queries (took s bytes) events = events ≡ []
 AreCoreEvents queries (ended s) events = MayDisconnect s events
 AreCoreEvents queries (closed s bytes) events = MayDisconnect s events
 
--- What the line of an event is read as; of no line nothing is spelled.
-abbrev pub reading_by : Event → Reading
-reading_by (stepped s (run l)) = reading_of l
-reading_by _ = outside
+-- How messages are spelled in the step of an event: by the line that it runs.
+abbrev pub SpellsBy : Event → (old new : Core) → CoreMessage → Bytes → Type 0
+SpellsBy (stepped s (run l)) = Spells s (reading_of l)
+SpellsBy event = λ old new m text. ⊥
 
--- A step of the machine is a run of the core, of none of its steps or of some. To each session that goes on behind it
+-- A step of the machine is a run of the core, of none of its steps or of one. To each session that goes on behind it
 -- the messages are sent that are spelled by the texts queued to it; to one that didn't before it nothing is sent, and
 -- nothing is queued.
 pub record RefinesStep (old : State) (event : Event) (e : Effect) (new : State) : Type 0 where
@@ -58,7 +57,7 @@ pub record RefinesStep (old : State) (event : Event) (e : Effect) (new : State) 
   pub is_run : CoreRun (core_of old) happenings
   pub is_after : state_after (core_of old) happenings ≡ core_of new
   pub spelled : (t : ℕ) → ((core_of new).client t).connected ≡ true
-      → AreSpelled (Spells (reading_by event)) (all_sent t happenings) (parts_for t e.queued)
+      → AreSpelled (SpellsBy event (core_of old) (core_of new)) (all_sent t happenings) (parts_for t e.queued)
   pub silent : (t : ℕ) → ((core_of old).client t).connected ≡ false
       → (all_sent t happenings ≡ []) × (parts_for t e.queued ≡ [])
 
@@ -74,9 +73,9 @@ AreRunEvents old (d ∷ done) new walk events = (first : List CoreEvent) × (lat
     × (events ≡ first ++ later) × AreCoreEvents old.store.queries d.event first
     × AreRunEvents walk.0 done new walk.2 later
 
--- A message is spelled by these bytes, as in a step of some line.
+-- A message is spelled by these bytes, as in a step of some event.
 abbrev pub IsSpelled : CoreMessage → Bytes → Type 0
-IsSpelled m text = (r : Reading) × Spells r m text
+IsSpelled m text = (event : Event) × (old : Core) × (new : Core) × SpellsBy event old new m text
 
 -- A run of the machine is one of the core. To each session that goes on at its end and wasn't closed the messages are
 -- sent that are spelled by all that was queued to it.

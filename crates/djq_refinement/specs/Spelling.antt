@@ -1,6 +1,6 @@
 -- Which bytes spell a message of the core.
-use Rattle.std.specs.Prelude.{ℕ, List, [], ◌∷◌, ◌++◌, ◌≡◌, ◌⊎◌, Bool, Ok, codes}
-use Rattle.djq_model.specs.Data.{Bytes}
+use Rattle.std.specs.Prelude.{ℕ, List, [], ◌∷◌, ◌+◌, ◌≡◌, ◌⊎◌, Option, None, Some, Ok, length, codes}
+use Rattle.djq_model.specs.Data.{Bytes, Tuple}
 use Rattle.djq_model.specs.Listed.{Listed, a_query, a_union, listed_name}
 use Rattle.djq_protocol.specs.declared.answer.Refusal.{Refusal}
 use Rattle.djq_protocol.specs.declared.answer.Refusal.TheVariants.{Syntax}
@@ -47,7 +47,9 @@ use Rattle.djq_store_spec.specs.Delta.{Change, delta_lines}
 use Rattle.djq_machine.specs.Command.{explain_lines, union_lines}
 use Rattle.djq_run_laws.specs.Added.{of_sign}
 use Rattle.djq_abstract.specs.Deltas.{AnswerDelta}
+use Rattle.djq_abstract.specs.Rows.{RowEdit}
 use Rattle.djq_abstract.specs.Clients.{
+  Core,
   CoreMessage,
   ok,
   refused,
@@ -62,36 +64,38 @@ use Rattle.djq_abstract.specs.Clients.{
 abbrev pub IsNumbered : Bytes → Bytes → Type 0
 IsNumbered words text = (n : ℕ) × (text ≡ numbered_line words n)
 
--- Words, and two numbers behind them.
-abbrev pub IsNumberedTwice : Bytes → Bytes → Type 0
-IsNumberedTwice words text = (n : ℕ) × (m : ℕ) × (text ≡ numbered_twice words n m)
+-- The line that accepts an edit: in a batch, how many lines are held then; else the number of changes, and how many
+-- copies the row has then.
+abbrev pub AcceptsEdit : Bytes → Option (List RowEdit) → Core → Bytes → Tuple → Bytes → Type 0
+AcceptsEdit words None new name row text = text ≡ numbered_twice words new.seq (new.db name row)
+AcceptsEdit words (Some held) new name row text = text ≡ numbered_line (codes "ok held ") (length held + 1)
 
--- The line that accepts a command.
-abbrev pub IsAccepting : Command → Bytes → Type 0
-IsAccepting (Add name row) text = IsNumberedTwice (codes "ok added ") text ⊎ IsNumbered (codes "ok held ") text
-IsAccepting (Del name row) text = IsNumberedTwice (codes "ok removed ") text ⊎ IsNumbered (codes "ok held ") text
-IsAccepting (Register q) text = IsNumbered (codes "ok query ") text
-IsAccepting (Union name members) text = IsNumbered (codes "ok union ") text
-IsAccepting (Drop q) text = text ≡ line (codes "ok")
-IsAccepting (Open c q) text = text ≡ line (codes "ok open")
-IsAccepting (Close c) text = text ≡ line (codes "ok")
-IsAccepting (Watch q) text = IsNumbered (codes "ok watch ") text
-IsAccepting (Unwatch q) text = text ≡ line (codes "ok")
-IsAccepting Batch text = text ≡ line (codes "ok batch")
-IsAccepting (Done given) text = IsNumberedTwice (codes "ok done ") text
-IsAccepting Abandon text = text ≡ line (codes "ok")
-IsAccepting _ text = ⊥
+-- The line that accepts a command of a client with such a batch, and leaves the core so.
+abbrev pub IsAccepting : Option (List RowEdit) → Core → Command → Bytes → Type 0
+IsAccepting held new (Add name row) text = AcceptsEdit (codes "ok added ") held new name row text
+IsAccepting held new (Del name row) text = AcceptsEdit (codes "ok removed ") held new name row text
+IsAccepting held new (Done given) text = (rows : ℕ) × (text ≡ numbered_twice (codes "ok done ") new.seq rows)
+IsAccepting held new (Register q) text = IsNumbered (codes "ok query ") text
+IsAccepting held new (Union name members) text = IsNumbered (codes "ok union ") text
+IsAccepting held new (Drop q) text = text ≡ line (codes "ok")
+IsAccepting held new (Open c q) text = text ≡ line (codes "ok open")
+IsAccepting held new (Close c) text = text ≡ line (codes "ok")
+IsAccepting held new (Watch q) text = text ≡ numbered_line (codes "ok watch ") new.seq
+IsAccepting held new (Unwatch q) text = text ≡ line (codes "ok")
+IsAccepting held new Batch text = text ≡ line (codes "ok batch")
+IsAccepting held new Abandon text = text ≡ line (codes "ok")
+IsAccepting held new _ text = ⊥
 
 -- A line of a refusal.
 abbrev pub IsRefusalLine : Bytes → Type 0
 IsRefusalLine text = (why : Refusal) × (text ≡ refusal_line why)
 
 -- The line that refuses a command: of `del` also that the row isn't there, of `next` also that its cursor is stale.
-abbrev pub IsRefusing : Command → Bytes → Type 0
-IsRefusing (Del name row) text = IsRefusalLine text ⊎ IsNumbered (codes "ok absent ") text
-IsRefusing (Next c count) text =
+abbrev pub IsRefusing : Core → Command → Bytes → Type 0
+IsRefusing new (Del name row) text = IsRefusalLine text ⊎ (text ≡ numbered_line (codes "ok absent ") new.seq)
+IsRefusing new (Next c count) text =
     IsRefusalLine text ⊎ ((relation : Bytes) × (n : ℕ) × (text ≡ stale_line c relation n))
-IsRefusing _ text = IsRefusalLine text
+IsRefusing new _ text = IsRefusalLine text
 
 -- The lines that explain a query by a tree of it, or a union by its members.
 abbrev pub IsExplaining : Listed → Bytes → Type 0
@@ -108,14 +112,14 @@ IsReplying (says_command (AskShape q)) text = (shape : Shape) × (text ≡ shape
 IsReplying _ text = ⊥
 
 -- What accepts, and what refuses, a line that is read as this.
-abbrev pub IsAcceptingReading : Reading → Bytes → Type 0
-IsAcceptingReading (says_command c) text = IsAccepting c text
-IsAcceptingReading _ text = ⊥
+abbrev pub IsAcceptingReading : Option (List RowEdit) → Core → Reading → Bytes → Type 0
+IsAcceptingReading held new (says_command c) text = IsAccepting held new c text
+IsAcceptingReading held new _ text = ⊥
 
-abbrev pub IsRefusingReading : Reading → Bytes → Type 0
-IsRefusingReading outside text = ⊥
-IsRefusingReading (past_limit c) text = IsRefusalLine text
-IsRefusingReading (says_command c) text = IsRefusing c text
+abbrev pub IsRefusingReading : Core → Reading → Bytes → Type 0
+IsRefusingReading new outside text = ⊥
+IsRefusingReading new (past_limit c) text = IsRefusalLine text
+IsRefusingReading new (says_command c) text = IsRefusing new c text
 
 -- The lines of a delta: in any order one for each answer that was inserted and each that was deleted; behind them the
 -- number of the change.
@@ -123,16 +127,17 @@ abbrev pub IsDeltaText : Bytes → AnswerDelta → ℕ → Bytes → Type 0
 IsDeltaText q d seq text = (changes : List Change) × (of_sign Came changes ≡ d.inserted)
     × (of_sign Went changes ≡ d.deleted) × (text ≡ text_of (delta_lines q changes seq))
 
--- A message that is sent in a step of a line that is read as this is spelled by these bytes.
-abbrev pub Spells : Reading → CoreMessage → Bytes → Type 0
-Spells r ok text = IsAcceptingReading r text
-Spells r refused text = IsRefusingReading r text
-Spells r not_free_connex text = (rest : NamedRest)
+-- A message is spelled by these bytes, where it is sent in a step between two states of the core, of a line of this
+-- client that is read as this.
+abbrev pub Spells : ℕ → Reading → (old new : Core) → CoreMessage → Bytes → Type 0
+Spells s r old new ok text = IsAcceptingReading (old.client s).batch new r text
+Spells s r old new refused text = IsRefusingReading new r text
+Spells s r old new not_free_connex text = (rest : NamedRest)
     × ((text ≡ query_reply (Ok (Cyclic rest))) ⊎ (text ≡ query_reply (Ok (NotConnex rest))))
-Spells r replied text = IsReplying r text
-Spells r (is_answer holds) text = text ≡ has_reply (Ok holds)
-Spells r (page ts last) text = text ≡ text_of (listing_lines ts last)
-Spells r (delta q d seq) text = IsDeltaText q d seq text
+Spells s r old new replied text = IsReplying r text
+Spells s r old new (is_answer holds) text = text ≡ has_reply (Ok holds)
+Spells s r old new (page ts last) text = text ≡ text_of (listing_lines ts last)
+Spells s r old new (delta q d seq) text = IsDeltaText q d seq text
 
 -- Messages are spelled by texts, one by one, in order.
 abbrev pub AreSpelled : (CoreMessage → Bytes → Type 0) → List CoreMessage → List Bytes → Type 0
