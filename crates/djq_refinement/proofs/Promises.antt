@@ -32,7 +32,7 @@ use Rattle.djq_refinement.specs.Refinement.{MachineFinishedListed, MachineSubscr
 use Rattle.djq_refinement.proofs.Stores.{answer_seen, answer_back, own_names}
 use Rattle.djq_refinement.proofs.Steps.{machine_refines_core}
 use Rattle.djq_refinement.proofs.AcceptedChanges.{spelled_append}
-use Rattle.djq_refinement.proofs.Runs.{core_run_more, state_more, sent_more, spelled_as, runs_refine_core}
+use Rattle.djq_refinement.proofs.Runs.{core_run_more, state_more, sent_more, spelled_as, all_bytes, runs_refine_core}
 
 -- ---- states that a run reaches
 
@@ -181,6 +181,7 @@ machine_subscribers_have_answers start h before old earlier [] new s q w ts list
     record {
       messages = [];
       spelled = tt;
+      whole = refl;
       listing = subst (λ (st : State). IsListing (AnswersOf st.store.relations q) ts) (sym w) listing;
     }
 machine_subscribers_have_answers start h before old earlier (d ∷ done) new s q w ts listing =
@@ -191,6 +192,7 @@ machine_subscribers_have_answers start h before old earlier (d ∷ done) new s q
     record {
       messages = all_sent s r.happenings;
       spelled = r.spelled;
+      whole = all_bytes s (d ∷ done);
       listing = listing_as (AnswersOver (core_of new).db q) (AnswersOf new.store.relations q)
           (deltas_applied (listed_name q) ts (all_sent s r.happenings))
           (λ t a. answer_back new.store after q t a) (λ t a. answer_seen new.store after q t a)

@@ -1,7 +1,8 @@
 -- A run of the machine is one of the core.
 use Rattle.std.specs.Prelude.{ℕ, List, [], ◌∷◌, ◌++◌, ◌==◌, ◌≡◌, ◌<◌, Bool, true, false, Option, None, Some, IsSome, IsSomeAnd}
-use Rattle.std.specs.Prelude.{All, map, flat_map}
-use Rattle.std.proofs.Common.{refl, sym, ap, ◌∙◌, subst, inl, inr, arith, append_assoc}
+use Rattle.std.specs.Prelude.{All, map, flat_map, filter, cond}
+use Rattle.std.proofs.lemmas.Grind.{flat_map-append}
+use Rattle.std.proofs.Common.{refl, sym, ap, ap₂, ◌∙◌, subst, inl, inr, arith, append_assoc}
 use Rattle.std.proofs.lemmas.List.{map-append}
 use Rattle.std.proofs.lemmas.List.Elements.{All-head, All-tail, All-contains}
 use Rattle.std.proofs.lemmas.Bool.{eqb-true}
@@ -11,7 +12,7 @@ use Rattle.djq_protocol.specs.Grammar.{Reading}
 use Rattle.djq_machine.specs.State.{Session, State, session_of}
 use Rattle.djq_machine.specs.Effect.{Effect}
 use Rattle.djq_machine.specs.Step.{Event, opened, fed, stepped, took, ended, closed, Step}
-use Rattle.djq_machine.specs.Run.{Did, Run}
+use Rattle.djq_machine.specs.Run.{Did, Run, to_session}
 use Rattle.djq_machine.specs.Call.{IsOpen}
 use Rattle.djq_run_laws.specs.Moved.{SparesSession}
 use Rattle.djq_run_laws.specs.Silent.{SessionIsOver, OpensNone}
@@ -20,13 +21,15 @@ use Rattle.djq_run_laws.specs.Staying.{GoesOn}
 use Rattle.djq_run_laws.specs.Watched.{parts_for, parts_to}
 use Rattle.djq_run_laws.proofs.Lists.{found_there, found_passes}
 use Rattle.djq_run_laws.proofs.EndedSessions.{step_over}
-use Rattle.djq_run_laws.proofs.Events.{step_open}
-use Rattle.djq_run_laws.proofs.SoundStates.{step_sound}
+use Rattle.djq_run_laws.proofs.Events.{step_open, next_runs}
+use Rattle.djq_run_laws.proofs.Courses.{walk_of}
+use Rattle.djq_run_laws.proofs.SoundStates.{step_sound, start_sound}
 use Rattle.djq_abstract.specs.Clients.{Core, CoreMessage, CoreEvent}
 use Rattle.djq_abstract.specs.Histories.{Happening, state_after, CoreRun, all_sent}
 use Rattle.djq_refinement.specs.View.{client_by, client_in, core_of}
 use Rattle.djq_refinement.specs.Spelling.{Spells, AreSpelled}
 use Rattle.djq_refinement.specs.Refinement.{SpellsBy, RefinesStep, AreRunEvents, IsSpelled, RefinesRun, RunsRefineCore}
+use Rattle.djq_refinement.specs.Refinement.{AreAllBytes, CoursesRefineCore}
 use Rattle.djq_refinement.proofs.Steps.{machine_refines_core}
 use Rattle.djq_refinement.proofs.AcceptedChanges.{spelled_append}
 
@@ -52,6 +55,24 @@ spelled_as S T f [] [] h = tt
 spelled_as S T f (m ∷ ms) (t ∷ ts) h = (f m t h.0, spelled_as S T f ms ts h.1)
 spelled_as S T f [] (t ∷ ts) h = absurd h
 spelled_as S T f (m ∷ ms) [] h = absurd h
+
+-- ---- texts and bytes
+
+part_bytes : (s : ℕ) (queued : List (ℕ × Bytes)) → flat_map (λ text. text) (parts_for s queued) ≡ to_session s queued
+part_bytes s [] = refl
+part_bytes s (p ∷ ps) = by (p.0 == s) (part_bytes s ps)
+  where
+    by : (b : Bool) → flat_map (λ text. text) (parts_for s ps) ≡ to_session s ps
+        → flat_map (λ text. text) (map (λ (q : ℕ × Bytes). q.1)
+        (cond b (p ∷ filter (λ (q : ℕ × Bytes). q.0 == s) ps) (filter (λ (q : ℕ × Bytes). q.0 == s) ps)))
+        ≡ cond b p.1 [] ++ to_session s ps
+    by true h = ap (λ bytes. p.1 ++ bytes) h
+    by false h = h
+
+pub all_bytes : (s : ℕ) (done : List Did) → AreAllBytes s done
+all_bytes s [] = refl
+all_bytes s (d ∷ done) = flat_map-append (λ text. text) (parts_for s d.effect.queued) (parts_to s done)
+    ∙ ap₂ (λ (a b : Bytes). a ++ b) (part_bytes s d.effect.queued) (all_bytes s done)
 
 -- ---- a session that goes on at the end of a run
 
@@ -142,6 +163,7 @@ runs_refine_core old sound [] new w = record {
   is_run = tt;
   is_after = ap core_of (sym w);
   spelled = λ t spared goes. tt;
+  whole = λ t. refl;
 }
 runs_refine_core old sound (d ∷ done) new w =
     let first = machine_refines_core old d.event d.effect w.0 w.1 sound in
@@ -165,4 +187,10 @@ runs_refine_core old sound (d ∷ done) new w =
           subst (λ ms. AreSpelled IsSpelled ms (parts_for t d.effect.queued ++ parts_to t done)) (sym (sent_more t hs ks))
           (spelled_append IsSpelled (all_sent t hs) (all_sent t ks) (parts_for t d.effect.queued) (parts_to t done)
           (first_spelled t old sound d w.0 w.1 first done new w.2 now later goes) (rest.spelled t later goes));
+      whole = λ t. all_bytes t (d ∷ done);
     }
+
+pub courses_refine_core : CoursesRefineCore
+courses_refine_core start h before now state course =
+    let walk = next_runs start course.done state (walk_of start course.done course.writes state course.does) in
+    (walk, runs_refine_core start (start_sound start h) course.done state walk)

@@ -1,5 +1,5 @@
 -- The machine refines the core: what each step, and each run, of the machine is for the core.
-use Rattle.std.specs.Prelude.{ℕ, List, [], ◌∷◌, ◌++◌, ◌≡◌, ◌⊎◌, true, false, Option, None, Some, IsSomeAnd, All, map}
+use Rattle.std.specs.Prelude.{ℕ, List, [], ◌∷◌, ◌++◌, ◌≡◌, ◌⊎◌, true, false, Option, None, Some, IsSomeAnd, All, map, flat_map}
 use Rattle.djq_model.specs.Data.{Bytes, Tuple}
 use Rattle.djq_model.specs.Answer.{IsListing}
 use Rattle.djq_model.specs.Listed.{Listed, listed_name, AnswersOf, listed_of}
@@ -8,7 +8,8 @@ use Rattle.djq_machine.specs.State.{State}
 use Rattle.djq_machine.specs.Effect.{Effect}
 use Rattle.djq_machine.specs.LineStep.{LineOutcome, blank, run}
 use Rattle.djq_machine.specs.Step.{Event, opened, fed, stepped, took, ended, closed, Step}
-use Rattle.djq_machine.specs.Run.{Did, Run}
+use Rattle.djq_machine.specs.Run.{Did, Run, out}
+use Rattle.djq_run_laws.specs.Course.{Outside, Course}
 use Rattle.djq_run_laws.specs.Moved.{SparesSession}
 use Rattle.djq_run_laws.specs.Sound.{IsSoundState, IsStart}
 use Rattle.djq_run_laws.specs.Staying.{GoesOn}
@@ -77,6 +78,10 @@ AreRunEvents old (d ∷ done) new walk events = (first : List CoreEvent) × (lat
 abbrev pub IsSpelled : CoreMessage → Bytes → Type 0
 IsSpelled m text = (event : Event) × (old : Core) × (new : Core) × SpellsBy event old new m text
 
+-- The texts queued to a session, one behind the other, are the bytes that were queued to it.
+abbrev pub AreAllBytes : ℕ → List Did → Type 0
+AreAllBytes t done = flat_map (λ text. text) (parts_to t done) ≡ out t done
+
 -- A run of the machine is one of the core. To each session that goes on at its end and wasn't closed the messages are
 -- sent that are spelled by all that was queued to it.
 pub record RefinesRun (old : State) (done : List Did) (new : State) (walk : Run old done new) : Type 0 where
@@ -86,11 +91,18 @@ pub record RefinesRun (old : State) (done : List Did) (new : State) (walk : Run 
   pub is_after : state_after (core_of old) happenings ≡ core_of new
   pub spelled : (t : ℕ) → All (λ d. SparesSession d.event t) done → GoesOn new t
       → AreSpelled IsSpelled (all_sent t happenings) (parts_to t done)
+  pub whole : (t : ℕ) → AreAllBytes t done
 
 -- So it is of each run from a sound state.
 abbrev pub RunsRefineCore : Type 0
 RunsRefineCore = (old : State) → IsSoundState old → (done : List Did) (new : State) (walk : Run old done new)
     → RefinesRun old done new walk
+
+-- So it is of each course of the program under the words `run`.
+abbrev pub CoursesRefineCore : Type 0
+CoursesRefineCore = (start : State) → IsStart start → (before now : Outside) (state : State)
+    → (course : Course start before now state)
+    → (walk : Run start course.done state) × RefinesRun start course.done state walk
 
 -- By the core's first law: in each state that a run of the machine reaches from a start, a finished cursor that isn't
 -- stale has returned each answer over the present rows once, and nothing else.
@@ -105,6 +117,7 @@ MachineFinishedListed = (start : State) → IsStart start → (done : List Did) 
 pub record HasAnswers (s : ℕ) (q : Listed) (ts : List Tuple) (done : List Did) (new : State) : Type 0 where
   pub messages : List CoreMessage
   pub spelled : AreSpelled IsSpelled messages (parts_to s done)
+  pub whole : AreAllBytes s done
   pub listing : IsListing (AnswersOf new.store.relations q) (deltas_applied (listed_name q) ts messages)
 
 -- By the core's second law: so it is of each run that follows one from a start, along which the session watches.

@@ -1,7 +1,7 @@
 //! The join machine refines the abstract core.
 #![tactic(auto)]
 
-ghost use Rattle.djq_refinement.specs.Refinement.{MachineRefinesCore, RunsRefineCore};
+ghost use Rattle.djq_refinement.specs.Refinement.{MachineRefinesCore, RunsRefineCore, CoursesRefineCore};
 ghost use Rattle.djq_refinement.specs.Refinement.{MachineFinishedListed, MachineSubscribersHaveAnswers};
 
 /// Each step of the machine from a sound state is a run of the core.
@@ -11,7 +11,8 @@ pub fn machine_refines_core()
 
 /// Each run of the machine from a sound state is a run of the core.
 pub fn runs_refine_core()
-    ensures { RunsRefineCore }
+    ensures runs { RunsRefineCore }
+    ensures courses { CoursesRefineCore }
 {}
 
 /// promises
