@@ -1,13 +1,13 @@
 -- An accepted change of rows, for each client of the core.
-use Rattle.std.specs.Prelude.{ℕ, List, [], ◌∷◌, ◌++◌, ◌==◌, ◌≡◌, ◌≢◌, ◌⊎◌, ◌↔◌, ◌&&◌, ◌<◌, Bool, true, false, cond, Option, None}
-use Rattle.std.specs.Prelude.{Some, is_some, All, AllPairs, Contains, filter, map, find, suc}
+use Rattle.std.specs.Prelude.{ℕ, List, [], ◌∷◌, ◌++◌, ◌==◌, ◌≡◌, ◌≢◌, ◌⊎◌, ◌↔◌, ◌&&◌, Bool, true, false, cond, Option, None}
+use Rattle.std.specs.Prelude.{Some, All, AllPairs, Contains, filter, map, find, suc}
 use Rattle.std.specs.List.{list_any}
 use Rattle.std.specs.Option.{option_map}
-use Rattle.std.proofs.Common.{refl, sym, ap, ap₂, ◌∙◌, subst, inl, inr, append-nil}
+use Rattle.std.proofs.Common.{refl, sym, ap, ap₂, ◌∙◌, subst, inl, inr}
 use Rattle.std.proofs.lemmas.Bool.{eqb-true, and_from, and_parts}
 use Rattle.std.proofs.lemmas.List.Elements.{All-nil, All-cons, All-head, All-tail, All-contains}
 use Rattle.std.proofs.lemmas.List.Kept.{AllPairs-cons}
-use Rattle.djq_model.specs.Data.{Bytes, Tuple, bytes_eq}
+use Rattle.djq_model.specs.Data.{Bytes, bytes_eq}
 use Rattle.djq_model.specs.Listed.{Listed, listed_name, AnswersOf, listed_of}
 use Rattle.djq_model.specs.declared.relation.Relation.{Relation}
 use Rattle.djq_protocol.specs.declared.answer.EndCause.{EndCause}
@@ -16,27 +16,26 @@ use Rattle.djq_store_spec.specs.Store.{Store}
 use Rattle.djq_store_spec.specs.Delta.{Change, IsDelta}
 use Rattle.djq_store_spec.specs.DeltaCost.{Delta}
 use Rattle.djq_store_spec.specs.Changes.{RowsChange, accepted as is_accepted, is_outdated}
-use Rattle.djq_answer_laws.proofs.Lists.{some_there, kept_there, mapped_there, hold_each, pairs_head, pairs_tail}
+use Rattle.djq_answer_laws.proofs.Lists.{kept_there, mapped_there, hold_each, pairs_head, pairs_tail}
 use Rattle.djq_machine.specs.State.{Session, State, session_of, with_session, state_ids, ended_by}
 use Rattle.djq_machine.specs.Effect.{Effect}
-use Rattle.djq_machine.specs.Outdating.{changed}
 use Rattle.djq_machine.specs.Call.{IsOpen}
-use Rattle.djq_machine.specs.Watch.{is_watching, Telling, ends_more, ChangeStep}
+use Rattle.djq_machine.specs.Watch.{is_watching, Telling, ChangeStep}
 use Rattle.djq_run_laws.specs.Moved.{EndsByRun}
 use Rattle.djq_run_laws.specs.Rising.{AreRising}
 use Rattle.djq_run_laws.specs.Sound.{AreApart, IsSoundStore}
 use Rattle.djq_run_laws.specs.Watched.{parts_for}
 use Rattle.djq_run_laws.proofs.Lists.{found_there, found_passes, any_there, mapped_from, beginning, change_keeps}
 use Rattle.djq_run_laws.proofs.Deltas.{change_store}
-use Rattle.djq_abstract.specs.Rows.{Database, AnswersOver, IsAffected, AreRowsChanged}
+use Rattle.djq_abstract.specs.Rows.{AnswersOver, IsAffected, AreRowsChanged}
 use Rattle.djq_abstract.specs.Deltas.{AnswerDelta, IsDeltaBetween}
 use Rattle.djq_abstract.specs.Clients.{Client, Core, nobody, client_overtaken, CoreMessage, ok, delta, Sent, only_sent}
 use Rattle.djq_abstract.specs.Moves.{StaysConnected, ChangesDatabase}
 use Rattle.djq_abstract.proofs.Names.{same_name, eq_self, found_named}
 use Rattle.djq_refinement.specs.View.{database_of, client_by, client_in, core_of}
 use Rattle.djq_refinement.specs.Spelling.{Spells, AreSpelled}
-use Rattle.djq_refinement.proofs.Clients.{client_with, same_id}
-use Rattle.djq_refinement.proofs.Telling.{delta_text, watched_texts, HasParts, HasIds, deltas_walk, reply_part, last_parts}
+use Rattle.djq_refinement.proofs.Clients.{client_with}
+use Rattle.djq_refinement.proofs.Telling.{delta_text, watched_texts, HasParts, deltas_walk, reply_part, last_parts}
 use Rattle.djq_refinement.proofs.Telling.{WatchesNothing, silent_deltas, silent_last}
 use Rattle.djq_refinement.proofs.DeltaMessages.{delta_seen, delta_between}
 use Rattle.djq_refinement.proofs.ChangeSteps.{affects, affects_found, behind_change, found_behind, overtaken_client}
@@ -210,15 +209,13 @@ module _ (old : State) (s : ℕ) (change : RowsChange) (store : Store) (reply : 
             (cond b (listed_name q ∷ rest_messages) rest_messages)) (texts n (d ∷ ks))) (sym due)
             (subst (λ b. AreSpelled Spelling (delta (listed_name q) (delta_of (listed_name q)) n ∷ messages n qs)
             (map (delta_text n) (cond b (d ∷ filter (λ k. is_watching (listed_name k.query) y) ks)
-            (filter (λ k. is_watching (listed_name k.query) y) ks)))) (sym its)
-            (
-              subst (λ (p : Listed). Spelling (delta (listed_name p) (delta_of (listed_name p)) n) (delta_text n d)) is
-                  (
-                    d.changes,
-                    ap (λ (c : AnswerDelta). c.inserted) (sym known),
-                    ap (λ (c : AnswerDelta). c.deleted) (sym known),
-                    refl,
-                  ),
+            (filter (λ k. is_watching (listed_name k.query) y) ks)))) (sym its) (
+              subst (λ (p : Listed). Spelling (delta (listed_name p) (delta_of (listed_name p)) n) (delta_text n d)) is (
+                d.changes,
+                ap (λ (c : AnswerDelta). c.inserted) (sym known),
+                ap (λ (c : AnswerDelta). c.deleted) (sym known),
+                refl,
+              ),
               k,
             ))
 

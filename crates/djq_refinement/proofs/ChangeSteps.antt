@@ -1,44 +1,27 @@
 -- A change of rows, accepted or not, for each client of the core.
-use Rattle.std.specs.Prelude.{ℕ, List, [], ◌∷◌, ◌++◌, ◌==◌, ◌≡◌, ◌≢◌, ◌⊎◌, ◌↔◌, ◌&&◌, ◌<◌, Bool, true, false, cond, Option, None}
-use Rattle.std.specs.Prelude.{Some, is_some, MatchOption, IsSomeAnd, All, AllPairs, Contains, filter, map, find, suc}
+use Rattle.std.specs.Prelude.{ℕ, List, [], ◌∷◌, ◌==◌, ◌≡◌, ◌⊎◌, Bool, true, false, cond, Option, None}
+use Rattle.std.specs.Prelude.{Some, is_some, MatchOption, IsSomeAnd, map}
 use Rattle.std.specs.List.{list_any}
 use Rattle.std.specs.Option.{option_map}
-use Rattle.std.proofs.Common.{refl, sym, ap, ap₂, ◌∙◌, subst, inl, inr, arith, append-nil}
-use Rattle.std.proofs.lemmas.Bool.{eqb-true, and_parts}
-use Rattle.std.proofs.lemmas.List.Elements.{All-nil, All-cons, All-head, All-tail, All-weaker, All-contains, All-map}
-use Rattle.std.proofs.lemmas.List.Kept.{AllPairs-filter, AllPairs-cons}
-use Rattle.djq_model.specs.Data.{Bytes, Tuple, bytes_eq}
-use Rattle.djq_model.specs.Listed.{Listed, listed_name, AnswersOf, listed_of}
+use Rattle.std.proofs.Common.{refl, sym, ap, ◌∙◌, subst, inl, inr}
+use Rattle.djq_model.specs.Data.{Bytes, bytes_eq}
+use Rattle.djq_model.specs.Listed.{Listed, listed_of}
 use Rattle.djq_protocol.specs.declared.answer.EndCause.{EndCause}
 use Rattle.djq_protocol.specs.declared.answer.EndCause.TheVariants.{Memory}
-use Rattle.djq_protocol.specs.Grammar.{Reading}
 use Rattle.djq_protocol.specs.Reply.{end_memory}
 use Rattle.djq_store_spec.specs.Store.{Store, Position, open_at, stale as stale_since}
 use Rattle.djq_store_spec.specs.Stale.{outdated, outdater_of}
-use Rattle.djq_store_spec.specs.Delta.{Change, IsDelta}
-use Rattle.djq_store_spec.specs.DeltaCost.{Delta}
-use Rattle.djq_store_spec.specs.Changes.{RowsChange, RowsOutcome, accepted as is_accepted, is_made, tried, is_outdated}
-use Rattle.djq_answer_laws.proofs.Lists.{some_there, kept_there, mapped_there, hold_each, pairs_head, pairs_tail}
-use Rattle.djq_machine.specs.State.{Cursor, Session, State, session_of, with_session, state_ids, cursor_of, ended_by}
+use Rattle.djq_store_spec.specs.Changes.{RowsChange, RowsOutcome, is_made, tried, is_outdated}
+use Rattle.djq_answer_laws.proofs.Lists.{some_there}
+use Rattle.djq_machine.specs.State.{Cursor, Session, State, session_of, cursor_of}
 use Rattle.djq_machine.specs.Effect.{Effect}
 use Rattle.djq_machine.specs.Run.{Walk}
 use Rattle.djq_machine.specs.Outdating.{outdated_cursor, changed}
-use Rattle.djq_machine.specs.Watch.{is_watching, affected, Telling, says_more, ends_more, RepliesLast, TellsDelta, ChangeStep}
-use Rattle.djq_run_laws.specs.Rising.{AreRising}
-use Rattle.djq_run_laws.specs.Sound.{AreApart, IsSoundStore}
-use Rattle.djq_run_laws.specs.Watched.{parts_for}
-use Rattle.djq_run_laws.proofs.Lists.{find_mapped, found_there, found_passes, any_there, mapped_from, beginning, change_keeps}
-use Rattle.djq_abstract.specs.Rows.{Database, AnswersOver, IsAffected, AreRowsChanged}
-use Rattle.djq_abstract.specs.Deltas.{AnswerDelta, IsDeltaBetween}
-use Rattle.djq_abstract.specs.Clients.{CursorState, Client, Core, nobody, overtaken, client_overtaken, CoreMessage, ok}
-use Rattle.djq_abstract.specs.Clients.{delta, Sent, only_sent}
-use Rattle.djq_abstract.specs.Moves.{StaysConnected, ChangesDatabase}
-use Rattle.djq_abstract.proofs.Names.{same_name, eq_self, found_named}
-use Rattle.djq_refinement.specs.View.{database_of, cursor_state, cursor_seen, client_by, client_in, core_of}
-use Rattle.djq_refinement.specs.Spelling.{Spells, AreSpelled}
-use Rattle.djq_refinement.proofs.Clients.{client_path, client_with, same_id, other_id}
-use Rattle.djq_refinement.proofs.Telling.{delta_text, watched_texts, HasParts, HasIds, deltas_walk, reply_part, last_parts}
-use Rattle.djq_refinement.proofs.DeltaMessages.{delta_seen, delta_between}
+use Rattle.djq_machine.specs.Watch.{Telling, says_more, ends_more, RepliesLast, TellsDelta, ChangeStep}
+use Rattle.djq_run_laws.proofs.Lists.{find_mapped, beginning}
+use Rattle.djq_abstract.specs.Clients.{nobody, overtaken, client_overtaken}
+use Rattle.djq_refinement.specs.View.{cursor_state, cursor_seen, client_by, client_in}
+use Rattle.djq_refinement.proofs.Clients.{client_path}
 
 -- ---- cursors over affected queries become stale
 

@@ -1,11 +1,9 @@
 -- What the core sees of sessions, and steps in which one session becomes another, or ends.
-use Rattle.std.specs.Prelude.{ℕ, List, [], ◌∷◌, ◌++◌, ◌==◌, ◌≡◌, ◌⊎◌, Bool, true, false, cond, Option, None, Some, map}
-use Rattle.std.specs.Prelude.{filter}
+use Rattle.std.specs.Prelude.{ℕ, List, [], ◌∷◌, ◌++◌, ◌==◌, ◌≡◌, Bool, true, false, cond, Option, None, Some, map}
 use Rattle.std.specs.Option.{option_map}
 use Rattle.std.proofs.Common.{refl, sym, ap, ◌∙◌, subst, inl, inr}
 use Rattle.std.proofs.lemmas.Bool.{eqb-true, eq-eqb}
 use Rattle.djq_model.specs.Data.{Bytes, Tuple}
-use Rattle.djq_model.specs.Listed.{Listed}
 use Rattle.djq_protocol.specs.declared.answer.EndCause.{EndCause}
 use Rattle.djq_protocol.specs.Grammar.{Reading}
 use Rattle.djq_store_spec.specs.Store.{Store}
@@ -15,11 +13,10 @@ use Rattle.djq_machine.specs.Run.{to_session}
 use Rattle.djq_run_laws.specs.Watched.{parts_for}
 use Rattle.djq_run_laws.proofs.Lists.{gaining, session_changed, session_other, queued_all}
 use Rattle.djq_run_laws.proofs.Deltas.{queued_store}
-use Rattle.djq_abstract.specs.Clients.{CursorState, Client, Core, nobody, with_client, CoreCommand, CoreMessage}
+use Rattle.djq_abstract.specs.Clients.{Client, Core, nobody, with_client, CoreCommand, CoreMessage}
 use Rattle.djq_abstract.specs.Clients.{CoreEvent, disconnects, says, Sent, only_sent}
 use Rattle.djq_abstract.specs.Moves.{CoreStep}
 use Rattle.djq_abstract.specs.Histories.{Happening, state_after, CoreRun, all_sent}
-use Rattle.djq_abstract.specs.Rows.{RowEdit}
 use Rattle.djq_refinement.specs.View.{client_by, client_in, core_of, core_reading}
 use Rattle.djq_refinement.specs.Spelling.{Spells, AreSpelled}
 use Rattle.djq_refinement.specs.Refinement.{AreOfLine}

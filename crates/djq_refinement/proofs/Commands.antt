@@ -1,10 +1,10 @@
 -- Each command but those that change rows is a command of the core.
-use Rattle.std.specs.Prelude.{ℕ, List, [], ◌∷◌, ◌++◌, ◌+◌, ◌*◌, ◌==◌, ◌≡◌, ◌⊎◌, ◌↔◌, ◌||◌, Bool, true, false, cond, not, Option}
-use Rattle.std.specs.Prelude.{None, Some, is_some, is_none, IsSome, IsSomeAnd, MatchOption, Result, Ok, Err, ⊤, codes, map}
-use Rattle.std.specs.Prelude.{filter, All, Contains, find, length}
+use Rattle.std.specs.Prelude.{ℕ, List, [], ◌∷◌, ◌++◌, ◌+◌, ◌==◌, ◌≡◌, ◌↔◌, ◌||◌, Bool, true, false, cond, Option}
+use Rattle.std.specs.Prelude.{None, Some, is_some, is_none, IsSome, IsSomeAnd, MatchOption, Result, Ok, Err, ⊤, codes}
+use Rattle.std.specs.Prelude.{Contains, length}
 use Rattle.std.specs.List.{list_any}
 use Rattle.std.specs.Option.{option_map}
-use Rattle.std.proofs.Common.{refl, sym, ap, ap₂, ◌∙◌, subst, inl, inr, arith, length-append}
+use Rattle.std.proofs.Common.{refl, sym, ap, ◌∙◌, subst, inl, inr, arith, length-append}
 use Rattle.std.specs.Prelude.{decimal, ◌<◌, ◌≤◌}
 use Rattle.std.proofs.lemmas.Fmt.{length-decimal-le_succ}
 use Rattle.djq_protocol.specs.declared.limits.TheConstants.{HEAD_VARIABLES, REPLY_BYTES}
@@ -17,21 +17,19 @@ use Rattle.djq_model.specs.declared.query.Query.{Query}
 use Rattle.djq_model.specs.Data.{Bytes, Tuple, bytes_eq, drop_first}
 use Rattle.djq_model.specs.Listed.{Listed, a_query, a_union, listed_name, AnswersOf, listed_of}
 use Rattle.djq_model.specs.Known.{texts_in}
-use Rattle.djq_protocol.specs.declared.answer.EndCause.TheVariants.{Memory, Quit as SaidQuit, Stop as SaidStop}
+use Rattle.djq_protocol.specs.declared.answer.EndCause.TheVariants.{Memory}
 use Rattle.djq_protocol.specs.declared.answer.Refusal.{Refusal}
-use Rattle.djq_protocol.specs.declared.answer.Refusal.TheVariants.{Taken, NoQuery, NoCursor, InUse, Syntax, NoMemory}
-use Rattle.djq_protocol.specs.declared.answer.Refusal.TheVariants.{Misplaced}
+use Rattle.djq_protocol.specs.declared.answer.Refusal.TheVariants.{Taken, NoQuery, NoCursor, InUse}
 use Rattle.djq_protocol.specs.declared.answer.Shape.{Shape}
 use Rattle.djq_protocol.specs.declared.rest.QueryOutcome.{QueryOutcome}
 use Rattle.djq_protocol.specs.declared.rest.QueryOutcome.TheVariants.{Registered, Cyclic, NotConnex}
 use Rattle.djq_protocol.specs.declared.held.Verb.{Verb}
 use Rattle.djq_protocol.specs.declared.held.Verb.TheVariants.{Add as Adds, Delete as Deletes}
-use Rattle.djq_protocol.specs.declared.command.Command.{Command}
 use Rattle.djq_protocol.specs.declared.command.Command.TheVariants.{Rel, Add, Del, Query as Register, Union, Drop, Open}
 use Rattle.djq_protocol.specs.declared.command.Command.TheVariants.{Next, Close, Has, Watch, Unwatch, Explain}
-use Rattle.djq_protocol.specs.declared.command.Command.TheVariants.{Shape as AskShape, Batch, Done, Abandon, Quit, Stop}
+use Rattle.djq_protocol.specs.declared.command.Command.TheVariants.{Shape as AskShape, Batch, Abandon}
 use Rattle.djq_protocol.specs.Conditions.{first_refusal, Answers, OutOfMemoryWhere}
-use Rattle.djq_protocol.specs.Grammar.{Reading, outside, past_limit, says_command}
+use Rattle.djq_protocol.specs.Grammar.{Reading, says_command}
 use Rattle.djq_protocol.specs.Reply.{line, numbered_line, refusal_line, ok_reply, query_reply, union_reply, has_reply, shape_reply}
 use Rattle.djq_protocol.specs.Reply.{watch_reply, held_reply, text_of, end_memory}
 use Rattle.djq_protocol.specs.Variables.{constants_of}
@@ -39,41 +37,37 @@ use Rattle.djq_store_spec.specs.Store.{Store, Position, open_at, stale as stale_
 use Rattle.djq_store_spec.specs.Relations.{MakesRelation, rel_refusal}
 use Rattle.djq_store_spec.specs.Registering.{RefusedLate, RegistersAs, RegistersQuery, DropsQuery, query_refusal}
 use Rattle.djq_store_spec.specs.Registering.{drop_refusal, is_member, answer_steps, most_steps}
-use Rattle.djq_store_spec.specs.Asking.{Tells, TellsWhether, TellsShape, has_refusal, IsShapeOf}
+use Rattle.djq_store_spec.specs.Asking.{TellsShape, IsShapeOf, Tells, TellsWhether, has_refusal}
 use Rattle.djq_store_spec.specs.Listing.{TellsAnswers}
 use Rattle.djq_store_spec.specs.Union.{union_refusal, AreUnder, RegistersUnion}
 use Rattle.djq_store_spec.specs.Held.{HeldLine, HeldTransaction, nothing_held, holding}
-use Rattle.djq_answer_laws.proofs.Lists.{some_there, nothing_of}
-use Rattle.djq_machine.specs.State.{Cursor, Session, State, session_of, with_session, cursor_of, with_position, ended_by}
+use Rattle.djq_answer_laws.proofs.Lists.{some_there, some_as, nothing_of}
+use Rattle.djq_machine.specs.State.{Cursor, Session, State, session_of, with_session, cursor_of, with_position}
 use Rattle.djq_machine.specs.Keeping.{is_done, is_registration}
-use Rattle.djq_machine.specs.Effect.{Effect, says as says_text, answers, EndsWith, EndsAnswering, RefusedStep}
+use Rattle.djq_machine.specs.Effect.{Effect, answers, RefusedStep}
 use Rattle.djq_machine.specs.Command.{RelStep, QueryStep, QueryCutStep, UnionStep, uses, DropStep, HasStep, open_refusal}
-use Rattle.djq_machine.specs.Command.{with_cursor, OpensTo, OpenStep, NextStep, NextCutStep, NextStepAt, CloseStep}
+use Rattle.djq_machine.specs.Command.{with_cursor, OpensTo, OpenStep, NextStepAt, CloseStep}
 use Rattle.djq_machine.specs.Command.{watch_refusal, with_watch, BecomesWhere, WatchStep, without_watch, UnwatchStep}
 use Rattle.djq_machine.specs.Command.{explain_lines, TellsLines, ShapeStep, union_lines, ExplainStepOf, with_batch}
 use Rattle.djq_machine.specs.Command.{without_batch, BatchStep, HoldStep, AbandonStep}
 use Rattle.djq_run_laws.specs.Sound.{IsSoundSession}
 use Rattle.djq_run_laws.specs.Form.{LearnsTexts, without_cursor}
-use Rattle.djq_run_laws.specs.Watched.{parts_for}
 use Rattle.djq_run_laws.proofs.Lists.{all_found, found_there, any_there, and_some}
 use Rattle.djq_run_laws.proofs.Forms.{done_of, none_holds, none_first, none_second, refused_learned, late_learned}
 use Rattle.djq_run_laws.proofs.Forms.{stays_learned, all_fail, query_conditions, within_limits}
 use Rattle.djq_run_laws.proofs.SoundStates.{AreKept}
 use Rattle.djq_abstract.specs.Rows.{AnswersOver}
-use Rattle.djq_abstract.specs.Clients.{CursorState, valid, stale, Client, Core, nobody, with_client, client_with_cursor}
+use Rattle.djq_abstract.specs.Clients.{CursorState, valid, stale, Client, client_with_cursor}
 use Rattle.djq_abstract.specs.Clients.{with_subscription, UsesQuery, overtaken, client_overtaken, CoreCommand, edit, batch}
 use Rattle.djq_abstract.specs.Clients.{done, abandon, register, drop, open_cursor, next, close, has, subscribe}
 use Rattle.djq_abstract.specs.Clients.{unsubscribe, ask, CoreMessage, ok, refused, not_free_connex, replied, is_answer}
-use Rattle.djq_abstract.specs.Clients.{page, disconnects, says, Sent, only_sent}
-use Rattle.djq_abstract.specs.Moves.{IsPage, ReturnsPage, OnlyReplies, Accepts, MayRefuse, client_refused, RefusesCommand}
-use Rattle.djq_abstract.specs.Histories.{Happening}
-use Rattle.djq_abstract.proofs.Names.{found_named}
+use Rattle.djq_abstract.specs.Clients.{page, only_sent}
+use Rattle.djq_abstract.specs.Moves.{IsPage, ReturnsPage, OnlyReplies, Accepts, MayRefuse, client_refused}
 use Rattle.djq_refinement.specs.View.{client_by, client_in, core_of, core_reading, line_edit, line_edits, inserts_row}
 use Rattle.djq_refinement.specs.View.{queries_under, cursor_seen, cursor_state}
-use Rattle.djq_refinement.specs.Spelling.{Spells, AreSpelled, IsExplaining, AcceptsEdit}
-use Rattle.djq_refinement.specs.Refinement.{AreOfLine}
+use Rattle.djq_refinement.specs.Spelling.{Spells, IsExplaining, AcceptsEdit}
 use Rattle.djq_refinement.proofs.Clients.{core_path, client_path, core_with, with_same, going_client, is_connected}
-use Rattle.djq_refinement.proofs.Clients.{core_ended, not_both, parts_other, LineGoes, line_says, line_ends}
+use Rattle.djq_refinement.proofs.Clients.{LineGoes, line_says, line_ends}
 use Rattle.djq_refinement.proofs.Stores.{answer_seen, answer_back, copies_with_new, under_seen, union_admitted}
 use Rattle.djq_refinement.proofs.Stores.{query_admitted, admitted_query, own_names, dropped_seen}
 use Rattle.djq_refinement.proofs.Sessions.{opened_client, moved_client, closed_client, watched_client, unwatched_client}
@@ -142,16 +136,19 @@ module _ (old : State) (kept : AreKept old) (s : ℕ) (x : Session) (found : ses
       → core_of new ≡ core_of old → e.queued ≡ (s, text) ∷ [] → Spells s r (core_of old) (core_of new) m text
       → LineGoes old s r e new
   turned_down r e new c m text is may left same queued spelled =
-      line_says old s r e new c m text is (is_connected old s x found runs, inr (record {
-        message = m;
-        may = may;
-        is_sent = refl;
-        affected = λ q. false;
-        becomes = same ∙ core_path (core_of old) (record (core_of old) {
-          client = λ t. client_overtaken (λ q. false)
-              (cond (t == s) (client_refused c author) ((core_of old).client t));
-        }) (λ r t. refl) refl refl (λ t. by t (t == s) refl);
-      })) queued spelled
+      line_says old s r e new c m text is (
+        is_connected old s x found runs,
+        inr (record {
+          message = m;
+          may = may;
+          is_sent = refl;
+          affected = λ q. false;
+          becomes = same ∙ core_path (core_of old) (record (core_of old) {
+            client = λ t. client_overtaken (λ q. false)
+                (cond (t == s) (client_refused c author) ((core_of old).client t));
+          }) (λ r t. refl) refl refl (λ t. by t (t == s) refl);
+        }),
+      ) queued spelled
     where
       by : (t : ℕ) (b : Bool) → (t == s) ≡ b → (core_of old).client t
           ≡ client_overtaken (λ q. false) (cond b (client_refused c author) ((core_of old).client t))
@@ -253,7 +250,10 @@ module _ (old : State) (kept : AreKept old) (s : ℕ) (x : Session) (found : ses
           (inl refl) refl (ap core_of h.state ∙ learned_core h.store (not_registered old.store q why h.store k))
           (queued_of e _ said) (why, refl)
       by (Ok (Registered most)) k said = accepted r e new (register (a_query q)) ok (query_reply (Ok (Registered most)))
-          refl (query_accepts q most h.store new h.state k) (queued_of e _ said) (most, refl)
+          refl (query_accepts q most h.store new h.state k) (queued_of e _ said)
+          (ap (λ n. numbered_line (codes "ok query ") n)
+          (done_of (query_refusal old.store q) (Registered most) (RegistersAs old.store q h.store)
+          (RefusedLate old.store q h.store) k.answer).1)
       by (Ok (Cyclic rest)) k said =
           let d = done_of (query_refusal old.store q) (Cyclic rest) (RegistersAs old.store q h.store)
           (RefusedLate old.store q h.store) k.answer in
@@ -329,13 +329,15 @@ module _ (old : State) (kept : AreKept old) (s : ℕ) (x : Session) (found : ses
           let d = done_of (union_refusal old.store name members) most D (OutOfMemoryWhere ⊤) k.answer in
           let none = none_holds (union_refusal old.store name members) most D (OutOfMemoryWhere ⊤) k.answer in
           accepted r e new (register (a_union name d.0)) ok (union_reply (Ok most))
-          (ap (λ (qs : List Query). Some (register (a_union name qs))) (under_seen old.store.queries members d.0 d.1))
-          (
+          (ap (λ (qs : List Query). Some (register (a_union name qs))) (under_seen old.store.queries members d.0 d.1)) (
             union_admitted old.store kept.0 name members d.0 d.1,
             none_of name _ none,
             (refl, ap core_of h.state ∙ registered_core h.store _ _ d.3),
           )
-          (queued_of e _ said) (most, refl)
+          (queued_of e _ said)
+          (ap (λ n. numbered_line (codes "ok union ") n) d.2
+          ∙ ap (λ (qs : List Query). numbered_line (codes "ok union ") (answer_steps (a_union name qs)))
+          (sym (under_seen old.store.queries members d.0 d.1)))
 
   unused : (q : Bytes) → list_any (uses q) old.sessions ≡ false → (t : ℕ) → UsesQuery q ((core_of old).client t) → ⊥
   unused q none t u = by (session_of old t) refl u
@@ -368,8 +370,7 @@ module _ (old : State) (kept : AreKept old) (s : ℕ) (x : Session) (found : ses
           (none_second (is_none (listed_of old.store.queries q)) (used || is_member old.store.queries q) NoQuery InUse
           None none) in
           let after = done_of (drop_refusal old.store used q) u D (OutOfMemoryWhere ⊥) k.answer in
-          accepted r e new (drop q) ok (line (codes "ok")) refl
-          (
+          accepted r e new (drop q) ok (line (codes "ok")) refl (
             unused q free.0,
             (
               refl,
@@ -408,22 +409,32 @@ module _ (old : State) (kept : AreKept old) (s : ℕ) (x : Session) (found : ses
 
   pub shape_goes : (q : Bytes) (e : Effect) (new : State) → ShapeStep old s q e new
       → LineGoes old s (says_command (AskShape q)) e new
-  shape_goes q e new h = by h.result (queued_of e _ h.effect)
+  shape_goes q e new h = by h.result h.tells (queued_of e _ h.effect)
     where
       r : Reading
       r = says_command (AskShape q)
 
-      by : (o : Result Shape Refusal) → e.queued ≡ (s, shape_reply o) ∷ [] → LineGoes old s r e new
-      by (Err why) said = turned_down r e new ask refused (refusal_line why) refl (may_refuse ask) refl
+      by : (o : Result Shape Refusal) → TellsShape old.store q o → e.queued ≡ (s, shape_reply o) ∷ []
+          → LineGoes old s r e new
+      by (Err why) k said = turned_down r e new ask refused (refusal_line why) refl (may_refuse ask) refl
           (ap core_of h.state) said (why, refl)
-      by (Ok shape) said = accepted r e new ask replied (shape_reply (Ok shape)) refl
-          (only_stays replied new (ap core_of h.state)) said (shape, refl)
+      by (Ok shape) k said =
+          let D = λ (b : Shape). IsSomeAnd (listed_of old.store.queries q) (λ l. IsShapeOf l b) in
+          accepted r e new ask replied (shape_reply (Ok shape)) refl (only_stays replied new (ap core_of h.state)) said
+          (some_as (listed_of old.store.queries q) (λ l. IsShapeOf l shape)
+          (λ l. (b : Shape) × IsShapeOf l b × (shape_reply (Ok shape) ≡ shape_reply (Ok b)))
+          (λ l is. (shape, is, refl))
+          (done_of (first_refusal ((is_none (listed_of old.store.queries q), NoQuery) ∷ [])) shape D (OutOfMemoryWhere ⊥)
+          k.answer))
 
-  lines_go : (q : Bytes) (l : Listed) (lines : List Bytes) (e : Effect) (new : State) → listed_name l ≡ q
-      → IsExplaining l (text_of lines) → TellsLines old s lines e new → LineGoes old s (says_command (Explain q)) e new
-  lines_go q l lines e new named is (inl h) = accepted (says_command (Explain q)) e new ask replied (text_of lines) refl
-      (only_stays replied new (ap core_of h.1)) (queued_of e _ h.0) (l, named, is)
-  lines_go q l lines e new named is (inr (told, lacking, rest, parts, ends)) =
+  lines_go : (q : Bytes) (l : Listed) (lines : List Bytes) (e : Effect) (new : State)
+      → listed_of old.store.queries q ≡ Some l → IsExplaining l (text_of lines) → TellsLines old s lines e new
+      → LineGoes old s (says_command (Explain q)) e new
+  lines_go q l lines e new is explains (inl h) =
+      accepted (says_command (Explain q)) e new ask replied (text_of lines) refl
+      (only_stays replied new (ap core_of h.1)) (queued_of e _ h.0)
+      (and_some (listed_of old.store.queries q) (λ p. IsExplaining p (text_of lines)) l is explains)
+  lines_go q l lines e new is explains (inr (told, lacking, rest, parts, ends)) =
       line_ends old s x (says_command (Explain q)) e old Memory new (text_of told ++ end_memory) found runs refl ends.1
       (queued_of e _ ends.0)
 
@@ -439,9 +450,9 @@ module _ (old : State) (kept : AreKept old) (s : ℕ) (x : Session) (found : ses
           → MatchOption o (RefusedStep old s NoQuery e new) (λ l. ExplainStepOf old s l e new) → LineGoes old s r e new
       by None f k = refusing r e new ask NoQuery refl refl k (NoQuery, refl)
       by (Some (a_query p)) f k = lines_go q (a_query p) (explain_lines p k.tree) e new
-          (found_named old.store.queries q (a_query p) f) (k.tree, k.named, refl) k.tells
+          f (k.tree, k.named, refl) k.tells
       by (Some (a_union name qs)) f k = lines_go q (a_union name qs) (union_lines qs) e new
-          (found_named old.store.queries q (a_union name qs) f) refl k
+          f refl k
 
   -- ---- commands of the session
 
@@ -469,8 +480,7 @@ module _ (old : State) (kept : AreKept old) (s : ℕ) (x : Session) (found : ses
           (none_first (is_some (cursor_of x.cursors c)) Taken _ none) in
           let there = is_found q (none_second (is_some (cursor_of x.cursors c)) (is_none (listed_of old.store.queries q))
           Taken NoQuery _ none) in
-          accepted r e new (open_cursor c q) ok (line (codes "ok open")) refl
-          (
+          accepted r e new (open_cursor c q) ok (line (codes "ok open")) refl (
             ap (λ (y : Client). y.cursor c) is_author ∙ ap (λ o. option_map cursor_seen o) free,
             there,
             only_becomes ok (with_cursor c q) new (client_with_cursor c (Some (valid q [] false)) author) (λ z. refl) refl
@@ -509,8 +519,7 @@ module _ (old : State) (kept : AreKept old) (s : ℕ) (x : Session) (found : ses
       (and_some (listed_of old.store.queries k.query) (λ p. (ts : List Tuple) × (last : Bool)
       × IsPage (AnswersOver (core_of old).db p) given ts count last
       × OnlyReplies (core_of old) s (page ts last) (client_with_cursor c (Some (valid k.query (given ++ ts) last)) author)
-      (only_sent s (page h.told h.end ∷ [])) (core_of new)) l over
-      (
+      (only_sent s (page h.told h.end ∷ [])) (core_of new)) l over (
         h.told,
         h.end,
         page_of (AnswersOf old.store.relations l) (AnswersOver (core_of old).db l) given h.told count h.end
@@ -554,13 +563,12 @@ module _ (old : State) (kept : AreKept old) (s : ℕ) (x : Session) (found : ses
       by : (o : Option Cursor) → cursor_of x.cursors c ≡ o → MatchOption o (RefusedStep old s NoCursor e new)
           (λ k. CloseStep old s c e new) → LineGoes old s r e new
       by None f k = refusing r e new (close c) NoCursor refl refl k (NoCursor, refl)
-      by (Some j) f k = accepted r e new (close c) ok (line (codes "ok")) refl
-          (
-            subst (λ (y : Client). IsSome (y.cursor c)) (sym is_author) (rw f refl),
-            only_becomes ok (without_cursor c) new (client_with_cursor c None author) (λ z. refl) refl k.1
-                (closed_client x c sound_session.names
-                ∙ ap (λ y. client_with_cursor c None y) (sym is_author)),
-          )
+      by (Some j) f k = accepted r e new (close c) ok (line (codes "ok")) refl (
+        subst (λ (y : Client). IsSome (y.cursor c)) (sym is_author) (rw f refl),
+        only_becomes ok (without_cursor c) new (client_with_cursor c None author) (λ z. refl) refl k.1
+            (closed_client x c sound_session.names
+            ∙ ap (λ y. client_with_cursor c None y) (sym is_author)),
+      )
           (queued_of e _ k.0) refl
 
   pub watch_goes : (q : Bytes) (e : Effect) (new : State) → WatchStep old s x q e new
@@ -577,8 +585,7 @@ module _ (old : State) (kept : AreKept old) (s : ℕ) (x : Session) (found : ses
           (may_refuse (subscribe q)) refl (ap core_of after) said (why, refl)
       by (Ok u) L k said after =
           let none = none_holds (watch_refusal old.store q) u (λ _. ⊤) L k in
-          accepted r e new (subscribe q) ok (watch_reply (Ok u) old.store.seq) refl
-          (
+          accepted r e new (subscribe q) ok (watch_reply (Ok u) old.store.seq) refl (
             is_found q (none_first (is_none (listed_of old.store.queries q)) NoQuery None none),
             only_becomes ok (with_watch q) new (with_subscription q true author) (λ z. refl) refl after
                 (watched_client x q ∙ ap (λ y. with_subscription q true y) (sym is_author)),
@@ -599,8 +606,7 @@ module _ (old : State) (kept : AreKept old) (s : ℕ) (x : Session) (found : ses
           (may_refuse (unsubscribe q)) refl (ap core_of after) said (why, refl)
       by (Ok u) k said after =
           let none = none_holds (watch_refusal old.store q) u (λ _. ⊤) (OutOfMemoryWhere ⊥) k in
-          accepted r e new (unsubscribe q) ok (line (codes "ok")) refl
-          (
+          accepted r e new (unsubscribe q) ok (line (codes "ok")) refl (
             is_found q (none_first (is_none (listed_of old.store.queries q)) NoQuery None none),
             only_becomes ok (without_watch q) new (with_subscription q false author) (λ z. refl) refl after
                 (unwatched_client x q sound_session.once ∙ ap (λ y. with_subscription q false y) (sym is_author)),
@@ -626,22 +632,20 @@ module _ (old : State) (kept : AreKept old) (s : ℕ) (x : Session) (found : ses
           → BecomesWhere old s (with_batch nothing_held) new o → LineGoes old s r e new
       by (Err why) said after = turned_down r e new batch refused (refusal_line why) refl (may_refuse batch) refl
           (ap core_of after) said (why, refl)
-      by (Ok u) said after = accepted r e new batch ok (line (codes "ok batch")) refl
-          (
-            no_batch none,
-            only_becomes ok (with_batch nothing_held) new (record author { batch = Some [] }) (λ z. refl) refl after
-                (ap (λ (y : Client). record y { batch = Some [] }) (sym is_author)),
-          )
+      by (Ok u) said after = accepted r e new batch ok (line (codes "ok batch")) refl (
+        no_batch none,
+        only_becomes ok (with_batch nothing_held) new (record author { batch = Some [] }) (λ z. refl) refl after
+            (ap (λ (y : Client). record y { batch = Some [] }) (sym is_author)),
+      )
           said refl
 
   pub abandon_goes : (held : HeldTransaction) (e : Effect) (new : State) → x.batch ≡ Some held → AbandonStep old s e new
       → LineGoes old s (says_command Abandon) e new
-  abandon_goes held e new is h = accepted (says_command Abandon) e new abandon ok (line (codes "ok")) refl
-      (
-        subst (λ o. IsSome o) (sym (some_batch held is)) refl,
-        only_becomes ok without_batch new (record author { batch = None }) (λ z. refl) refl h.1
-            (ap (λ (y : Client). record y { batch = None }) (sym is_author)),
-      )
+  abandon_goes held e new is h = accepted (says_command Abandon) e new abandon ok (line (codes "ok")) refl (
+    subst (λ o. IsSome o) (sym (some_batch held is)) refl,
+    only_becomes ok without_batch new (record author { batch = None }) (λ z. refl) refl h.1
+        (ap (λ (y : Client). record y { batch = None }) (sym is_author)),
+  )
       (queued_of e _ h.0) refl
 
   -- a line is held

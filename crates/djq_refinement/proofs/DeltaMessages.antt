@@ -1,6 +1,6 @@
 -- The machine's delta of a query as the core's.
 use Rattle.std.specs.Prelude.{List, [], ◌∷◌, ◌≡◌, ◌⊎◌, Bool, true, false, cond, All, AllPairs, Contains, map}
-use Rattle.std.proofs.Common.{refl, sym, ap, ◌∙◌, subst, inl, inr}
+use Rattle.std.proofs.Common.{refl, ap, ◌∙◌, subst, inl, inr}
 use Rattle.std.proofs.lemmas.List.Elements.{All-nil, All-cons, All-head, All-tail, All-weaker}
 use Rattle.std.proofs.lemmas.List.Kept.{AllPairs-cons}
 use Rattle.djq_model.specs.Data.{Tuple}
@@ -14,7 +14,7 @@ use Rattle.djq_answer_laws.proofs.Decisions.{answers_are_decided}
 use Rattle.djq_run_laws.specs.Added.{same_sign, of_sign}
 use Rattle.djq_run_laws.specs.Sound.{IsSoundStore}
 use Rattle.djq_abstract.specs.Rows.{AnswersOver}
-use Rattle.djq_abstract.specs.Deltas.{AnswerDelta, IsGain, IsDeltaBetween}
+use Rattle.djq_abstract.specs.Deltas.{AnswerDelta, IsDeltaBetween}
 use Rattle.djq_refinement.specs.View.{database_of}
 use Rattle.djq_refinement.proofs.Stores.{answer_seen, answer_back}
 

@@ -1,33 +1,31 @@
 -- What commands of rows do to the core's database, and which rows they change.
-use Rattle.std.specs.Prelude.{ℕ, zero, suc, List, [], ◌∷◌, ◌++◌, ◌+◌, ◌-◌, ◌==◌, ◌≡◌, ◌≢◌, ◌⊎◌, ◌↔◌, ◌<◌, ◌&&◌, ◌||◌, Bool}
+use Rattle.std.specs.Prelude.{ℕ, zero, suc, List, [], ◌∷◌, ◌++◌, ◌+◌, ◌-◌, ◌==◌, ◌≡◌, ◌≢◌, ◌⊎◌, ◌↔◌, ◌&&◌, ◌||◌, Bool}
 use Rattle.std.specs.Prelude.{true, false, not, cond, nat_lt, pred, Option, None, Some, is_some, fold, find, map, Contains}
-use Rattle.std.specs.Prelude.{All, Any, Ok, length}
+use Rattle.std.specs.Prelude.{Ok, length}
 use Rattle.std.specs.List.{list_any}
-use Rattle.std.specs.Option.{option_and_then, option_or, option_map}
+use Rattle.std.specs.Option.{option_and_then, option_or}
 use Rattle.std.proofs.Common.{refl, sym, ap, ap₂, ◌∙◌, subst, inl, inr, arith, append-nil, append_assoc}
-use Rattle.std.proofs.lemmas.Bool.{and_parts, and_from, eq-eqb, ne_eqb, eqb-true, lt-ltb, le-ltb}
+use Rattle.std.proofs.lemmas.Bool.{and_parts, and_from, ne_eqb, lt-ltb}
 use Rattle.std.proofs.lemmas.List.Folds.{Any-from_list_any}
 use Rattle.djq_model.specs.declared.relation.Relation.{Relation}
 use Rattle.djq_model.specs.declared.query.Query.{Query}
 use Rattle.djq_model.specs.declared.query.Atom.{Atom}
 use Rattle.djq_model.specs.Data.{Bytes, Tuple, bytes_eq, tuple_eq, rows_of, has_row}
 use Rattle.djq_model.specs.Equality.{tuple_eq-decides}
-use Rattle.djq_model.specs.Listed.{Listed, a_query, a_union, queries_of}
+use Rattle.djq_model.specs.Listed.{Listed, a_query, a_union}
 use Rattle.djq_protocol.specs.declared.held.Verb.{Verb}
 use Rattle.djq_protocol.specs.declared.held.Verb.TheVariants.{Add as Adds, Delete as Deletes}
 use Rattle.djq_protocol.specs.declared.held.LineRefusal.{LineRefusal}
 use Rattle.djq_protocol.specs.declared.held.LineRefusal.TheVariants.{Absent}
-use Rattle.djq_protocol.specs.declared.held.RefusedLine.{RefusedLine}
-use Rattle.djq_protocol.specs.declared.held.DoneRefusal.{DoneRefusal}
 use Rattle.djq_store_spec.specs.Store.{Store}
 use Rattle.djq_store_spec.specs.Stale.{reads, listed_reads, by_relation}
 use Rattle.djq_store_spec.specs.Rows.{copies_of}
 use Rattle.djq_store_spec.specs.Held.{HeldLine}
 use Rattle.djq_store_spec.specs.Lines.{same_row, copies_before, copies_after, after_verb, line_comes, line_goes, relations_after}
 use Rattle.djq_store_spec.specs.Judging.{refusal_by, row_refusal, texts_refusal, texts_after, line_refusal, refused_at}
-use Rattle.djq_store_spec.specs.Judging.{refusal_behind, lines_refusal}
+use Rattle.djq_store_spec.specs.Judging.{refusal_behind}
 use Rattle.djq_store_spec.specs.Done.{has_changed, rows_changed}
-use Rattle.djq_store_spec.specs.Transaction.{HaveCopies, first_read, DoesAll, SuitAll}
+use Rattle.djq_store_spec.specs.Transaction.{first_read, DoesAll, SuitAll}
 use Rattle.djq_answer_laws.proofs.Lists.{some_one, nothing_there, first_or_later}
 use Rattle.djq_run_laws.specs.Copies.{LeavesCopies, lines_leave, has_turned, LeavesLines}
 use Rattle.djq_run_laws.specs.Sound.{IsSoundStore}
@@ -35,7 +33,7 @@ use Rattle.djq_run_laws.proofs.Lists.{any_there, found_passes}
 use Rattle.djq_run_laws.proofs.DoneLines.{rows_rest, rows_unchanged, changed_named}
 use Rattle.djq_run_laws.proofs.Batches.{not_refused}
 use Rattle.djq_run_laws.proofs.Copies.{lines_leave_copies}
-use Rattle.djq_abstract.specs.Rows.{Database, is_present, ReadsRelation, RowEdit, copies_set, edited, all_edited}
+use Rattle.djq_abstract.specs.Rows.{Database, is_present, ReadsRelation, copies_set, edited, all_edited}
 use Rattle.djq_abstract.specs.Rows.{IsRowChanged, AreRowsChanged, IsAffected}
 use Rattle.djq_abstract.proofs.Names.{same_name, eq_self}
 use Rattle.djq_refinement.specs.View.{database_of, inserts_row, line_edit}
@@ -93,68 +91,68 @@ reads_back (a_union name qs) n r =
 -- ---- one row
 
 module _ (old new : Store) (name : Bytes) (row : Tuple) (n : ℕ) (counted : Bool) (h : LeavesCopies old name row n counted new)
-    where
-  -- another row has as many copies as before
-  other_copies : (r : Bytes) (t : Tuple) → (bytes_eq name r && tuple_eq row t) ≡ false
-      → database_of new.relations r t ≡ database_of old.relations r t
-  other_copies r t e = h.others r t (ap (λ b. b && tuple_eq row t) (both_ways r name) ∙ e)
+  where
+    -- another row has as many copies as before
+    other_copies : (r : Bytes) (t : Tuple) → (bytes_eq name r && tuple_eq row t) ≡ false
+        → database_of new.relations r t ≡ database_of old.relations r t
+    other_copies r t e = h.others r t (ap (λ b. b && tuple_eq row t) (both_ways r name) ∙ e)
 
-  pub set_seen : (m : ℕ) → m ≡ n
-      → copies_set (database_of old.relations) name row m ≡ database_of new.relations
-  set_seen m is = λ i. λ r. λ t. each r t i
-    where
-      each : (r : Bytes) (t : Tuple) → copies_set (database_of old.relations) name row m r t
-          ≡ database_of new.relations r t
-      each r t = by (bytes_eq name r && tuple_eq row t) refl
-        where
-          by : (b : Bool) → (bytes_eq name r && tuple_eq row t) ≡ b → cond b m (database_of old.relations r t)
-              ≡ database_of new.relations r t
-          by true e =
-              let both = and_parts (bytes_eq name r) (tuple_eq row t) e in
-              is ∙ sym h.row_has ∙ ap₂ (λ (a : Bytes) (u : Tuple). database_of new.relations a u)
-              (same_name name r both.0) ((tuple_eq-decides row t).0 both.1)
-          by false e = sym (other_copies r t e)
+    pub set_seen : (m : ℕ) → m ≡ n
+        → copies_set (database_of old.relations) name row m ≡ database_of new.relations
+    set_seen m is = λ i. λ r. λ t. each r t i
+      where
+        each : (r : Bytes) (t : Tuple) → copies_set (database_of old.relations) name row m r t
+            ≡ database_of new.relations r t
+        each r t = by (bytes_eq name r && tuple_eq row t) refl
+          where
+            by : (b : Bool) → (bytes_eq name r && tuple_eq row t) ≡ b → cond b m (database_of old.relations r t)
+                ≡ database_of new.relations r t
+            by true e =
+                let both = and_parts (bytes_eq name r) (tuple_eq row t) e in
+                is ∙ sym h.row_has ∙ ap₂ (λ (a : Bytes) (u : Tuple). database_of new.relations a u)
+                (same_name name r both.0) ((tuple_eq-decides row t).0 both.1)
+            by false e = sym (other_copies r t e)
 
-  -- only this row may change
-  pub changed_row : (r : Bytes) (t : Tuple)
-      → IsRowChanged (database_of old.relations) (database_of new.relations) r t → name ≡ r
-  changed_row r t c = by (bytes_eq name r && tuple_eq row t) refl
-    where
-      by : (b : Bool) → (bytes_eq name r && tuple_eq row t) ≡ b → name ≡ r
-      by true e = same_name name r (and_parts (bytes_eq name r) (tuple_eq row t) e).0
-      by false e = absurd (c (ap (λ k. nat_lt 0 k) (sym (other_copies r t e))))
+    -- only this row may change
+    pub changed_row : (r : Bytes) (t : Tuple)
+        → IsRowChanged (database_of old.relations) (database_of new.relations) r t → name ≡ r
+    changed_row r t c = by (bytes_eq name r && tuple_eq row t) refl
+      where
+        by : (b : Bool) → (bytes_eq name r && tuple_eq row t) ≡ b → name ≡ r
+        by true e = same_name name r (and_parts (bytes_eq name r) (tuple_eq row t) e).0
+        by false e = absurd (c (ap (λ k. nat_lt 0 k) (sym (other_copies r t e))))
 
-  -- where it is present as before, none does
-  pub unchanged_rows : nat_lt 0 (copies_of old name row) ≡ nat_lt 0 n → (r : Bytes) (t : Tuple)
-      → is_present (database_of old.relations) r t ≡ is_present (database_of new.relations) r t
-  unchanged_rows same r t = by (bytes_eq name r && tuple_eq row t) refl
-    where
-      by : (b : Bool) → (bytes_eq name r && tuple_eq row t) ≡ b
-          → is_present (database_of old.relations) r t ≡ is_present (database_of new.relations) r t
-      by true e =
-          let both = and_parts (bytes_eq name r) (tuple_eq row t) e in
-          let relation = same_name name r both.0 in
-          let tuple = (tuple_eq-decides row t).0 both.1 in
-          ap₂ (λ (a : Bytes) (u : Tuple). is_present (database_of old.relations) a u) (sym relation) (sym tuple)
-          ∙ same ∙ ap (λ k. nat_lt 0 k) (sym h.row_has)
-          ∙ ap₂ (λ (a : Bytes) (u : Tuple). is_present (database_of new.relations) a u) relation tuple
-      by false e = ap (λ k. nat_lt 0 k) (sym (other_copies r t e))
+    -- where it is present as before, none does
+    pub unchanged_rows : nat_lt 0 (copies_of old name row) ≡ nat_lt 0 n → (r : Bytes) (t : Tuple)
+        → is_present (database_of old.relations) r t ≡ is_present (database_of new.relations) r t
+    unchanged_rows same r t = by (bytes_eq name r && tuple_eq row t) refl
+      where
+        by : (b : Bool) → (bytes_eq name r && tuple_eq row t) ≡ b
+            → is_present (database_of old.relations) r t ≡ is_present (database_of new.relations) r t
+        by true e =
+            let both = and_parts (bytes_eq name r) (tuple_eq row t) e in
+            let relation = same_name name r both.0 in
+            let tuple = (tuple_eq-decides row t).0 both.1 in
+            ap₂ (λ (a : Bytes) (u : Tuple). is_present (database_of old.relations) a u) (sym relation) (sym tuple)
+            ∙ same ∙ ap (λ k. nat_lt 0 k) (sym h.row_has)
+            ∙ ap₂ (λ (a : Bytes) (u : Tuple). is_present (database_of new.relations) a u) relation tuple
+        by false e = ap (λ k. nat_lt 0 k) (sym (other_copies r t e))
 
-  -- where it isn't, it does, and the queries that read its relation are affected
-  module _ (turned : nat_lt 0 (copies_of old name row) ≢ nat_lt 0 n) where
-    row_changed : IsRowChanged (database_of old.relations) (database_of new.relations) name row
-    row_changed same = turned (same ∙ ap (λ k. nat_lt 0 k) h.row_has)
+    -- where it isn't, it does, and the queries that read its relation are affected
+    module _ (turned : nat_lt 0 (copies_of old name row) ≢ nat_lt 0 n) where
+      row_changed : IsRowChanged (database_of old.relations) (database_of new.relations) name row
+      row_changed same = turned (same ∙ ap (λ k. nat_lt 0 k) h.row_has)
 
-    pub rows_changed_by : AreRowsChanged (database_of old.relations) (database_of new.relations)
-    rows_changed_by = (name, row, row_changed)
+      pub rows_changed_by : AreRowsChanged (database_of old.relations) (database_of new.relations)
+      rows_changed_by = (name, row, row_changed)
 
-    pub affects_by : (q : Listed) → (is_some (by_relation name q) ≡ true)
-        ↔ IsAffected (database_of old.relations) (database_of new.relations) q
-    affects_by q = (
-      λ e. (name, row, reads_seen q name (sym (some_if (listed_reads q name) name) ∙ e), row_changed),
-      λ a. some_if (listed_reads q name) name ∙ reads_back q name
-          (subst (λ (r : Bytes). ReadsRelation q r) (sym (changed_row a.0 a.1 a.3)) a.2),
-    )
+      pub affects_by : (q : Listed) → (is_some (by_relation name q) ≡ true)
+          ↔ IsAffected (database_of old.relations) (database_of new.relations) q
+      affects_by q = (
+        λ e. (name, row, reads_seen q name (sym (some_if (listed_reads q name) name) ∙ e), row_changed),
+        λ a. some_if (listed_reads q name) name ∙ reads_back q name
+            (subst (λ (r : Bytes). ReadsRelation q r) (sym (changed_row a.0 a.1 a.3)) a.2),
+      )
 
 -- ---- lines
 
@@ -340,8 +338,7 @@ module _ (old : Store) (sound : IsSoundStore old) (lines : List HeldLine) (suit 
       by : (b : Bool) → list_any (has_turned old new) lines ≡ b
           → AreRowsChanged (database_of old.relations) (database_of new.relations)
       by true e =
-          let f = some_one (λ h. has_turned old new h ≡ true) lines (Any-from_list_any (has_turned old new) lines e) in
-          (
+          let f = some_one (λ h. has_turned old new h ≡ true) lines (Any-from_list_any (has_turned old new) lines e) in (
             (f.0).relation,
             (f.0).row,
             turned_differ (copies_of old (f.0).relation (f.0).row) (copies_of new (f.0).relation (f.0).row) f.2,
@@ -371,8 +368,7 @@ module _ (old : Store) (sound : IsSoundStore old) (lines : List HeldLine) (suit 
           (Any-from_list_any (λ (h : HeldLine). bytes_eq h.relation f.0
           && (line_comes old.relations lines h || line_goes old.relations lines h)) lines both.0) in
           let parts = and_parts (bytes_eq (g.0).relation f.0)
-          (line_comes old.relations lines g.0 || line_goes old.relations lines g.0) g.2 in
-          (
+          (line_comes old.relations lines g.0 || line_goes old.relations lines g.0) g.2 in (
             (g.0).relation,
             (g.0).row,
             reads_seen q (g.0).relation (ap (λ n. listed_reads q n) (same_name (g.0).relation f.0 parts.0) ∙ both.1),

@@ -5,25 +5,22 @@ use Rattle.std.proofs.Common.{refl, sym, ap, ◌∙◌, subst, inl, inr, arith}
 use Rattle.std.proofs.lemmas.Bool.{eqb-true}
 use Rattle.std.proofs.lemmas.List.Elements.{All-head, All-tail}
 use Rattle.djq_model.specs.Data.{Bytes}
-use Rattle.djq_model.specs.Listed.{Listed}
 use Rattle.djq_protocol.specs.declared.answer.EndCause.{EndCause}
-use Rattle.djq_protocol.specs.declared.answer.EndCause.TheVariants.{Input, Memory, Long, Slow}
+use Rattle.djq_protocol.specs.declared.answer.EndCause.TheVariants.{Input, Memory}
 use Rattle.djq_protocol.specs.declared.limits.TheConstants.{SESSIONS}
-use Rattle.djq_protocol.specs.Reply.{end_memory, end_long, end_slow, cut_line}
+use Rattle.djq_protocol.specs.Reply.{end_memory, cut_line}
 use Rattle.djq_machine.specs.State.{Session, State, fresh, session_of, with_session, ended_by}
 use Rattle.djq_machine.specs.Effect.{Effect, nothing, says_any, lost_line, EndsWith}
-use Rattle.djq_machine.specs.LineStep.{LineOutcome, long, blank, slow, no_room, run, behind_line}
-use Rattle.djq_machine.specs.Step.{Event, opened, fed, stepped, took, ended, closed, FedStep, TookStep, EndedStep, Acts}
+use Rattle.djq_machine.specs.Step.{Event, opened, fed, took, ended, closed, FedStep, TookStep, EndedStep, Acts}
 use Rattle.djq_run_laws.specs.Watched.{parts_for}
 use Rattle.djq_run_laws.proofs.Lists.{some_there, find_front, find_last}
 use Rattle.djq_run_laws.proofs.Events.{gone_same, others_stay}
-use Rattle.djq_abstract.specs.Clients.{Client, Core, nobody, with_client, CoreEvent, connects, disconnects, only_sent}
+use Rattle.djq_abstract.specs.Clients.{Client, nobody, with_client, connects, disconnects, only_sent}
 use Rattle.djq_abstract.specs.Clients.{CoreMessage}
-use Rattle.djq_abstract.specs.Histories.{Happening}
 use Rattle.djq_refinement.specs.View.{client_by, client_in, core_of}
 use Rattle.djq_refinement.specs.Spelling.{AreSpelled}
 use Rattle.djq_refinement.specs.Refinement.{AreCoreEvents, SpellsBy}
-use Rattle.djq_refinement.proofs.Clients.{core_path, core_with, core_same, core_ended, by_pending, by_held, is_connected}
+use Rattle.djq_refinement.proofs.Clients.{core_path, core_same, core_ended, by_pending, by_held, is_connected}
 use Rattle.djq_refinement.proofs.Clients.{parts_other, other_id, same_id, Going, goes_silent, goes_away}
 
 -- What an event is for the core, before its bytes are queued.

@@ -1,5 +1,5 @@
 -- The core's two promises, of runs of the machine.
-use Rattle.std.specs.Prelude.{ℕ, List, [], ◌∷◌, ◌++◌, ◌==◌, ◌≡◌, ◌⊎◌, Bool, true, false, cond, Option, None, Some, IsSomeAnd, map}
+use Rattle.std.specs.Prelude.{ℕ, List, [], ◌∷◌, ◌++◌, ◌≡◌, ◌⊎◌, true, Option, None, Some, IsSomeAnd, map}
 use Rattle.std.proofs.Common.{refl, sym, ap, ◌∙◌, subst, inl, inr}
 use Rattle.std.proofs.lemmas.List.Elements.{All-weaker}
 use Rattle.djq_model.specs.Data.{Bytes, Tuple}
@@ -7,27 +7,25 @@ use Rattle.djq_model.specs.Answer.{IsListing}
 use Rattle.djq_model.specs.Listed.{Listed, listed_name, AnswersOf, listed_of}
 use Rattle.djq_protocol.specs.declared.answer.EndCause.{EndCause}
 use Rattle.djq_protocol.specs.Grammar.{reading_of}
-use Rattle.djq_store_spec.specs.Store.{Store}
 use Rattle.djq_answer_laws.proofs.Lists.{some_as}
 use Rattle.djq_machine.specs.State.{Session, State, session_of}
 use Rattle.djq_machine.specs.LineStep.{LineOutcome, long, blank, slow, no_room, run}
 use Rattle.djq_machine.specs.Step.{Event, opened, fed, stepped, took, ended, closed, Step}
-use Rattle.djq_machine.specs.Run.{Did, Run, Walk}
+use Rattle.djq_machine.specs.Run.{Did, Run}
 use Rattle.djq_machine.specs.Watch.{is_watching}
 use Rattle.djq_machine.proofs.Relations.{walk_as}
 use Rattle.djq_run_laws.specs.Sound.{IsSoundStore, IsSoundState, IsStart}
 use Rattle.djq_run_laws.specs.Watched.{IsWatcher, WatchesStep, WatchesAlong, parts_for, parts_to}
 use Rattle.djq_run_laws.proofs.SoundStates.{step_sound, start_sound, runs_keep_sound}
 use Rattle.djq_abstract.specs.Rows.{AnswersOver}
-use Rattle.djq_abstract.specs.Clients.{Client, Core, nobody, with_client, only_sent, CoreCommand, CoreMessage, valid, CoreEvent, connects, disconnects, says, Sent}
-use Rattle.djq_abstract.specs.Moves.{CoreStep}
+use Rattle.djq_abstract.specs.Clients.{Core, CoreCommand, CoreEvent, connects, disconnects, says}
 use Rattle.djq_abstract.specs.Histories.{Happening, state_after, CoreRun, HasNobody, IsReached, IsSubscribedAlong, all_sent}
 use Rattle.djq_abstract.specs.Histories.{deltas_applied}
 use Rattle.djq_abstract.proofs.Sound.{finished_cursors_listed}
 use Rattle.djq_abstract.proofs.Live.{subscribers_have_answers}
-use Rattle.djq_refinement.specs.View.{database_of, client_by, client_in, core_of, core_reading}
-use Rattle.djq_refinement.specs.Spelling.{Spells, AreSpelled}
-use Rattle.djq_refinement.specs.Refinement.{AreOfLine, AreOfFront, AreCoreEvents, SpellsBy, IsSpelled, HasAnswers}
+use Rattle.djq_refinement.specs.View.{client_by, client_in, core_of, core_reading}
+use Rattle.djq_refinement.specs.Spelling.{AreSpelled}
+use Rattle.djq_refinement.specs.Refinement.{AreOfLine, AreOfFront, AreCoreEvents, SpellsBy, IsSpelled}
 use Rattle.djq_refinement.specs.Refinement.{MachineFinishedListed, MachineSubscribersHaveAnswers}
 use Rattle.djq_refinement.proofs.Stores.{answer_seen, answer_back, own_names}
 use Rattle.djq_refinement.proofs.Steps.{machine_refines_core}

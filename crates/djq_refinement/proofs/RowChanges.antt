@@ -1,12 +1,12 @@
 -- `add`, `del` and `done` change rows as the core does, and send what it sends.
-use Rattle.std.specs.Prelude.{ℕ, zero, suc, List, [], ◌∷◌, ◌++◌, ◌+◌, ◌-◌, ◌==◌, ◌≡◌, ◌≢◌, ◌⊎◌, ◌↔◌, ◌&&◌, ◌<◌, Bool, true, false}
-use Rattle.std.specs.Prelude.{cond, nat_lt, Option, None, Some, is_some, IsSome, IsSomeAnd, IfSome, MatchOption, Result, Ok, Err}
+use Rattle.std.specs.Prelude.{ℕ, zero, suc, List, [], ◌∷◌, ◌++◌, ◌+◌, ◌-◌, ◌==◌, ◌≡◌, ◌⊎◌, ◌<◌, Bool, true, false}
+use Rattle.std.specs.Prelude.{cond, nat_lt, Option, None, Some, IsSome, IfSome, Result, Ok, Err}
 use Rattle.std.specs.Prelude.{AllPairs, filter, map, codes}
 use Rattle.std.specs.Option.{option_map, option_and_then}
 use Rattle.std.proofs.Common.{refl, sym, ap, ap₂, ◌∙◌, subst, inl, inr, arith, append-nil}
 use Rattle.std.proofs.lemmas.Bool.{eqb-true, lt-ltb, le-ltb}
 use Rattle.djq_model.specs.Data.{Bytes, Tuple, rows_of, has_row}
-use Rattle.djq_model.specs.Listed.{Listed, listed_name}
+use Rattle.djq_model.specs.Listed.{listed_name}
 use Rattle.djq_model.specs.Known.{texts_in}
 use Rattle.djq_protocol.specs.declared.answer.EndCause.{EndCause}
 use Rattle.djq_protocol.specs.declared.answer.Refusal.{Refusal}
@@ -26,17 +26,16 @@ use Rattle.djq_protocol.specs.Reply.{numbered_line, numbered_twice, refusal_line
 use Rattle.djq_store_spec.specs.Store.{Store}
 use Rattle.djq_store_spec.specs.Relations.{RefusedByTexts}
 use Rattle.djq_store_spec.specs.Rows.{copies_of, add_refusal, AddsAs, AddsRow, delete_refusal, DeletesAs, DeletesRow}
-use Rattle.djq_store_spec.specs.Changes.{RowsChange, RowsOutcome, accepted as is_accepted, out_of_memory, unchanged}
-use Rattle.djq_store_spec.specs.Changes.{row_in, row_out, add_outcome, delete_outcome, is_made, tried, is_outdated}
+use Rattle.djq_store_spec.specs.Changes.{RowsChange, accepted as is_accepted, unchanged}
+use Rattle.djq_store_spec.specs.Changes.{row_in, row_out, add_outcome, delete_outcome, is_made, tried}
 use Rattle.djq_store_spec.specs.Held.{HeldLine, HeldTransaction}
-use Rattle.djq_store_spec.specs.Done.{rows_changed, seq_after}
+use Rattle.djq_store_spec.specs.Done.{rows_changed}
 use Rattle.djq_store_spec.specs.Transaction.{SuitAll, DoesAll, lines_change, lines_outcome}
-use Rattle.djq_machine.specs.State.{Session, State, session_of, with_session, state_ids}
+use Rattle.djq_machine.specs.State.{Session, State, session_of, with_session}
 use Rattle.djq_machine.specs.Effect.{Effect}
 use Rattle.djq_machine.specs.Outdating.{changed}
 use Rattle.djq_machine.specs.Watch.{ChangeStep}
 use Rattle.djq_machine.specs.Command.{without_batch, AddStep, DeleteStep, DoneStep}
-use Rattle.djq_run_laws.specs.Copies.{LeavesCopies}
 use Rattle.djq_run_laws.specs.Form.{LearnsTexts}
 use Rattle.djq_run_laws.specs.Rising.{AreRising}
 use Rattle.djq_run_laws.specs.Sound.{IsSoundStore, IsSoundSession, IsSoundBatch}
@@ -47,16 +46,14 @@ use Rattle.djq_run_laws.proofs.Forms.{done_of, refused_learned, late_learned}
 use Rattle.djq_run_laws.proofs.Deltas.{change_store}
 use Rattle.djq_run_laws.proofs.Sessions.{changed_ids}
 use Rattle.djq_run_laws.proofs.SoundStates.{AreKept}
-use Rattle.djq_abstract.specs.Rows.{Database, is_present, RowEdit, copies_set, all_edited, IsRowChanged, AreRowsChanged}
-use Rattle.djq_abstract.specs.Rows.{IsAffected}
+use Rattle.djq_abstract.specs.Rows.{Database, is_present, RowEdit, copies_set, all_edited}
 use Rattle.djq_abstract.specs.Clients.{Client, Core, nobody, with_client, client_overtaken, CoreCommand, edit, done}
-use Rattle.djq_abstract.specs.Clients.{CoreMessage, ok, refused, delta, says, Sent, only_sent}
-use Rattle.djq_abstract.specs.Moves.{StaysConnected, ChangesDatabase, Edits, Accepts, client_refused, RefusesCommand}
-use Rattle.djq_abstract.specs.Histories.{Happening}
+use Rattle.djq_abstract.specs.Clients.{ok, refused, delta, says, Sent, only_sent}
+use Rattle.djq_abstract.specs.Moves.{StaysConnected, ChangesDatabase, Edits, Accepts, client_refused}
 use Rattle.djq_refinement.specs.View.{database_of, client_by, client_in, core_of, core_reading, line_edits}
 use Rattle.djq_refinement.specs.Spelling.{Spells, AreSpelled, AcceptsEdit}
 use Rattle.djq_refinement.specs.Refinement.{AreOfLine}
-use Rattle.djq_refinement.proofs.Clients.{core_path, core_with, sent_path, with_same, is_connected, LineGoes, line_says}
+use Rattle.djq_refinement.proofs.Clients.{core_path, core_with, with_same, is_connected, LineGoes, line_says}
 use Rattle.djq_refinement.proofs.Commands.{stays_client, may_refuse, author, is_author, accepted, sound_session}
 use Rattle.djq_refinement.proofs.Commands.{no_batch, some_batch}
 use Rattle.djq_refinement.proofs.Stores.{present_row}
@@ -161,15 +158,18 @@ module _ (old : State) (kept : AreKept old) (rising : AreRising old) (s : ℕ) (
       → database_of store.relations ≡ (core_of old).db → store.queries ≡ old.store.queries → store.seq ≡ old.store.seq
       → IsQuietChange base s o store reply e new → Spells s r (core_of old) (core_of new) refused reply → LineGoes old s r e new
   refused_change base r c o store reply e new is before db queries seq quiet spelled =
-      line_says old s r e new c refused reply is (connected, inr (record {
-        message = refused;
-        may = may_refuse c;
-        is_sent = refl;
-        affected = stales o;
-        becomes = ap core_of quiet.state ∙ core_path (core_of (changed base o store)) (record (core_of old) {
-          client = λ t. client_overtaken (stales o) (cond (t == s) (client_refused c me) ((core_of old).client t));
-        }) (λ n row. ap (λ (d : Database). d n row) db) queries seq (λ t. by o t);
-      })) quiet.queued spelled
+      line_says old s r e new c refused reply is (
+        connected,
+        inr (record {
+          message = refused;
+          may = may_refuse c;
+          is_sent = refl;
+          affected = stales o;
+          becomes = ap core_of quiet.state ∙ core_path (core_of (changed base o store)) (record (core_of old) {
+            client = λ t. client_overtaken (stales o) (cond (t == s) (client_refused c me) ((core_of old).client t));
+          }) (λ n row. ap (λ (d : Database). d n row) db) queries seq (λ t. by o t);
+        }),
+      ) quiet.queued spelled
     where
       stales : Option RowsChange → Bytes → Bool
       stales None n = false

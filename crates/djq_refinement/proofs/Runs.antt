@@ -2,13 +2,12 @@
 use Rattle.std.specs.Prelude.{ℕ, List, [], ◌∷◌, ◌++◌, ◌==◌, ◌≡◌, ◌<◌, Bool, true, false, Option, None, Some, IsSome, IsSomeAnd}
 use Rattle.std.specs.Prelude.{All, map, flat_map, filter, cond}
 use Rattle.std.proofs.lemmas.Grind.{flat_map-append}
-use Rattle.std.proofs.Common.{refl, sym, ap, ap₂, ◌∙◌, subst, inl, inr, arith, append_assoc}
+use Rattle.std.proofs.Common.{refl, sym, ap, ap₂, ◌∙◌, subst, arith, append_assoc}
 use Rattle.std.proofs.lemmas.List.{map-append}
 use Rattle.std.proofs.lemmas.List.Elements.{All-head, All-tail, All-contains}
 use Rattle.std.proofs.lemmas.Bool.{eqb-true}
 use Rattle.djq_model.specs.Data.{Bytes}
 use Rattle.djq_protocol.specs.declared.answer.EndCause.{EndCause}
-use Rattle.djq_protocol.specs.Grammar.{Reading}
 use Rattle.djq_machine.specs.State.{Session, State, session_of}
 use Rattle.djq_machine.specs.Effect.{Effect}
 use Rattle.djq_machine.specs.Step.{Event, opened, fed, stepped, took, ended, closed, Step}
@@ -24,11 +23,11 @@ use Rattle.djq_run_laws.proofs.EndedSessions.{step_over}
 use Rattle.djq_run_laws.proofs.Events.{step_open, next_runs}
 use Rattle.djq_run_laws.proofs.Courses.{walk_of}
 use Rattle.djq_run_laws.proofs.SoundStates.{step_sound, start_sound}
-use Rattle.djq_abstract.specs.Clients.{Core, CoreMessage, CoreEvent}
+use Rattle.djq_abstract.specs.Clients.{Core, CoreMessage}
 use Rattle.djq_abstract.specs.Histories.{Happening, state_after, CoreRun, all_sent}
 use Rattle.djq_refinement.specs.View.{client_by, client_in, core_of}
-use Rattle.djq_refinement.specs.Spelling.{Spells, AreSpelled}
-use Rattle.djq_refinement.specs.Refinement.{SpellsBy, RefinesStep, AreRunEvents, IsSpelled, RefinesRun, RunsRefineCore}
+use Rattle.djq_refinement.specs.Spelling.{AreSpelled}
+use Rattle.djq_refinement.specs.Refinement.{SpellsBy, RefinesStep, IsSpelled, RunsRefineCore}
 use Rattle.djq_refinement.specs.Refinement.{AreAllBytes, CoursesRefineCore}
 use Rattle.djq_refinement.proofs.Steps.{machine_refines_core}
 use Rattle.djq_refinement.proofs.AcceptedChanges.{spelled_append}

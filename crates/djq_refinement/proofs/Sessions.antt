@@ -1,15 +1,15 @@
 -- What the core sees of a session's cursors, watches and batch, as its commands change them.
-use Rattle.std.specs.Prelude.{ℕ, List, [], ◌∷◌, ◌++◌, ◌≡◌, ◌≢◌, ◌||◌, Bool, true, false, cond, Option, None, Some, find, map}
+use Rattle.std.specs.Prelude.{List, [], ◌∷◌, ◌++◌, ◌≡◌, ◌≢◌, ◌||◌, Bool, true, false, cond, Option, None, Some, map}
 use Rattle.std.specs.Prelude.{All, IsSomeAnd}
 use Rattle.std.specs.List.{list_any}
 use Rattle.std.specs.Option.{option_map}
 use Rattle.std.proofs.Common.{refl, sym, ap, ◌∙◌, subst, inl, inr}
-use Rattle.std.proofs.lemmas.Bool.{or_left, or_right, or_parts}
+use Rattle.std.proofs.lemmas.Bool.{or_left, or_right}
 use Rattle.std.proofs.lemmas.List.Elements.{All-head, All-tail}
-use Rattle.djq_model.specs.Data.{Bytes, Tuple, bytes_eq, change_first, drop_first}
+use Rattle.djq_model.specs.Data.{Bytes, Tuple, bytes_eq, drop_first}
 use Rattle.djq_protocol.specs.declared.answer.EndCause.{EndCause}
 use Rattle.djq_store_spec.specs.Store.{Position, open_at, stale as stale_since}
-use Rattle.djq_answer_laws.proofs.Lists.{pairs_head, pairs_tail, some_there}
+use Rattle.djq_answer_laws.proofs.Lists.{pairs_head, pairs_tail}
 use Rattle.djq_machine.specs.State.{Cursor, Session, cursor_of, with_position}
 use Rattle.djq_machine.specs.Watch.{is_watching}
 use Rattle.djq_machine.specs.Command.{uses, with_cursor, with_watch, without_watch}
@@ -17,7 +17,7 @@ use Rattle.djq_run_laws.specs.Sound.{AreApart}
 use Rattle.djq_run_laws.specs.Form.{without_cursor}
 use Rattle.djq_run_laws.proofs.Lists.{find_changed, find_other, find_dropped, find_front, find_last, dropped_gone, has_other}
 use Rattle.djq_run_laws.proofs.Lists.{found_there, any_there}
-use Rattle.djq_abstract.specs.Clients.{CursorState, valid, stale, query_of_cursor, Client, nobody, client_with_cursor}
+use Rattle.djq_abstract.specs.Clients.{CursorState, valid, query_of_cursor, client_with_cursor}
 use Rattle.djq_abstract.specs.Clients.{with_subscription, UsesQuery}
 use Rattle.djq_abstract.proofs.Names.{same_name, eq_self}
 use Rattle.djq_refinement.specs.View.{cursor_state, cursor_seen, line_edits, client_by}

@@ -17,9 +17,8 @@ use Rattle.djq_protocol.specs.declared.command.Command.TheVariants.{Shape as Ask
 use Rattle.djq_protocol.specs.Grammar.{Reading, outside, past_limit, says_command, reading_of, reading_in, command_of}
 use Rattle.djq_protocol.specs.Grammar.{is_in_range, takes_memory_to_read}
 use Rattle.djq_protocol.specs.Reply.{refusal_line, end_memory, end_long, end_slow, bye}
-use Rattle.djq_store_spec.specs.Store.{Store}
 use Rattle.djq_store_spec.specs.Held.{HeldTransaction}
-use Rattle.djq_machine.specs.State.{Session, State, session_of, with_session, ended_by}
+use Rattle.djq_machine.specs.State.{Session, State, session_of, with_session}
 use Rattle.djq_machine.specs.Effect.{Effect, lost_line, EndsWith, RefusedStep, queue_all}
 use Rattle.djq_machine.specs.Command.{CommandStep, is_misplaced, AddStep, DeleteStep, DoneStep, HoldStep}
 use Rattle.djq_machine.specs.LineStep.{LineOutcome, long, blank, slow, no_room, run, past_limit_refusal, ReadStep}
@@ -33,13 +32,13 @@ use Rattle.djq_run_laws.proofs.Sessions.{changed_ids}
 use Rattle.djq_run_laws.proofs.Lists.{some_there, session_changed}
 use Rattle.djq_run_laws.proofs.Deltas.{queued_store}
 use Rattle.djq_run_laws.proofs.SoundStates.{AreKept, without_line_kept, step_sound}
-use Rattle.djq_abstract.specs.Clients.{Client, Core, CoreCommand, edit, batch, done, abandon, register, drop}
-use Rattle.djq_abstract.specs.Clients.{open_cursor, next, close, has, subscribe, unsubscribe, ask, refused, replied}
+use Rattle.djq_abstract.specs.Clients.{Client, Core, CoreCommand, done}
+use Rattle.djq_abstract.specs.Clients.{ask, refused, replied}
 use Rattle.djq_abstract.specs.Moves.{client_refused}
 use Rattle.djq_refinement.specs.View.{client_by, core_of, core_command, core_reading, line_edits}
-use Rattle.djq_refinement.specs.Spelling.{Spells, IsRefusing, IsRefusalLine}
-use Rattle.djq_refinement.specs.Refinement.{AreCoreEvents, AreOfLine, SpellsBy, RefinesStep, MachineRefinesCore}
-use Rattle.djq_refinement.proofs.Clients.{core_path, core_same, core_queued, by_held, going_client, Going, goes_from}
+use Rattle.djq_refinement.specs.Spelling.{Spells, IsRefusing}
+use Rattle.djq_refinement.specs.Refinement.{AreCoreEvents, SpellsBy, MachineRefinesCore}
+use Rattle.djq_refinement.proofs.Clients.{core_path, core_same, core_queued, by_held, goes_from}
 use Rattle.djq_refinement.proofs.Clients.{goes_silent, LineGoes, line_ends}
 use Rattle.djq_refinement.proofs.Events.{EventGoes, open_goes, fed_goes, took_goes, input_goes, closed_goes, ends_goes}
 use Rattle.djq_refinement.proofs.Stores.{reordered_copies}

@@ -1,16 +1,15 @@
 -- What the core sees of a store: rows with their copies, answers, and what is registered.
-use Rattle.std.specs.Prelude.{ℕ, List, [], ◌∷◌, ◌++◌, ◌≡◌, ◌≢◌, ◌<◌, ◌≤◌, Bool, true, false, not, cond, Option, None, Some}
-use Rattle.std.specs.Prelude.{nat_le, nat_lt, All, AllPairs, Any, Contains, map, filter, length, slice_index_or, IsPermutation}
-use Rattle.std.proofs.Common.{refl, sym, ap, ap₂, ◌∙◌, subst, arith, inl, inr}
-use Rattle.std.proofs.lemmas.Bool.{le-leb, lt-leb, lt-ltb, le-ltb, leb-true, leb-false}
-use Rattle.std.proofs.lemmas.List.Elements.{All-nil, All-cons, All-head, All-tail, All-contains_itself, All-weaker}
+use Rattle.std.specs.Prelude.{ℕ, List, [], ◌∷◌, ◌++◌, ◌≡◌, ◌≢◌, Bool, true, false, not, cond, Option, None, Some}
+use Rattle.std.specs.Prelude.{nat_le, nat_lt, All, map, filter}
+use Rattle.std.proofs.Common.{refl, sym, ap, ap₂, ◌∙◌, subst, arith}
+use Rattle.std.proofs.lemmas.Bool.{lt-ltb, le-ltb, leb-true, leb-false}
+use Rattle.std.proofs.lemmas.List.Elements.{All-nil, All-cons, All-head, All-tail, All-weaker}
 use Rattle.djq_model.specs.declared.relation.Relation.{Relation}
 use Rattle.djq_model.specs.declared.query.Query.{Query}
-use Rattle.djq_model.specs.declared.query.Atom.{Atom}
 use Rattle.djq_model.specs.Data.{Bytes, Tuple, bytes_eq, relation_of, rows_of, counted_of, counted_in, copies_among, has_row}
 use Rattle.djq_model.specs.Data.{drop_first, plain_of}
 use Rattle.djq_model.specs.Answer.{AreDifferent, Satisfies, IsAnswer}
-use Rattle.djq_model.specs.Listed.{Listed, a_query, a_union, listed_name, queries_of, listed_of, AnswersOf}
+use Rattle.djq_model.specs.Listed.{Listed, a_query, a_union, listed_name, listed_of, AnswersOf}
 use Rattle.djq_model.proofs.Copies.{copies_moved}
 use Rattle.djq_protocol.specs.Hypergraph.{edges_of, head_of}
 use Rattle.djq_hypergraph.specs.JoinTree.{IsFreeConnex}
@@ -22,7 +21,7 @@ use Rattle.djq_run_laws.specs.Sound.{AreApart, IsSoundRelation, IsSoundStore, Is
 use Rattle.djq_run_laws.proofs.Lists.{all_found, nothing_apart}
 use Rattle.djq_run_laws.proofs.Copies.{rows_have_copies}
 use Rattle.djq_run_laws.proofs.RegisteredQueries.{under_registered}
-use Rattle.djq_abstract.specs.Rows.{Database, is_present, Matches, IsAnswerOver, AnswersOver}
+use Rattle.djq_abstract.specs.Rows.{is_present, Matches, IsAnswerOver, AnswersOver}
 use Rattle.djq_abstract.specs.Clients.{IsAdmitted, HaveOwnNames}
 use Rattle.djq_abstract.proofs.Names.{same_name}
 use Rattle.djq_refinement.specs.View.{database_of, query_under, queries_under}

@@ -1,7 +1,7 @@
 -- What a change of rows queues to one session: the deltas of the queries that it watches, in order, and its reply; or
 -- the session ends.
-use Rattle.std.specs.Prelude.{ℕ, List, [], ◌∷◌, ◌++◌, ◌==◌, ◌≡◌, ◌⊎◌, ◌<◌, ◌≤◌, Bool, true, false, cond, Option, None}
-use Rattle.std.specs.Prelude.{Some, MatchOption, IsSomeAnd, All, AllPairs, Contains, filter, map, length, find}
+use Rattle.std.specs.Prelude.{ℕ, List, [], ◌∷◌, ◌++◌, ◌==◌, ◌≡◌, ◌⊎◌, ◌<◌, Bool, true, false, cond, Option, None}
+use Rattle.std.specs.Prelude.{Some, MatchOption, All, AllPairs, Contains, filter, map}
 use Rattle.std.specs.List.{list_any}
 use Rattle.std.specs.Option.{option_map}
 use Rattle.std.proofs.Common.{refl, sym, ap, ◌∙◌, subst, inl, inr, arith, append-nil, append_assoc}
@@ -12,21 +12,20 @@ use Rattle.djq_model.specs.Data.{Bytes, bytes_eq}
 use Rattle.djq_model.specs.Listed.{listed_name}
 use Rattle.djq_protocol.specs.declared.answer.EndCause.{EndCause}
 use Rattle.djq_protocol.specs.declared.answer.EndCause.TheVariants.{Slow, Memory}
-use Rattle.djq_protocol.specs.declared.limits.TheConstants.{PENDING_BYTES}
 use Rattle.djq_protocol.specs.Reply.{text_of, end_memory, end_slow}
-use Rattle.djq_store_spec.specs.Delta.{Change, delta_lines, change_lines}
+use Rattle.djq_store_spec.specs.Delta.{delta_lines}
 use Rattle.djq_store_spec.specs.DeltaCost.{Delta}
-use Rattle.djq_answer_laws.proofs.Lists.{some_there, first_or_later, nothing_there, pairs_head, pairs_tail, mapped_there}
-use Rattle.djq_machine.specs.State.{Session, State, session_of, with_session, state_ids, ended_by}
+use Rattle.djq_answer_laws.proofs.Lists.{some_there, first_or_later, nothing_there, pairs_head, pairs_tail}
+use Rattle.djq_machine.specs.State.{Session, session_of, state_ids, ended_by}
 use Rattle.djq_machine.specs.Effect.{queue_all}
 use Rattle.djq_machine.specs.Run.{Walk, to_session}
 use Rattle.djq_machine.specs.Watch.{is_watching, Telling, says_more, ends_more, watching, watcher_of, TellsWatcher}
 use Rattle.djq_machine.specs.Watch.{TellsSession, TellsDelta, RepliesLast}
 use Rattle.djq_machine.proofs.Relations.{walk_keeps}
 use Rattle.djq_run_laws.specs.Watched.{parts_for}
-use Rattle.djq_run_laws.proofs.Lists.{gaining, queued_all, session_other, found_there, found_passes, delta_keeps}
+use Rattle.djq_run_laws.proofs.Lists.{gaining, queued_all, session_other, delta_keeps}
 use Rattle.djq_run_laws.proofs.Sessions.{changed_ids}
-use Rattle.djq_abstract.specs.Clients.{Client, nobody}
+use Rattle.djq_abstract.specs.Clients.{nobody}
 use Rattle.djq_refinement.specs.View.{client_in}
 use Rattle.djq_refinement.proofs.Clients.{client_with, same_id, other_id}
 

@@ -16,7 +16,7 @@ use Rattle.djq_run_laws.specs.Staying.{GoesOn}
 use Rattle.djq_run_laws.specs.Watched.{WatchesAlong, parts_for, parts_to}
 use Rattle.djq_abstract.specs.Clients.{Core, CoreCommand, CoreMessage, valid, CoreEvent, connects, disconnects, says}
 use Rattle.djq_abstract.specs.Histories.{Happening, state_after, CoreRun, deltas_applied, all_sent}
-use Rattle.djq_refinement.specs.View.{client_by, core_of, core_reading}
+use Rattle.djq_refinement.specs.View.{core_of, core_reading}
 use Rattle.djq_refinement.specs.Spelling.{Spells, AreSpelled}
 
 -- No event of the core, or one by which a session is disconnected.
@@ -49,9 +49,9 @@ abbrev pub SpellsBy : Event → (old new : Core) → CoreMessage → Bytes → T
 SpellsBy (stepped s (run l)) = Spells s (reading_of l)
 SpellsBy event = λ old new m text. ⊥
 
--- A step of the machine is a run of the core, of none of its steps or of one. To each session that goes on behind it
--- the messages are sent that are spelled by the texts queued to it; to one that didn't before it nothing is sent, and
--- nothing is queued.
+-- A step of the machine is a run of the core, of none of its steps or of one. Each session that goes on after it is
+-- sent the messages that the texts queued to it spell. One that didn't go on before it is sent nothing, and nothing is
+-- queued to it.
 pub record RefinesStep (old : State) (event : Event) (e : Effect) (new : State) : Type 0 where
   pub happenings : List Happening
   pub events : AreCoreEvents old.store.queries event (map (λ h. h.event) happenings)
@@ -78,12 +78,12 @@ AreRunEvents old (d ∷ done) new walk events = (first : List CoreEvent) × (lat
 abbrev pub IsSpelled : CoreMessage → Bytes → Type 0
 IsSpelled m text = (event : Event) × (old : Core) × (new : Core) × SpellsBy event old new m text
 
--- The texts queued to a session, one behind the other, are the bytes that were queued to it.
+-- The texts queued to a session, one after another, are the bytes that were queued to it.
 abbrev pub AreAllBytes : ℕ → List Did → Type 0
 AreAllBytes t done = flat_map (λ text. text) (parts_to t done) ≡ out t done
 
--- A run of the machine is one of the core. To each session that goes on at its end and wasn't closed the messages are
--- sent that are spelled by all that was queued to it.
+-- A run of the machine is one of the core. Each session that goes on at its end and wasn't closed is sent the messages
+-- that all texts queued to it spell.
 pub record RefinesRun (old : State) (done : List Did) (new : State) (walk : Run old done new) : Type 0 where
   pub happenings : List Happening
   pub events : AreRunEvents old done new walk (map (λ h. h.event) happenings)
@@ -112,8 +112,8 @@ MachineFinishedListed = (start : State) → IsStart start → (done : List Did) 
     → ((core_of new).client s).cursor c ≡ Some (valid q returned true)
     → IsSomeAnd (listed_of new.store.queries q) (λ l. IsListing (AnswersOf new.store.relations l) returned)
 
--- What a session that has a listing of a query and watches it has of it after a run: messages that all that was queued
--- to it spells, whose deltas, applied to the listing, give a listing of the answers at the end.
+-- What a session that has a listing of a query and watches it has after a run: all texts queued to it spell messages
+-- whose deltas, applied to the listing, give a listing of the answers at the end.
 pub record HasAnswers (s : ℕ) (q : Listed) (ts : List Tuple) (done : List Did) (new : State) : Type 0 where
   pub messages : List CoreMessage
   pub spelled : AreSpelled IsSpelled messages (parts_to s done)

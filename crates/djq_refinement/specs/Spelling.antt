@@ -1,7 +1,7 @@
 -- Which bytes spell a message of the core.
-use Rattle.std.specs.Prelude.{ℕ, List, [], ◌∷◌, ◌+◌, ◌≡◌, ◌⊎◌, Option, None, Some, Ok, length, codes}
+use Rattle.std.specs.Prelude.{ℕ, List, [], ◌∷◌, ◌+◌, ◌≡◌, ◌⊎◌, Option, None, Some, IsSomeAnd, Ok, length, codes}
 use Rattle.djq_model.specs.Data.{Bytes, Tuple}
-use Rattle.djq_model.specs.Listed.{Listed, a_query, a_union, listed_name}
+use Rattle.djq_model.specs.Listed.{Listed, a_query, a_union, listed_of}
 use Rattle.djq_protocol.specs.declared.answer.Refusal.{Refusal}
 use Rattle.djq_protocol.specs.declared.answer.Refusal.TheVariants.{Syntax}
 use Rattle.djq_protocol.specs.declared.answer.Shape.{Shape}
@@ -44,6 +44,8 @@ use Rattle.djq_protocol.specs.Reply.{
 use Rattle.djq_tree.specs.Tree.{Tree}
 use Rattle.djq_tree.specs.Growing.{IsTreeOf}
 use Rattle.djq_store_spec.specs.Delta.{Change, delta_lines}
+use Rattle.djq_store_spec.specs.Registering.{answer_steps}
+use Rattle.djq_store_spec.specs.Asking.{IsShapeOf}
 use Rattle.djq_machine.specs.Command.{explain_lines, union_lines}
 use Rattle.djq_run_laws.specs.Added.{of_sign}
 use Rattle.djq_abstract.specs.Deltas.{AnswerDelta}
@@ -59,10 +61,7 @@ use Rattle.djq_abstract.specs.Clients.{
   page,
   delta,
 }
-
--- Words, and a number behind them.
-abbrev pub IsNumbered : Bytes → Bytes → Type 0
-IsNumbered words text = (n : ℕ) × (text ≡ numbered_line words n)
+use Rattle.djq_refinement.specs.View.{queries_under}
 
 -- The line that accepts an edit: in a batch, how many lines are held then; else the number of changes, and how many
 -- copies the row has then.
@@ -70,21 +69,22 @@ abbrev pub AcceptsEdit : Bytes → Option (List RowEdit) → Core → Bytes → 
 AcceptsEdit words None new name row text = text ≡ numbered_twice words new.seq (new.db name row)
 AcceptsEdit words (Some held) new name row text = text ≡ numbered_line (codes "ok held ") (length held + 1)
 
--- The line that accepts a command of a client with such a batch, and leaves the core so.
-abbrev pub IsAccepting : Option (List RowEdit) → Core → Command → Bytes → Type 0
-IsAccepting held new (Add name row) text = AcceptsEdit (codes "ok added ") held new name row text
-IsAccepting held new (Del name row) text = AcceptsEdit (codes "ok removed ") held new name row text
-IsAccepting held new (Done given) text = (rows : ℕ) × (text ≡ numbered_twice (codes "ok done ") new.seq rows)
-IsAccepting held new (Register q) text = IsNumbered (codes "ok query ") text
-IsAccepting held new (Union name members) text = IsNumbered (codes "ok union ") text
-IsAccepting held new (Drop q) text = text ≡ line (codes "ok")
-IsAccepting held new (Open c q) text = text ≡ line (codes "ok open")
-IsAccepting held new (Close c) text = text ≡ line (codes "ok")
-IsAccepting held new (Watch q) text = text ≡ numbered_line (codes "ok watch ") new.seq
-IsAccepting held new (Unwatch q) text = text ≡ line (codes "ok")
-IsAccepting held new Batch text = text ≡ line (codes "ok batch")
-IsAccepting held new Abandon text = text ≡ line (codes "ok")
-IsAccepting held new _ text = ⊥
+-- The line that accepts a command of a client, between two states of the core.
+abbrev pub IsAccepting : ℕ → (old new : Core) → Command → Bytes → Type 0
+IsAccepting s old new (Add name row) text = AcceptsEdit (codes "ok added ") (old.client s).batch new name row text
+IsAccepting s old new (Del name row) text = AcceptsEdit (codes "ok removed ") (old.client s).batch new name row text
+IsAccepting s old new (Done given) text = (rows : ℕ) × (text ≡ numbered_twice (codes "ok done ") new.seq rows)
+IsAccepting s old new (Register q) text = text ≡ numbered_line (codes "ok query ") (answer_steps (a_query q))
+IsAccepting s old new (Union name members) text =
+    text ≡ numbered_line (codes "ok union ") (answer_steps (a_union name (queries_under old.queries members)))
+IsAccepting s old new (Drop q) text = text ≡ line (codes "ok")
+IsAccepting s old new (Open c q) text = text ≡ line (codes "ok open")
+IsAccepting s old new (Close c) text = text ≡ line (codes "ok")
+IsAccepting s old new (Watch q) text = text ≡ numbered_line (codes "ok watch ") new.seq
+IsAccepting s old new (Unwatch q) text = text ≡ line (codes "ok")
+IsAccepting s old new Batch text = text ≡ line (codes "ok batch")
+IsAccepting s old new Abandon text = text ≡ line (codes "ok")
+IsAccepting s old new _ text = ⊥
 
 -- A line of a refusal.
 abbrev pub IsRefusalLine : Bytes → Type 0
@@ -104,37 +104,38 @@ IsExplaining (a_query q) text =
 IsExplaining (a_union name qs) text = text ≡ text_of (union_lines qs)
 
 -- The lines that reply to what asks: `rel`, `explain`, `shape`, and a line outside the grammar.
-abbrev pub IsReplying : Reading → Bytes → Type 0
-IsReplying outside text = text ≡ refusal_line Syntax
-IsReplying (says_command (Rel name types)) text = text ≡ line (codes "ok")
-IsReplying (says_command (Explain q)) text = (l : Listed) × (listed_name l ≡ q) × IsExplaining l text
-IsReplying (says_command (AskShape q)) text = (shape : Shape) × (text ≡ shape_reply (Ok shape))
-IsReplying _ text = ⊥
+abbrev pub IsReplying : Core → Reading → Bytes → Type 0
+IsReplying old outside text = text ≡ refusal_line Syntax
+IsReplying old (says_command (Rel name types)) text = text ≡ line (codes "ok")
+IsReplying old (says_command (Explain q)) text = IsSomeAnd (listed_of old.queries q) (λ l. IsExplaining l text)
+IsReplying old (says_command (AskShape q)) text =
+    IsSomeAnd (listed_of old.queries q) (λ l. (shape : Shape) × IsShapeOf l shape × (text ≡ shape_reply (Ok shape)))
+IsReplying old _ text = ⊥
 
 -- What accepts, and what refuses, a line that is read as this.
-abbrev pub IsAcceptingReading : Option (List RowEdit) → Core → Reading → Bytes → Type 0
-IsAcceptingReading held new (says_command c) text = IsAccepting held new c text
-IsAcceptingReading held new _ text = ⊥
+abbrev pub IsAcceptingReading : ℕ → (old new : Core) → Reading → Bytes → Type 0
+IsAcceptingReading s old new (says_command c) text = IsAccepting s old new c text
+IsAcceptingReading s old new _ text = ⊥
 
 abbrev pub IsRefusingReading : Core → Reading → Bytes → Type 0
 IsRefusingReading new outside text = ⊥
 IsRefusingReading new (past_limit c) text = IsRefusalLine text
 IsRefusingReading new (says_command c) text = IsRefusing new c text
 
--- The lines of a delta: in any order one for each answer that was inserted and each that was deleted; behind them the
+-- The lines of a delta: in any order one for each answer that was inserted and each that was deleted, and last the
 -- number of the change.
 abbrev pub IsDeltaText : Bytes → AnswerDelta → ℕ → Bytes → Type 0
 IsDeltaText q d seq text = (changes : List Change) × (of_sign Came changes ≡ d.inserted)
     × (of_sign Went changes ≡ d.deleted) × (text ≡ text_of (delta_lines q changes seq))
 
--- A message is spelled by these bytes, where it is sent in a step between two states of the core, of a line of this
--- client that is read as this.
+-- These bytes spell a message that is sent in a step between two states of the core, of a line of this client that is
+-- read as this.
 abbrev pub Spells : ℕ → Reading → (old new : Core) → CoreMessage → Bytes → Type 0
-Spells s r old new ok text = IsAcceptingReading (old.client s).batch new r text
+Spells s r old new ok text = IsAcceptingReading s old new r text
 Spells s r old new refused text = IsRefusingReading new r text
 Spells s r old new not_free_connex text = (rest : NamedRest)
     × ((text ≡ query_reply (Ok (Cyclic rest))) ⊎ (text ≡ query_reply (Ok (NotConnex rest))))
-Spells s r old new replied text = IsReplying r text
+Spells s r old new replied text = IsReplying old r text
 Spells s r old new (is_answer holds) text = text ≡ has_reply (Ok holds)
 Spells s r old new (page ts last) text = text ≡ text_of (listing_lines ts last)
 Spells s r old new (delta q d seq) text = IsDeltaText q d seq text
