@@ -33,7 +33,7 @@ use Rattle.djq_abstract.specs.Clients.{Client, Core, nobody, client_overtaken, C
 use Rattle.djq_abstract.specs.Moves.{StaysConnected, ChangesDatabase}
 use Rattle.djq_abstract.proofs.Names.{same_name, eq_self, found_named}
 use Rattle.djq_refinement.specs.View.{database_of, client_by, client_in, core_of}
-use Rattle.djq_refinement.specs.Spelling.{Spells, AreSpelled}
+use Rattle.djq_refinement.specs.Spelling.{SpellsMessage, AreSpelled}
 use Rattle.djq_refinement.proofs.Clients.{client_with}
 use Rattle.djq_refinement.proofs.Telling.{delta_text, watched_texts, HasParts, deltas_walk, reply_part, last_parts}
 use Rattle.djq_refinement.proofs.Telling.{WatchesNothing, silent_deltas, silent_last}
@@ -161,7 +161,7 @@ module _ (old : State) (s : ℕ) (change : RowsChange) (store : Store) (reply : 
   -- the deltas are spelled
   module _ (seen : Core) (r : Reading) (t : ℕ) (y : Session) (found : session_of old t ≡ Some y) where
     abbrev Spelling : CoreMessage → Bytes → Type 0
-    Spelling = Spells s r seen (core_of new)
+    Spelling = SpellsMessage s r seen (core_of new)
 
     abbrev messages : ℕ → List Listed → List CoreMessage
     messages n qs = map (λ m. delta m (delta_of m) n)
@@ -285,7 +285,7 @@ module _ (old : State) (s : ℕ) (change : RowsChange) (store : Store) (reply : 
 
   module _ (names : AreApart (map listed_name old.store.queries)) (rising : AreRising old)
       (before : IsSoundStore old.store) (after : IsSoundStore store) (relations : store.relations ≡ change.after)
-      (seen : Core) (r : Reading) (spells : Spells s r seen (core_of new) ok reply) (there : ((core_of old).client s).connected ≡ true) where
+      (seen : Core) (r : Reading) (spells : SpellsMessage s r seen (core_of new) ok reply) (there : ((core_of old).client s).connected ≡ true) where
     abbrev start : Telling
     start = beginning old (is_accepted change) store
 
@@ -375,7 +375,7 @@ module _ (old : State) (s : ℕ) (change : RowsChange) (store : Store) (reply : 
     abbrev IsForClient : ℕ → Type 0
     IsForClient t =
         (StaysConnected (core_of old) (affects queries change) (core_of new) t (sent_by t) (only_sent s (ok ∷ []) t)
-        × AreSpelled (Spells s r seen (core_of new)) (sent_by t) (parts_for t e.queued))
+        × AreSpelled (SpellsMessage s r seen (core_of new)) (sent_by t) (parts_for t e.queued))
         ⊎ (((core_of new).client t ≡ nobody) × (((core_of old).client t).connected ≡ false → sent_by t ≡ []))
 
     for_nobody : (t : ℕ) → (core_of old).client t ≡ nobody → IsForClient t
@@ -408,19 +408,19 @@ module _ (old : State) (s : ℕ) (change : RowsChange) (store : Store) (reply : 
           (found_there (λ (z : Session). z.id == t) old.sessions y found))) [] h.deltas start h.told h.tells same_ids
           (inl (started, refl)))
 
-      reply_spelled : (b : Bool) → AreSpelled (Spells s r seen (core_of new)) (cond b (ok ∷ []) []) (cond b (reply ∷ []) [])
+      reply_spelled : (b : Bool) → AreSpelled (SpellsMessage s r seen (core_of new)) (cond b (ok ∷ []) []) (cond b (reply ∷ []) [])
       reply_spelled true = (spells, tt)
       reply_spelled false = tt
 
-      spelled : AreSpelled (Spells s r seen (core_of new)) (sent_by t)
+      spelled : AreSpelled (SpellsMessage s r seen (core_of new)) (sent_by t)
           (watched_texts store.seq moved h.deltas ++ reply_part t moved going s reply)
       spelled =
-          subst (λ (k : Store). AreSpelled (Spells s r seen (core_of new))
+          subst (λ (k : Store). AreSpelled (SpellsMessage s r seen (core_of new))
           (deltas_for ((core_of old).client t) k.seq ++ only_sent s (ok ∷ []) t)
           (watched_texts store.seq moved h.deltas ++ reply_part t moved going s reply)) (sym new_store)
-          (subst (λ (z : Client). AreSpelled (Spells s r seen (core_of new)) (deltas_for z store.seq ++ only_sent s (ok ∷ []) t)
+          (subst (λ (z : Client). AreSpelled (SpellsMessage s r seen (core_of new)) (deltas_for z store.seq ++ only_sent s (ok ∷ []) t)
           (watched_texts store.seq moved h.deltas ++ reply_part t moved going s reply)) (sym is_client)
-          (spelled_append (Spells s r seen (core_of new)) (messages seen r t y found store.seq queries) (only_sent s (ok ∷ []) t)
+          (spelled_append (SpellsMessage s r seen (core_of new)) (messages seen r t y found store.seq queries) (only_sent s (ok ∷ []) t)
           (texts seen r t y found store.seq h.deltas) (reply_part t moved going s reply)
           (deltas_spelled seen r t y found store.seq queries h.deltas h.listed.of_queries (each_affected names)
           (deltas_found names)) (reply_spelled (t == s))))
@@ -445,7 +445,7 @@ module _ (old : State) (s : ℕ) (change : RowsChange) (store : Store) (reply : 
                   (ap (λ (z : Client). affects queries change n && z.subscribed n) (sym is_client) ∙ due);
               is_sent = refl;
             },
-            subst (λ (ts : List Bytes). AreSpelled (Spells s r seen (core_of new)) (sent_by t) ts)
+            subst (λ (ts : List Bytes). AreSpelled (SpellsMessage s r seen (core_of new)) (sent_by t) ts)
                 (sym (ap (λ (qs : List (ℕ × Bytes)). parts_for t qs) h.queued ∙ p.1)) spelled,
           )
 
@@ -461,10 +461,10 @@ module _ (old : State) (s : ℕ) (change : RowsChange) (store : Store) (reply : 
             at (Some cause) over = for_nobody t (ap client_in found ∙ ap (λ c. client_by c y) over)
 
     pub spelled_to : (t : ℕ) → ((core_of new).client t).connected ≡ true
-        → AreSpelled (Spells s r seen (core_of new)) (sent_by t) (parts_for t e.queued)
+        → AreSpelled (SpellsMessage s r seen (core_of new)) (sent_by t) (parts_for t e.queued)
     spelled_to t k = by (for_client t)
       where
-        by : IsForClient t → AreSpelled (Spells s r seen (core_of new)) (sent_by t) (parts_for t e.queued)
+        by : IsForClient t → AreSpelled (SpellsMessage s r seen (core_of new)) (sent_by t) (parts_for t e.queued)
         by (inl g) = g.1
         by (inr g) = let no : ((core_of new).client t).connected ≡ false = ap (λ (z : Client). z.connected) g.0 in
             absurd (cc (no, k))

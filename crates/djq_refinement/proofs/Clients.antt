@@ -18,7 +18,7 @@ use Rattle.djq_abstract.specs.Clients.{CoreEvent, disconnects, says, Sent, only_
 use Rattle.djq_abstract.specs.Moves.{CoreStep}
 use Rattle.djq_abstract.specs.Histories.{Happening, state_after, CoreRun, all_sent}
 use Rattle.djq_refinement.specs.View.{client_by, client_in, core_of, core_reading}
-use Rattle.djq_refinement.specs.Spelling.{Spells, AreSpelled}
+use Rattle.djq_refinement.specs.Spelling.{SpellsMessage, AreSpelled}
 use Rattle.djq_refinement.specs.Refinement.{AreOfLine}
 
 -- ---- states and clients that agree are the same
@@ -225,7 +225,7 @@ goes_away E S old s e new events there after quiet = record {
 
 -- What the line of a session is for the core.
 abbrev pub LineGoes : State → ℕ → Reading → Effect → State → Type 0
-LineGoes old s r e new = Going (AreOfLine s (core_reading old.store.queries r)) (Spells s r) old e new
+LineGoes old s r e new = Going (AreOfLine s (core_reading old.store.queries r)) (SpellsMessage s r) old e new
 
 of_ending : (s : ℕ) (o : Option CoreCommand) → AreOfLine s o (disconnects s ∷ [])
 of_ending s None = refl
@@ -235,15 +235,15 @@ of_ending s (Some c) = inr refl
 pub line_says : (old : State) (s : ℕ) (r : Reading) (e : Effect) (new : State) (c : CoreCommand) (m : CoreMessage)
     (text : Bytes) → core_reading old.store.queries r ≡ Some c
     → CoreStep (core_of old) (says s c) (only_sent s (m ∷ [])) (core_of new) → e.queued ≡ (s, text) ∷ []
-    → Spells s r (core_of old) (core_of new) m text → LineGoes old s r e new
+    → SpellsMessage s r (core_of old) (core_of new) m text → LineGoes old s r e new
 line_says old s r e new c m text is step queued spelled = record {
   happenings = record { event = says s c; sent = only_sent s (m ∷ []); after = core_of new } ∷ [];
   events = subst (λ o. AreOfLine s o (says s c ∷ [])) (sym is) (inl refl);
   is_run = (step, tt);
   is_after = refl;
   spelled = λ t k. subst (λ (qs : List (ℕ × Bytes)).
-      AreSpelled (Spells s r (core_of old) (core_of new)) (only_sent s (m ∷ []) t ++ []) (parts_for t qs))
-      (sym queued) (spelled_alone (Spells s r (core_of old) (core_of new)) s t m text spelled);
+      AreSpelled (SpellsMessage s r (core_of old) (core_of new)) (only_sent s (m ∷ []) t ++ []) (parts_for t qs))
+      (sym queued) (spelled_alone (SpellsMessage s r (core_of old) (core_of new)) s t m text spelled);
   silent = λ t k. gone t (t == s) refl k;
 }
   where
@@ -257,7 +257,7 @@ pub line_ends : (old : State) (s : ℕ) (x : Session) (r : Reading) (e : Effect)
     (new : State) (text : Bytes) → session_of old s ≡ Some x → x.cause ≡ None → core_of mid ≡ core_of old
     → new ≡ with_session mid s (ended_by cause) → e.queued ≡ (s, text) ∷ [] → LineGoes old s r e new
 line_ends old s x r e mid cause new text found runs same after queued =
-    goes_away (AreOfLine s (core_reading old.store.queries r)) (Spells s r) old s e new
+    goes_away (AreOfLine s (core_reading old.store.queries r)) (SpellsMessage s r) old s e new
     (of_ending s (core_reading old.store.queries r)) (is_connected old s x found runs)
     (core_ended mid (core_of old) s cause new same after)
     (λ t k. ap (λ (qs : List (ℕ × Bytes)). parts_for t qs) queued ∙ parts_other s t text k)

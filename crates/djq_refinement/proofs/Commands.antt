@@ -65,7 +65,7 @@ use Rattle.djq_abstract.specs.Clients.{page, only_sent}
 use Rattle.djq_abstract.specs.Moves.{IsPage, ReturnsPage, OnlyReplies, Accepts, MayRefuse, client_refused}
 use Rattle.djq_refinement.specs.View.{client_by, client_in, core_of, core_reading, line_edit, line_edits, inserts_row}
 use Rattle.djq_refinement.specs.View.{queries_under, cursor_seen, cursor_state}
-use Rattle.djq_refinement.specs.Spelling.{Spells, IsExplaining, AcceptsEdit}
+use Rattle.djq_refinement.specs.Spelling.{SpellsMessage, IsExplaining, AcceptsEdit}
 use Rattle.djq_refinement.proofs.Clients.{core_path, client_path, core_with, with_same, going_client, is_connected}
 use Rattle.djq_refinement.proofs.Clients.{LineGoes, line_says, line_ends}
 use Rattle.djq_refinement.proofs.Stores.{answer_seen, answer_back, copies_with_new, under_seen, union_admitted}
@@ -127,13 +127,13 @@ module _ (old : State) (kept : AreKept old) (s : ℕ) (x : Session) (found : ses
   pub accepted : (r : Reading) (e : Effect) (new : State) (c : CoreCommand) (m : CoreMessage) (text : Bytes)
       → core_reading old.store.queries r ≡ Some c
       → Accepts (core_of old) s c (only_sent s (m ∷ [])) (core_of new) → e.queued ≡ (s, text) ∷ []
-      → Spells s r (core_of old) (core_of new) m text → LineGoes old s r e new
+      → SpellsMessage s r (core_of old) (core_of new) m text → LineGoes old s r e new
   accepted r e new c m text is does queued spelled =
       line_says old s r e new c m text is (is_connected old s x found runs, inl does) queued spelled
 
   pub turned_down : (r : Reading) (e : Effect) (new : State) (c : CoreCommand) (m : CoreMessage) (text : Bytes)
       → core_reading old.store.queries r ≡ Some c → MayRefuse c m → client_refused c author ≡ author
-      → core_of new ≡ core_of old → e.queued ≡ (s, text) ∷ [] → Spells s r (core_of old) (core_of new) m text
+      → core_of new ≡ core_of old → e.queued ≡ (s, text) ∷ [] → SpellsMessage s r (core_of old) (core_of new) m text
       → LineGoes old s r e new
   turned_down r e new c m text is may left same queued spelled =
       line_says old s r e new c m text is (
@@ -159,7 +159,7 @@ module _ (old : State) (kept : AreKept old) (s : ℕ) (x : Session) (found : ses
   -- by a step that refuses
   pub refusing : (r : Reading) (e : Effect) (new : State) (c : CoreCommand) (why : Refusal)
       → core_reading old.store.queries r ≡ Some c → client_refused c author ≡ author
-      → RefusedStep old s why e new → Spells s r (core_of old) (core_of new) refused (refusal_line why)
+      → RefusedStep old s why e new → SpellsMessage s r (core_of old) (core_of new) refused (refusal_line why)
       → LineGoes old s r e new
   refusing r e new c why is left h spelled =
       turned_down r e new c refused (refusal_line why) is (may_refuse c) left (ap core_of h.1)

@@ -51,7 +51,7 @@ use Rattle.djq_abstract.specs.Clients.{Client, Core, nobody, with_client, client
 use Rattle.djq_abstract.specs.Clients.{ok, refused, delta, says, Sent, only_sent}
 use Rattle.djq_abstract.specs.Moves.{StaysConnected, ChangesDatabase, Edits, Accepts, client_refused}
 use Rattle.djq_refinement.specs.View.{database_of, client_by, client_in, core_of, core_reading, line_edits}
-use Rattle.djq_refinement.specs.Spelling.{Spells, AreSpelled, AcceptsEdit}
+use Rattle.djq_refinement.specs.Spelling.{SpellsMessage, AreSpelled, AcceptsEdit}
 use Rattle.djq_refinement.specs.Refinement.{AreOfLine}
 use Rattle.djq_refinement.proofs.Clients.{core_path, core_with, with_same, is_connected, LineGoes, line_says}
 use Rattle.djq_refinement.proofs.Commands.{stays_client, may_refuse, author, is_author, accepted, sound_session}
@@ -124,7 +124,7 @@ module _ (old : State) (kept : AreKept old) (rising : AreRising old) (s : ℕ) (
   -- an accepted change
   line_changes : (r : Reading) (e : Effect) (new : State) (c : CoreCommand) (sent : Sent)
       → core_reading old.store.queries r ≡ Some c → Accepts (core_of old) s c sent (core_of new)
-      → ((t : ℕ) → ((core_of new).client t).connected ≡ true → AreSpelled (Spells s r (core_of old) (core_of new)) (sent t) (parts_for t e.queued))
+      → ((t : ℕ) → ((core_of new).client t).connected ≡ true → AreSpelled (SpellsMessage s r (core_of old) (core_of new)) (sent t) (parts_for t e.queued))
       → ((t : ℕ) → ((core_of old).client t).connected ≡ false → (sent t ≡ []) × (parts_for t e.queued ≡ []))
       → LineGoes old s r e new
   line_changes r e new c sent is does spelled silent = record {
@@ -132,7 +132,7 @@ module _ (old : State) (kept : AreKept old) (rising : AreRising old) (s : ℕ) (
     events = subst (λ o. AreOfLine s o (says s c ∷ [])) (sym is) (inl refl);
     is_run = ((connected, inl does), tt);
     is_after = refl;
-    spelled = λ t k. subst (λ ms. AreSpelled (Spells s r (core_of old) (core_of new)) ms (parts_for t e.queued)) (sym (append-nil (sent t)))
+    spelled = λ t k. subst (λ ms. AreSpelled (SpellsMessage s r (core_of old) (core_of new)) ms (parts_for t e.queued)) (sym (append-nil (sent t)))
         (spelled t k);
     silent = λ t k. (ap (λ ms. ms ++ []) (silent t k).0, (silent t k).1);
   }
@@ -156,7 +156,7 @@ module _ (old : State) (kept : AreKept old) (rising : AreRising old) (s : ℕ) (
       (e : Effect) (new : State) → core_reading old.store.queries r ≡ Some c
       → core_of base ≡ with_client s (client_refused c me) (core_of old)
       → database_of store.relations ≡ (core_of old).db → store.queries ≡ old.store.queries → store.seq ≡ old.store.seq
-      → IsQuietChange base s o store reply e new → Spells s r (core_of old) (core_of new) refused reply → LineGoes old s r e new
+      → IsQuietChange base s o store reply e new → SpellsMessage s r (core_of old) (core_of new) refused reply → LineGoes old s r e new
   refused_change base r c o store reply e new is before db queries seq quiet spelled =
       line_says old s r e new c refused reply is (
         connected,

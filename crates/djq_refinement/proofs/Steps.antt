@@ -36,7 +36,7 @@ use Rattle.djq_abstract.specs.Clients.{Client, Core, CoreCommand, done}
 use Rattle.djq_abstract.specs.Clients.{ask, refused, replied}
 use Rattle.djq_abstract.specs.Moves.{client_refused}
 use Rattle.djq_refinement.specs.View.{client_by, core_of, core_command, core_reading, line_edits}
-use Rattle.djq_refinement.specs.Spelling.{Spells, IsRefusing}
+use Rattle.djq_refinement.specs.Spelling.{SpellsMessage, IsRefusing}
 use Rattle.djq_refinement.specs.Refinement.{AreCoreEvents, SpellsBy, MachineRefinesCore}
 use Rattle.djq_refinement.proofs.Clients.{core_path, core_same, core_queued, by_held, goes_from}
 use Rattle.djq_refinement.proofs.Clients.{goes_silent, LineGoes, line_ends}
@@ -119,7 +119,7 @@ module _ (old : State) (kept : AreKept old) (rising : AreRising old) (s : ℕ) (
     (found : session_of old s ≡ Some x) (runs : x.cause ≡ None) where
   -- a plain command is refused
   plain_goes : (r : Reading) (c : Command) (e : Effect) (new : State) (why : Refusal) → is_plain c ≡ true
-      → core_reading old.store.queries r ≡ core_command old.store.queries c → Spells s r (core_of old) (core_of new) refused (refusal_line why)
+      → core_reading old.store.queries r ≡ core_command old.store.queries c → SpellsMessage s r (core_of old) (core_of new) refused (refusal_line why)
       → RefusedStep old s why e new → LineGoes old s r e new
   plain_goes r c e new why plain is spelled h =
       let p = leaves_client old.store.queries c plain in

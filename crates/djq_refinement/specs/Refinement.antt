@@ -17,7 +17,7 @@ use Rattle.djq_run_laws.specs.Watched.{WatchesAlong, parts_for, parts_to}
 use Rattle.djq_abstract.specs.Clients.{Core, CoreCommand, CoreMessage, valid, CoreEvent, connects, disconnects, says}
 use Rattle.djq_abstract.specs.Histories.{Happening, state_after, CoreRun, deltas_applied, all_sent}
 use Rattle.djq_refinement.specs.View.{core_of, core_reading}
-use Rattle.djq_refinement.specs.Spelling.{Spells, AreSpelled}
+use Rattle.djq_refinement.specs.Spelling.{SpellsMessage, AreSpelled}
 
 -- No event of the core, or one by which a session is disconnected.
 abbrev pub MayDisconnect : ℕ → List CoreEvent → Type 0
@@ -46,7 +46,7 @@ AreCoreEvents queries (closed s bytes) events = MayDisconnect s events
 
 -- How messages are spelled in the step of an event: by the line that it runs.
 abbrev pub SpellsBy : Event → (old new : Core) → CoreMessage → Bytes → Type 0
-SpellsBy (stepped s (run l)) = Spells s (reading_of l)
+SpellsBy (stepped s (run l)) = SpellsMessage s (reading_of l)
 SpellsBy event = λ old new m text. ⊥
 
 -- A step of the machine is a run of the core, of none of its steps or of one. Each session that goes on after it is

@@ -130,15 +130,15 @@ IsDeltaText q d seq text = (changes : List Change) × (of_sign Came changes ≡ 
 
 -- These bytes spell a message that is sent in a step between two states of the core, of a line of this client that is
 -- read as this.
-abbrev pub Spells : ℕ → Reading → (old new : Core) → CoreMessage → Bytes → Type 0
-Spells s r old new ok text = IsAcceptingReading s old new r text
-Spells s r old new refused text = IsRefusingReading new r text
-Spells s r old new not_free_connex text = (rest : NamedRest)
+abbrev pub SpellsMessage : ℕ → Reading → (old new : Core) → CoreMessage → Bytes → Type 0
+SpellsMessage s r old new ok text = IsAcceptingReading s old new r text
+SpellsMessage s r old new refused text = IsRefusingReading new r text
+SpellsMessage s r old new not_free_connex text = (rest : NamedRest)
     × ((text ≡ query_reply (Ok (Cyclic rest))) ⊎ (text ≡ query_reply (Ok (NotConnex rest))))
-Spells s r old new replied text = IsReplying old r text
-Spells s r old new (is_answer holds) text = text ≡ has_reply (Ok holds)
-Spells s r old new (page ts last) text = text ≡ text_of (listing_lines ts last)
-Spells s r old new (delta q d seq) text = IsDeltaText q d seq text
+SpellsMessage s r old new replied text = IsReplying old r text
+SpellsMessage s r old new (is_answer holds) text = text ≡ has_reply (Ok holds)
+SpellsMessage s r old new (page ts last) text = text ≡ text_of (listing_lines ts last)
+SpellsMessage s r old new (delta q d seq) text = IsDeltaText q d seq text
 
 -- Messages are spelled by texts, one by one, in order.
 abbrev pub AreSpelled : (CoreMessage → Bytes → Type 0) → List CoreMessage → List Bytes → Type 0
