@@ -14,9 +14,9 @@
 //! readme_is_a_run                        so it may be, and with no other answer
 //! ```
 //!
-//! What this crate is not: it states nothing of the program yet. That each step of the real machine
-//! (djq_machine) is a step of the core, or none, isn't stated here and isn't proved. So these are laws of
-//! the core alone; those of the machine are djq_run_laws's.
+//! What this crate is not: it states nothing of the program. That each step of the real machine
+//! (djq_machine) is a step of the core, or none, is djq_refinement's law, and so are these laws for runs of
+//! the machine.
 //!
 //! What surprises: the core may refuse any command and disconnect any client at any step, since it
 //! knows no limits and no memory. The layers below define when the server does so. One reason has a

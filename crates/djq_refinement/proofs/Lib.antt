@@ -1,0 +1,14 @@
+pub mod Clients
+pub mod Events
+pub mod Stores
+pub mod Sessions
+pub mod Commands
+pub mod Telling
+pub mod DeltaMessages
+pub mod ChangeSteps
+pub mod AcceptedChanges
+pub mod Edits
+pub mod RowChanges
+pub mod Steps
+pub mod Runs
+pub mod Promises
