@@ -26,7 +26,8 @@ AT_ONCE = 1000  # rows that are given at a time
 
 @dataclass(frozen=True)
 class Table:
-    """A table as it is published. `filter` is the condition of its rows, in SQL."""
+    """A table as it is published. `filter` is the condition of its rows, in SQL; `is_unique` is whether no two of its
+    rows are alike, by a primary key or by the key of its identity."""
 
     relation: int
     schema: str
@@ -35,6 +36,7 @@ class Table:
     columns: tuple[Column, ...]
     filter: str | None
     is_root: bool  # of partitions
+    is_unique: bool
 
     @property
     def label(self) -> str:
@@ -65,10 +67,19 @@ _TABLES = """
 _COLUMNS = """
     SELECT a.attname, a.atttypid, a.atttypmod, %(identity)s = 'f' OR EXISTS (
         SELECT FROM pg_index i WHERE i.indrelid = a.attrelid AND a.attnum = ANY (i.indkey)
-        AND CASE %(identity)s WHEN 'd' THEN i.indisprimary WHEN 'i' THEN i.indisreplident ELSE false END)
+        AND CASE %(identity)s WHEN 'd' THEN i.indisprimary AND i.indimmediate WHEN 'i' THEN i.indisreplident ELSE false END)
     FROM pg_attribute a
     WHERE a.attrelid = %(table)s AND a.attname = ANY (%(names)s::name[])
     AND a.attnum > 0 AND NOT a.attisdropped AND a.attgenerated = '' ORDER BY a.attnum
+"""
+
+
+_IS_UNIQUE = """
+    SELECT EXISTS (
+        SELECT FROM pg_index i WHERE i.indrelid = %(table)s AND i.indisprimary AND i.indimmediate
+        AND NOT EXISTS (
+            SELECT FROM pg_attribute a WHERE a.attrelid = i.indrelid AND a.attnum = ANY (i.indkey)
+            AND a.attname <> ALL (%(names)s::name[])))
 """
 
 
@@ -89,7 +100,9 @@ def _table(
     listed = names if isinstance(names, list) else _names(names)
     cursor.execute(_COLUMNS, {"identity": identity, "table": number, "names": listed})
     columns = tuple(Column(*row) for row in cursor.fetchall())
-    return Table(number, schema, name, identity, columns, filter, is_root)
+    cursor.execute(_IS_UNIQUE, {"table": number, "names": listed})
+    is_unique = cursor.fetchone()[0] or identity in "di" and any(column.in_identity for column in columns)
+    return Table(number, schema, name, identity, columns, filter, is_root, is_unique)
 
 
 _NAME = re.compile(r'"((?:[^"\\]|\\.)*)"|([^,{}]+)')

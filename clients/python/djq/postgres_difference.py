@@ -1,0 +1,146 @@
+"""The rows of relations at a server, and the lines by which they become those of another place.
+
+    there = rows_of(server, query, "orders", (int, str))
+    change = Difference("orders", difference(Counter(there), wanted))
+    for lines in transactions([change, ..]): ..
+
+A table without a key may have a row several times, and the relation as many copies of it. The server says of a row
+whether it is there and not how often. So the copies are counted by transactions that delete and insert the row several
+times, and change nothing: they are refused where it has fewer.
+"""
+
+from __future__ import annotations
+
+import contextlib
+from collections import Counter
+from collections.abc import Callable, Iterable, Iterator, Mapping, Sequence
+from dataclasses import dataclass
+
+from .connection import Connection
+from .errors import Arity, Taken, WrongType
+from .postgres_position import Rows, drop_unused
+from .postgres_types import Unfit
+from .protocol import HELD_BYTES, MOST_HELD, MOST_LINE, Answer, Value, spell
+
+ROOM_LINES = MOST_HELD - 2  # of a transaction, beside the two of the position
+ROOM_BYTES = HELD_BYTES - 2 * MOST_LINE
+MOST_COUNTED = 30_000  # copies that one transaction can delete and insert
+AT_ONCE = 500  # transactions that are sent together
+
+
+def line_of(command: str, relation: str, row: Answer) -> str:
+    """The line that inserts or deletes a row."""
+    return f"{command} {relation} " + " ".join([str(one) if type(one) is int else spell(one) for one in row])
+
+
+def rows_of(server: Connection, query: str, relation: str, types: Sequence[type]) -> set[Answer]:
+    """The rows of a relation at one moment, by a query of this name that is registered for a while. Raises `Unfit` if the
+    relation has other columns."""
+    columns = ",".join(f"c{place}" for place in range(len(types)))
+    try:
+        with contextlib.suppress(Taken):
+            server.query(f"{query}({columns}) <- {relation}({columns})")
+        samples: list[Value] = [0 if kind is int else "" for kind in types]
+        server.has(query, *samples)
+        return server.snapshot(query)
+    except (Arity, WrongType):
+        words = " ".join("int" if kind is int else "text" for kind in types)
+        raise Unfit(f"the relation {relation} is there with other columns than {words}, and can't be replaced") from None
+    finally:
+        if server.fileno() >= 0:
+            drop_unused(server, query)
+
+
+# Copies
+
+
+def copies_of(held: Rows, relation: str, rows: Iterable[Answer], likely: Mapping[Answer, int]) -> Counter[Answer]:
+    """How many copies rows have that are there; `likely` says how many they should have, and is asked first."""
+    copies: Counter[Answer] = Counter()
+    for some in _parts(list(rows), AT_ONCE // 2):
+        asked = [likely.get(row, 1) or 1 for row in some]
+        questions = [(row, count + more) for row, count in zip(some, asked) for more in (0, 1)]
+        fits = [count <= MOST_COUNTED for _, count in questions]
+        answers = iter(held.allow([_nothing(relation, *one) for one, fit in zip(questions, fits) if fit]))
+        told = [fit and next(answers) for fit in fits]
+        for place, row in enumerate(some):
+            is_right = told[2 * place] and not told[2 * place + 1] and fits[2 * place + 1]
+            copies[row] = asked[place] if is_right else _counted(held, relation, row)
+    return copies
+
+
+def _nothing(relation: str, row: Answer, count: int) -> list[str]:
+    """A transaction that a row needs so many copies for, and that changes nothing."""
+    return [line_of("del", relation, row)] * count + [line_of("add", relation, row)] * count
+
+
+def _counted(held: Rows, relation: str, row: Answer) -> int:
+    """The copies of one row. If there are more than one transaction can ask for, copies are deleted until there aren't,
+    which changes nothing that anybody sees."""
+    while held.allows(_nothing(relation, row, MOST_COUNTED)):
+        if held.position is not None:
+            held.commit(held.position.next_piece(), [line_of("del", relation, row)] * (MOST_COUNTED - 1))
+    low, high = 1, 2  # copies that it has, and how many are asked for next
+    while held.allows(_nothing(relation, row, high)):
+        low, high = high, min(2 * high, MOST_COUNTED)
+    while high - low > 1:
+        middle = (low + high) // 2
+        if held.allows(_nothing(relation, row, middle)):
+            low = middle
+        else:
+            high = middle
+    return low
+
+
+def _parts(items: Sequence[Answer], size: int) -> Iterator[Sequence[Answer]]:
+    for at in range(0, len(items), size):
+        yield items[at : at + size]
+
+
+# Differences
+
+
+@dataclass
+class Difference:
+    """What makes the rows of one relation those of its table: how many copies of each row come, or go."""
+
+    relation: str
+    changes: dict[Answer, int]
+    key: Callable[[Answer], Answer] | None = None
+
+    def units(self) -> Iterator[list[str]]:
+        """The lines, those together that belong into one transaction: the old and the new row of a key."""
+        if self.key is None:
+            for row, count in self.changes.items():
+                line = line_of("add" if count > 0 else "del", self.relation, row)
+                yield from ([line] for _ in range(abs(count)))
+            return
+        by_key: dict[Answer, list[str]] = {}
+        for row, count in sorted(self.changes.items(), key=lambda change: change[1]):
+            lines = by_key.setdefault(self.key(row), [])
+            lines += [line_of("add" if count > 0 else "del", self.relation, row)] * abs(count)
+        yield from by_key.values()
+
+    def __len__(self) -> int:
+        return sum(abs(count) for count in self.changes.values())
+
+
+def difference(there: Mapping[Answer, int], wanted: Mapping[Answer, int]) -> dict[Answer, int]:
+    """How many copies of each row come, or go, so that it has as many as are wanted."""
+    changes = {row: count - there.get(row, 0) for row, count in wanted.items() if count != there.get(row, 0)}
+    changes.update((row, -count) for row, count in there.items() if row not in wanted)
+    return changes
+
+
+def transactions(differences: Iterable[Difference]) -> Iterator[list[str]]:
+    """The lines of all differences, as few transactions as they fit in."""
+    lines: list[str] = []
+    size = 0
+    for unit in (unit for one in differences for unit in one.units()):
+        more = sum(len(line.encode()) for line in unit)
+        if lines and (len(lines) + len(unit) > ROOM_LINES or size + more > ROOM_BYTES):
+            yield lines
+            lines, size = [], 0
+        lines += unit
+        size += more
+    yield lines
