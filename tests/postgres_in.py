@@ -87,36 +87,52 @@ class Postgres:
             shutil.chown(self.folder, "postgres")
             self.front = ["setpriv", "--reuid", "postgres", "--regid", "postgres", "--init-groups"]
         self.data = os.path.join(self.folder, "data")
+        self.process = None
         self.databases = 0
 
     def __enter__(self):
         words = ["initdb", "-D", self.data, "-A", "trust", "-U", "postgres", "--no-sync", "-E", "UTF8", "--locale=C"]
         self.run(*words)
-        settings = {"wal_level": "logical", "fsync": "off", "max_connections": "20", "shared_buffers": "16MB"}
-        words = [f"{BINARIES}/postgres", "-D", self.data, "-k", self.folder, "-h", "127.0.0.1", "-p", str(self.port)]
-        words += [word for name, value in settings.items() for word in ("-c", f"{name}={value}")]
-        with open(os.path.join(self.folder, "out"), "w") as out:
-            self.process = subprocess.Popen([*self.front, *words], stdout=out, stderr=out, cwd=self.folder)
         try:
-            self.wait()
+            self.start()
         except BaseException:
             self.__exit__()
             raise
         return self
 
-    def wait(self):
-        """Waits until it can be used."""
+    def start(self):
+        """Starts it, also after it was killed: what it left then has to end first."""
+        settings = {"wal_level": "logical", "fsync": "off", "max_connections": "40", "shared_buffers": "16MB"}
+        words = [f"{BINARIES}/postgres", "-D", self.data, "-k", self.folder, "-h", "127.0.0.1", "-p", str(self.port)]
+        words += [word for name, value in settings.items() for word in ("-c", f"{name}={value}")]
         until = time.monotonic() + PATIENT
         while True:
+            with open(os.path.join(self.folder, "out"), "a") as out:
+                self.process = subprocess.Popen([*self.front, *words], stdout=out, stderr=out, cwd=self.folder)
+            if self.wait():
+                return
+            assert time.monotonic() < until, "PostgreSQL doesn't start"
+
+    def kill(self):
+        self.process.kill()
+        self.process.wait(PATIENT)
+
+    def wait(self):
+        """Waits until it can be used; false if it ends."""
+        until = time.monotonic() + PATIENT
+        while self.process.poll() is None:
             try:
-                return connect(self.dsn("postgres")).close()
+                connect(self.dsn("postgres")).close()
+                return True
             except Exception:  # noqa: BLE001
-                assert time.monotonic() < until and self.process.poll() is None, "PostgreSQL doesn't answer"
+                assert time.monotonic() < until, "PostgreSQL doesn't answer"
                 time.sleep(0.1)
+        return False
 
     def __exit__(self, *_):
-        self.process.send_signal(signal.SIGQUIT)
-        self.process.wait(PATIENT)
+        if self.process is not None and self.process.poll() is None:
+            self.process.send_signal(signal.SIGQUIT)
+            self.process.wait(PATIENT)
         shutil.rmtree(self.folder)
 
     def run(self, *words):

@@ -13,7 +13,7 @@ import sys
 import time
 from collections.abc import Iterable, Mapping, Sequence
 from dataclasses import dataclass
-from typing import cast
+from typing import NoReturn, cast
 
 from .connection import Connection
 from .errors import BadColumns, BadName, Taken
@@ -198,7 +198,7 @@ class Feed:
 
     # The stream
 
-    def follow(self) -> None:
+    def follow(self) -> NoReturn:
         """Carries out what comes, until something goes wrong."""
         stream, made = self._slot.stream, self.made
         since = time.monotonic()  # when a transaction began to wait

@@ -59,9 +59,11 @@ class Runner:
         """Goes on until something is wrong that doesn't pass: raises `Unfit`, another `Error`, or what psycopg2 raises."""
         while True:
             with Feed(self._source, self._target, self._beat, self._compares) as feed:
-                self._once(feed)
+                pause = self._once(feed)
+            time.sleep(pause)
 
-    def _once(self, feed: Feed) -> None:
+    def _once(self, feed: Feed) -> float:
+        """A session. Gives the seconds before the next one."""
         is_begun = False
         try:
             feed.begin()
@@ -69,31 +71,29 @@ class Runner:
             self._waits = Waits("changes of PostgreSQL")
             feed.follow()
         except Redefined as error:
-            self._redefine(error)
+            return self._redefine(error, feed)
         except Unfit as error:
             raise self._stopped(error) if is_begun else error
         except (Anew, Differs) as error:
-            self._anew(error)
+            return self._anew(error)
         except (Busy, Moved, *PASSING) as error:
-            self._wait(error)
+            return self._waits.next(error)
         except psycopg2.Error as error:
             if isinstance(error, (psycopg2.ProgrammingError, psycopg2.NotSupportedError)):
                 raise
-            self._wait(Error(" ".join(str(error).split())))
+            return self._waits.next(Error(" ".join(str(error).split())))
 
-    def _wait(self, error: Error) -> None:
-        time.sleep(self._waits.next(error))
-
-    def _anew(self, error: Error) -> None:
+    def _anew(self, error: Error) -> float:
         log.warning("compares all rows: %s", error)
         self._compares = True
+        return 0
 
-    def _redefine(self, error: Redefined) -> None:
-        """The rows are compared by the definition that there is now. Raises `Unfit` if that is of no use."""
-        if str(error) == self._redefined:
-            raise Unfit(str(error))
+    def _redefine(self, error: Redefined, feed: Feed) -> float:
+        """The rows are compared by the definition that there is now. Raises `Unfit` if that was of no use."""
+        if str(error) == self._redefined and feed.made.taken == 0:
+            raise self._stopped(error)
         self._redefined = str(error)
-        self._anew(error)
+        return self._anew(error)
 
     def _stopped(self, error: Unfit) -> Unfit:
         slot = self._source.slot

@@ -138,13 +138,24 @@ class Slot:
 
 
 def state_of(sql: Any, slot: str) -> tuple[int, bool] | None:
-    """Up to where a slot is confirmed, and whether it can be read; none if there is no slot."""
+    """Up to where a slot is confirmed, and whether it can be read; none if there is no slot. Raises `Unfit` if it is one
+    of another kind."""
     with sql.cursor() as cursor:
-        asked = "SELECT confirmed_flush_lsn::text, wal_status <> 'lost' FROM pg_replication_slots WHERE slot_name = %s"
-        cursor.execute(asked, (slot,))
+        cursor.execute(_STATE, (slot,))
         found = cursor.fetchone()
         sql.rollback()
-    return None if found is None else (number_of(found[0] or "0/0"), bool(found[1]))
+    if found is None:
+        return None
+    place, is_whole, database, plugin = found
+    if not is_whole or (database, plugin) == (sql.info.dbname, "pgoutput"):
+        return number_of(place or "0/0"), is_whole
+    raise Unfit(f"the slot {slot} is one of {plugin} in the database {database}: name another by --slot")
+
+
+_STATE = """
+    SELECT confirmed_flush_lsn::text, coalesce(wal_status <> 'lost', true), coalesce(database, 'none'), coalesce(plugin, 'none')
+    FROM pg_replication_slots WHERE slot_name = %s
+"""
 
 
 def drop_slot(sql: Any, slot: str) -> None:
@@ -170,32 +181,38 @@ def wait_and_drop(sql: Any, slot: str) -> None:
 
 def open_slot(sql: Any, source: Source, before: Callable[[], None]) -> Slot:
     """Begins the slot's stream. If there is no slot, or one that lost what it stored, it is created, and `before` is called
-    first. Raises `Busy`."""
+    first; then its stream begins once its snapshot is seen. Raises `Busy`."""
+    errors = importlib.import_module("psycopg2.errors")
     state = state_of(sql, source.slot)
-    if state is None or not state[1]:
-        before()
-        if state is not None:
-            log.warning("the slot %s has lost changes, and is made anew", source.slot)
-            drop_slot(sql, source.slot)
-        state = None
     stream = Stream(source.dsn, source.slot)
     try:
         system = stream.identify()
-        if state is None:
-            return Slot(stream, system, 0, stream.create())  # it begins once its snapshot is seen
+        if state is None or not state[1]:
+            before()
+            return Slot(stream, system, 0, _create(sql, source, stream, state is not None))
         _start(stream, source)
         state = state_of(sql, source.slot) or state  # another program may have confirmed more before
         return Slot(stream, system, state[0], None)
+    except (errors.DuplicateObject, errors.UndefinedObject) as error:
+        stream.close()
+        raise Busy(f"another program makes the slot: {str(error).strip()}") from None
     except BaseException:
         stream.close()
         raise
 
 
+def _create(sql: Any, source: Source, stream: Stream, is_lost: bool) -> Created:
+    if is_lost:
+        log.warning("the slot %s has lost changes, and is made anew", source.slot)
+        drop_slot(sql, source.slot)
+    log.info("creates the slot %s, once the transactions have ended that are open now", source.slot)
+    return stream.create()
+
+
 def _start(stream: Stream, source: Source) -> None:
-    errors = importlib.import_module("psycopg2.errors")
     try:
         stream.start(source.publication)
-    except errors.ObjectInUse as error:
+    except importlib.import_module("psycopg2.errors").ObjectInUse as error:
         raise Busy(str(error).strip()) from None
 
 
