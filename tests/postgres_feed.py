@@ -32,17 +32,17 @@ from postgres_in import change_python as change_for_psycopg2
 if __name__ == "__main__":
     change_for_psycopg2()
 
+import pages
 from harness import expect
-from postgres_in import Postgres, raises
+from postgres_in import Postgres
 from redis_out import CLIENT, Proxy, Redis, Writer, entries, present
 from redis_out import LACKS as LACKS_OUT
-from serving import HERE, Server, djq
+from serving import Server, djq, raises
 
 LACKS = [*LACKS_IN, *LACKS_OUT]
 if not LACKS:
     import psycopg2
     from djq.postgres_difference import MOST_COUNTED, copies_of
-    from djq.postgres_in import _null, _words
     from djq.postgres_position import RELATION, Differs, Moved, Position, Rows
     from djq.postgres_stream import connect, number_of
 
@@ -887,6 +887,35 @@ def two_feeds_of_one_djq(program, postgres):
             with contextlib.closing(server.connect()) as session:
                 session.query("q(a) <- t(a), u(a)")
                 expect(session.snapshot("q"), {(a,) for a in range(11, 21)})
+
+
+# As it is documented
+
+
+@test
+def the_page(program, postgres):
+    with database(postgres) as (dsn, sql), Server(program) as server, contextlib.closing(server.connect()) as session:
+        sql.execute("CREATE TABLE orders (id int PRIMARY KEY, state text); CREATE TABLE lines (\"order\" int, item text)")
+        sql.execute("ALTER TABLE lines REPLICA IDENTITY FULL")
+        words = ("--tables", "orders,lines", "--query", 'open(id,item) <- orders(id:, state: "open"), lines(order: id, item:)')
+        with Feed(dsn, server.port, *words):
+            await_place(sql, server)
+            ran = []
+            for kind, block in pages.blocks("POSTGRES.md"):
+                if kind == "python":
+                    pages.run_python("POSTGRES.md", block, {"server": session, "sql": sql})
+                ran.append(kind)
+            expect(ran.count("python"), 1)
+
+
+@test
+def words_that_are_wrong(program, postgres):
+    environment = dict(os.environ, PYTHONPATH=CLIENT)
+    for words in (["no address"], ["h:1", "--slot", "Djq"], ["h:1", "--slot", "d" * 29], ["h:1", "--null", "t=1"],
+                  ["h:1", "--union", "both p"], ["h:1", "--tables", ","]):  # fmt: skip
+        command = [sys.executable, "-m", "djq.postgres_in", "dbname=x", *words]
+        done = subprocess.run(command, capture_output=True, text=True, env=environment)
+        expect((done.returncode, "error: " in done.stderr), (2, True), done.stderr)
 
 
 # Which are run
