@@ -16,6 +16,7 @@ PostgreSQL's log once the writers have committed.
 
 import collections
 import contextlib
+import io
 import os
 import random
 import signal
@@ -25,6 +26,7 @@ import tempfile
 import threading
 import time
 import traceback
+from unittest import mock
 
 from postgres_in import LACKS as LACKS_IN
 from postgres_in import change_python as change_for_psycopg2
@@ -42,8 +44,9 @@ from serving import Server, djq, raises
 LACKS = [*LACKS_IN, *LACKS_OUT]
 if not LACKS:
     import psycopg2
+    from djq import postgres_in
     from djq.postgres_difference import MOST_COUNTED, copies_of
-    from djq.postgres_position import RELATION, Differs, Moved, Position, Rows
+    from djq.postgres_position import RELATION, Differs, Moved, Position, Positions
     from djq.postgres_stream import connect, number_of
 
 LONG = os.environ.get("DJQ_LONG") == "1"
@@ -95,8 +98,10 @@ class Feed:
         return any(words in line for line in self.said)
 
     def await_said(self, words):
-        wait_for(lambda: self.has_said(words) or self.process.poll() is not None, f"for {words!r}: {self.said}")
-        assert self.has_said(words), self.said
+        until = time.monotonic() + PATIENT
+        while not self.has_said(words):
+            assert time.monotonic() < until and self.process.poll() is None, (words, self.said)
+            time.sleep(0.02)
 
     def send(self, number):
         self.process.send_signal(number)
@@ -211,16 +216,22 @@ class Shop:
                 self.transact(own, draw)
                 count = None if count is None else count - 1
             except psycopg2.Error as error:
-                if type(error).__name__ in PASSING:
-                    own.rollback()
-                elif count is None and isinstance(error, (psycopg2.OperationalError, psycopg2.InterfaceError)):
-                    own = None  # PostgreSQL was killed
-                    time.sleep(0.05)
-                else:
+                lost = isinstance(error, (psycopg2.OperationalError, psycopg2.InterfaceError))
+                if type(error).__name__ not in PASSING and not (lost and count is None):
                     self.wrong.append(repr(error))
                     return
+                own = self.reset(own)
         if own is not None:
             own.close()
+
+    def reset(self, own):
+        """The connection after a refusal; none if PostgreSQL was killed."""
+        with contextlib.suppress(psycopg2.Error):
+            if own is not None:
+                own.rollback()
+                return own
+        time.sleep(0.05)
+        return None
 
     def transact(self, own, draw):
         with own.cursor() as cursor:
@@ -499,6 +510,12 @@ class Gate(Proxy):
 @test
 def a_large_transaction_is_killed_in_its_middle(program, postgres):
     """A transaction of 30,000 rows is cut into pieces; it goes on behind the last that is there."""
+    count = 30_000 if LONG else 12_000
+    statements = (
+        f"INSERT INTO wide SELECT n, 'a', 'b', 'c', 'd', 'e', 'f', 'g' FROM generate_series(1, {count}) AS n",
+        "UPDATE wide SET id = -id - 100, t0 = 'x' WHERE id > 0; INSERT INTO bare SELECT n % 5, 'y' FROM generate_series(1, 9) AS n",
+        f"INSERT INTO bare SELECT n % 100, 'z' FROM generate_series(1, {count}) AS n; DELETE FROM wide WHERE id < -100",
+    )
     with database(postgres) as (dsn, sql), Server(program) as server, Gate(server.port) as gate:
         sql.execute("CREATE TABLE wide (id int PRIMARY KEY, " + ", ".join(f"t{n} text" for n in range(7)) + ")")
         sql.execute("CREATE TABLE bare (id int, a text); ALTER TABLE bare REPLICA IDENTITY FULL")
@@ -506,11 +523,6 @@ def a_large_transaction_is_killed_in_its_middle(program, postgres):
         words = ("--tables", "wide,bare", "--query", "q(x,y) <- wide(x,y,_,_,_,_,_,_)", "--query", "p(x,y) <- bare(x,y)")
         with Feed(dsn, gate.port, *words) as feed:
             await_place(sql, server)
-            statements = (
-                "INSERT INTO wide SELECT n, 'a', 'b', 'c', 'd', 'e', 'f', 'g' FROM generate_series(1, 30000) AS n",
-                "UPDATE wide SET id = -id - 100, t0 = 'x' WHERE id > 0; INSERT INTO bare SELECT n % 5, 'y' FROM generate_series(1, 9) AS n",
-                "INSERT INTO bare SELECT n % 100, 'z' FROM generate_series(1, 30000) AS n; DELETE FROM wide WHERE id < -100",
-            )  # fmt: skip
             for statement, passed in zip(statements, (1, 3, 2)):
                 gate.shut_after(passed)
                 sql.execute(statement)
@@ -521,8 +533,9 @@ def a_large_transaction_is_killed_in_its_middle(program, postgres):
                 feed.kill()
                 gate.open()
                 feed.start()
+                feed.await_said("goes on from")
+                assert feed.has_said(f"and {passed} pieces") and not feed.has_said("rows of"), (feed.said, positions(server))
                 await_place(sql, server)
-                assert feed.has_said(f"and {passed} pieces") and not feed.has_said("rows of"), feed.said
                 with contextlib.closing(server.connect()) as session:
                     expect(session.snapshot("q"), set(rows_in(sql, "SELECT id, t0 FROM wide")))
                     expect(session.snapshot("p"), set(rows_in(sql, "SELECT id, a FROM bare")))
@@ -626,7 +639,7 @@ def more_copies_than_a_transaction_counts(program, postgres):
         session.query("q(a) <- bag(a)")
         count = MOST_COUNTED + 77
         session.load("bag", [(1,)] * count + [(2,)] * 3)
-        held = Rows(session, "djq")
+        held = Positions(session, "djq")
         held.define("rows_of_position")
         held.claim(Position("s", 5, 0, 0))
         with session.live("q") as live:
@@ -644,7 +657,7 @@ def transactions_are_conditional_on_the_position(program, postgres):
     """Of two that go on from one position one is refused, and knows whether the position or a row was the reason."""
     with Server(program) as server, contextlib.closing(server.connect()) as one, contextlib.closing(server.connect()) as two:
         one.relation("r", int)
-        first, second = Rows(one, "djq"), Rows(two, "djq")
+        first, second = Positions(one, "djq"), Positions(two, "djq")
         expect(first.find("rows_of_position"), False)
         first.define("rows_of_position")
         second.define("rows_of_position")
@@ -661,11 +674,11 @@ def transactions_are_conditional_on_the_position(program, postgres):
         raises(Differs, lambda: first.commit(first.position.at(11), ["del r 1"]))
         expect(first.allow([["del r 3", "add r 3"], ["del r 1", "add r 1"]]), [True, False])
         raises(Moved, lambda: second.allows(["del r 3", "add r 3"]))
-        third = Rows(two, "other")
+        third = Positions(two, "other")
         third.define("rows_of_others")
         expect(third.read(), [], "slots have positions of their own")
         first.invalidate()
-        expect((first.read(), Rows(one, "djq").position), ([], None))
+        expect((first.read(), Positions(one, "djq").position), ([], None))
 
 
 @test
@@ -675,6 +688,7 @@ def rows_that_somebody_else_changed(program, postgres):
         with contextlib.closing(server.connect()) as session:
             assert session.delete("orders", 1, "w1").changed
             session.add("orders", 777, "nobody")
+            expect(session.add("orders", 3, "w3").copies, 2)
         sql.execute("DELETE FROM orders WHERE id IN (1, 2)")
         feed.await_said("compares all rows")
         expect_same(sql, server)
@@ -910,12 +924,11 @@ def the_page(program, postgres):
 
 @test
 def words_that_are_wrong(program, postgres):
-    environment = dict(os.environ, PYTHONPATH=CLIENT)
     for words in (["no address"], ["h:1", "--slot", "Djq"], ["h:1", "--slot", "d" * 29], ["h:1", "--null", "t=1"],
                   ["h:1", "--union", "both p"], ["h:1", "--tables", ","]):  # fmt: skip
-        command = [sys.executable, "-m", "djq.postgres_in", "dbname=x", *words]
-        done = subprocess.run(command, capture_output=True, text=True, env=environment)
-        expect((done.returncode, "error: " in done.stderr), (2, True), done.stderr)
+        told = io.StringIO()
+        with mock.patch.object(sys, "argv", ["djq-postgres", "dbname=x", *words]), contextlib.redirect_stderr(told):
+            expect((raises(SystemExit, postgres_in.main).code, "error: " in told.getvalue()), (2, True), words)
 
 
 # Which are run

@@ -18,7 +18,7 @@ from dataclasses import dataclass
 
 from .connection import Connection
 from .errors import Arity, Taken, WrongType
-from .postgres_position import Rows, drop_unused
+from .postgres_position import Positions, drop_unused
 from .postgres_types import Unfit
 from .protocol import HELD_BYTES, MOST_HELD, MOST_LINE, Answer, Value, spell
 
@@ -54,18 +54,17 @@ def rows_of(server: Connection, query: str, relation: str, types: Sequence[type]
 # Copies
 
 
-def copies_of(held: Rows, relation: str, rows: Iterable[Answer], likely: Mapping[Answer, int]) -> Counter[Answer]:
+def copies_of(held: Positions, relation: str, rows: Iterable[Answer], likely: Mapping[Answer, int]) -> Counter[Answer]:
     """How many copies rows have that are there; `likely` says how many they should have, and is asked first."""
     copies: Counter[Answer] = Counter()
-    for some in _parts(list(rows), AT_ONCE // 2):
-        asked = [likely.get(row, 1) or 1 for row in some]
-        questions = [(row, count + more) for row, count in zip(some, asked) for more in (0, 1)]
-        fits = [count <= MOST_COUNTED for _, count in questions]
-        answers = iter(held.allow([_nothing(relation, *one) for one, fit in zip(questions, fits) if fit]))
-        told = [fit and next(answers) for fit in fits]
-        for place, row in enumerate(some):
-            is_right = told[2 * place] and not told[2 * place + 1] and fits[2 * place + 1]
-            copies[row] = asked[place] if is_right else _counted(held, relation, row)
+    for some in _parts(list(rows), AT_ONCE):
+        # has it so many copies, and not one more? That it has one is known
+        asked = [(row, min(likely.get(row, 1), MOST_COUNTED - 1)) for row in some]
+        enough = [(row, count) for row, count in asked if count > 1]
+        told = held.allow([_nothing(relation, *one) for one in enough + [(row, count + 1) for row, count in asked]])
+        fewer = {row for (row, _), has in zip(enough, told) if not has}
+        for (row, count), has_more in zip(asked, told[len(enough) :]):
+            copies[row] = _counted(held, relation, row) if has_more or row in fewer else count
     return copies
 
 
@@ -74,7 +73,7 @@ def _nothing(relation: str, row: Answer, count: int) -> list[str]:
     return [line_of("del", relation, row)] * count + [line_of("add", relation, row)] * count
 
 
-def _counted(held: Rows, relation: str, row: Answer) -> int:
+def _counted(held: Positions, relation: str, row: Answer) -> int:
     """The copies of one row. If there are more than one transaction can ask for, copies are deleted until there aren't,
     which changes nothing that anybody sees."""
     while held.allows(_nothing(relation, row, MOST_COUNTED)):

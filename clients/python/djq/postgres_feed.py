@@ -18,7 +18,7 @@ from typing import NoReturn, cast
 from .connection import Connection
 from .errors import BadColumns, BadName, Taken
 from .postgres_difference import Difference, copies_of, difference, rows_of, transactions
-from .postgres_position import RELATION, Moved, Position, Rows
+from .postgres_position import RELATION, Moved, Position, Positions
 from .postgres_source import Chosen, Source, choose, drop_publication, open_slot, read_all, wait_and_drop
 from .postgres_stream import connect, number_of, place_of
 from .postgres_transactions import Step, Transactions
@@ -67,7 +67,7 @@ class Feed:
         self._sql = self._stack.enter_context(contextlib.closing(connect(source.dsn)))
         self._server = Connection(self._target.host, self._target.port, REPLY)
         self._stack.callback(self._server.close)
-        self._held = Rows(self._server, source.slot)
+        self._held = Positions(self._server, source.slot)
         self._chosen, made_publication = choose(self._sql, source)
         self._check_beat()
         self._slot = open_slot(self._sql, source, self._invalidate)
@@ -157,9 +157,7 @@ class Feed:
     def _difference(self, one: Chosen, wanted: Mapping[Answer, int]) -> Difference:
         self._slot.stream.stay()
         there, rows = self._rows_of(one), self._tables[one.table.relation].rows
-        copies: Mapping[Answer, int] = dict.fromkeys(there, 1)
-        if not one.table.is_unique and there:
-            copies = copies_of(self._held, one.relation, there, wanted)
+        copies = copies_of(self._held, one.relation, there, wanted)
         key = (lambda row: cast(Answer, rows.key(row))) if rows.has_key else None
         return Difference(one.relation, difference(copies, wanted), key)
 
@@ -230,7 +228,7 @@ class Feed:
                 self._slot.stream.confirm(step.commit.end - 1)
 
     def _rest(self) -> None:
-        """Between transactions: the position moves to the end of the log, and what is there is confirmed."""
+        """Between transactions, and now and then within one: what is there is confirmed."""
         self._move_on()
         if self.made.is_idle and self._slot.stream.end > self._slot.stream.confirmed:
             self._slot.stream.confirm_idle()
@@ -238,12 +236,9 @@ class Feed:
         self._report()
 
     def _move_on(self) -> None:
-        """Changes of tables that aren't followed move the position too. It isn't before what is confirmed: at that a
-        session finds out that a position is an old one."""
-        end = self._slot.stream.end
-        if self.made.is_idle and end > self.made.position.lsn:
-            self.made.position = self.made.position.at(end)
-            self._held.commit(self.made.position)
+        """Moves the position also by what isn't followed. It has to be there before psycopg2 confirms the end of the log by
+        itself: a position before what is confirmed is taken for an old one by the next session."""
+        self._carry_out(self.made.move(self._slot.stream.end))
 
     def _report(self) -> None:
         now = time.monotonic()
@@ -264,10 +259,12 @@ class Progress:
         self._is_terminal = sys.stderr.isatty()
         self._said = time.monotonic()
         self._open = False
+        self._read: dict[str, int] = {}
 
     def rows(self, relation: str, count: int) -> None:
-        """So many rows of a table were read."""
-        self._say(f"reads {relation}: {count:,} rows", False)
+        """So many rows more of a table were read."""
+        self._read[relation] = self._read.get(relation, 0) + count
+        self._say(f"reads {relation}: {self._read[relation]:,} rows", False)
 
     def part(self, sent: int, total: int) -> None:
         """So many lines of all that differ were sent."""

@@ -7,9 +7,9 @@ each change of the rows is carried out once and in order.
 
 - `system`: which PostgreSQL, and which timeline
 - `point`: the place of the log at which all rows were compared last
-- `lsn`: the place behind the last transaction of which all is there; 0 while rows are compared
-- `pieces`: of the transaction behind `lsn`, which is too large for one, so many pieces are there; while rows are
-  compared so many transactions of the comparison
+- `lsn`: the place before which no commit is missing; 0 while rows are compared
+- `pieces`: of the next transaction, which is too large for one, so many pieces are there; while rows are compared so many
+  transactions of the comparison
 
 For readers the query `SLOT_lsn(lsn)` has `lsn` if no transaction is there in part, and no answer meanwhile.
 """
@@ -63,8 +63,8 @@ class Position:
         return replace(self, lsn=lsn, pieces=0)
 
 
-class Rows:
-    """The rows that a slot's transactions are sent to, and the position that each of them is conditional on."""
+class Positions:
+    """The positions of a slot at a server, of which there is one, and on which each transaction is conditional."""
 
     def __init__(self, server: Connection, slot: str) -> None:
         self.server, self.slot = server, slot

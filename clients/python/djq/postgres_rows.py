@@ -15,7 +15,7 @@ from collections.abc import Callable, Iterable
 from dataclasses import dataclass
 from typing import Union
 
-from .pgoutput import UNCHANGED, Delete, Insert, Relation, Row, Truncate, Unchanged, Update
+from .pgoutput import UNCHANGED, Delete, Insert, Relation, Row, Unchanged, Update
 from .postgres_types import Unfit
 
 Cell = Union[str, int, None, Unchanged]
@@ -129,33 +129,6 @@ class TableRows:
 
     def _says(self, why: str) -> str:
         return f"{self.definition.schema}.{self.definition.name}: {why}"
-
-
-class Rows:
-    """The rows of all tables that a stream reports."""
-
-    def __init__(self) -> None:
-        self._tables: dict[int, TableRows] = {}
-
-    def define(self, definition: Relation) -> TableRows:
-        """The definition of a table, as the stream says it or as it was found before. Raises `Redefined`."""
-        table = self._tables.get(definition.relation)
-        if table is None:
-            table = self._tables[definition.relation] = TableRows(definition)
-        else:
-            table.define(definition)
-        return table
-
-    def take(self, message: Insert | Update | Delete) -> RowChange:
-        """What a message deletes and inserts. Raises `Unfit`."""
-        table = self._tables.get(message.relation)
-        if table is None:
-            raise Unfit(f"a change of the table {message.relation}, which wasn't defined before")
-        return take(table, message)
-
-    def truncate(self, message: Truncate) -> list[TableRows]:
-        """All rows of some tables were deleted. Gives the tables; of one with a key its rows are known until then."""
-        return [self._tables[number] for number in message.relations if number in self._tables]
 
 
 def take(table: TableRows, message: Insert | Update | Delete) -> RowChange:

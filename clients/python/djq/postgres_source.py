@@ -243,7 +243,8 @@ def _see(cursor: Any) -> None:
 def read_all(
     sql: Any, source: Source, slot: Slot, chosen: Sequence[Chosen], progress: Callable[[str, int], None]
 ) -> tuple[int, dict[str, Mapping[Answer, int]]]:
-    """The rows of all tables at one moment, with their copies, and its place in the log. Raises `Unfit`."""
+    """The rows of all tables at one moment, with their copies, and its place in the log. `progress` is called with a
+    relation and a number of further rows. Raises `Unfit`."""
     rows: dict[str, Mapping[Answer, int]] = {}
     with _snapshot(sql, source, slot) as (cursor, point):
         for one in chosen:
@@ -252,7 +253,7 @@ def read_all(
             def take(some: list[Answer], counts: Counter[Answer] = counts, name: str = one.relation) -> None:
                 counts.update(some)
                 slot.stream.stay()
-                progress(name, sum(counts.values()) if not one.table.is_unique else len(counts))
+                progress(name, len(some))
 
             read_answers(cursor, one.table, one.mapping, take)
             rows[one.relation] = counts

@@ -26,8 +26,7 @@ AT_ONCE = 1000  # rows that are given at a time
 
 @dataclass(frozen=True)
 class Table:
-    """A table as it is published. `filter` is the condition of its rows, in SQL; `is_unique` is whether no two of its
-    rows are alike, by a primary key or by the key of its identity."""
+    """A table as it is published. `filter` is the condition of its rows, in SQL."""
 
     relation: int
     schema: str
@@ -36,7 +35,6 @@ class Table:
     columns: tuple[Column, ...]
     filter: str | None
     is_root: bool  # of partitions
-    is_unique: bool
 
     @property
     def label(self) -> str:
@@ -74,15 +72,6 @@ _COLUMNS = """
 """
 
 
-_IS_UNIQUE = """
-    SELECT EXISTS (
-        SELECT FROM pg_index i WHERE i.indrelid = %(table)s AND i.indisprimary AND i.indimmediate
-        AND NOT EXISTS (
-            SELECT FROM pg_attribute a WHERE a.attrelid = i.indrelid AND a.attnum = ANY (i.indkey)
-            AND a.attname <> ALL (%(names)s::name[])))
-"""
-
-
 def published(connection: Any, publication: str) -> list[Table]:
     """The tables of a publication. Raises `Unfit` if there is none of the name."""
     with connection.cursor() as cursor:
@@ -100,9 +89,7 @@ def _table(
     listed = names if isinstance(names, list) else _names(names)
     cursor.execute(_COLUMNS, {"identity": identity, "table": number, "names": listed})
     columns = tuple(Column(*row) for row in cursor.fetchall())
-    cursor.execute(_IS_UNIQUE, {"table": number, "names": listed})
-    is_unique = cursor.fetchone()[0] or identity in "di" and any(column.in_identity for column in columns)
-    return Table(number, schema, name, identity, columns, filter, is_root, is_unique)
+    return Table(number, schema, name, identity, columns, filter, is_root)
 
 
 _NAME = re.compile(r'"((?:[^"\\]|\\.)*)"|([^,{}]+)')

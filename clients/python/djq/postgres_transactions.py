@@ -142,6 +142,15 @@ class Transactions:
             self._group, self._last = Net(), None
             yield step
 
+    def move(self, end: int) -> Iterator[Step]:
+        """The same, and the position at the place before which nothing is missing: the stream's end between transactions,
+        else the commit of the one that is read."""
+        yield from self.flush()
+        place = end if self._begun is None else self._begun.final
+        if not self.position.pieces and self.position.lsn < place:
+            self.position = self.position.at(place)
+            yield Step(self.position, [])
+
     def _begin(self, message: Begin) -> None:
         self._begun = message
         self._known = message.final < self.position.lsn
@@ -172,6 +181,8 @@ class Transactions:
             self._skip -= 1
         else:
             yield from self.flush()
+            if self._begun is not None and not self.position.pieces:
+                self.position = self.position.at(self._begun.final)
             self.position = self.position.next_piece()
             yield Step(self.position, self._current.spell())
         self._current = Net()
