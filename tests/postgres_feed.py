@@ -542,6 +542,29 @@ def a_large_transaction_is_killed_in_its_middle(program, postgres):
                 expect_copies(sql, server, "bare")
 
 
+@test
+def a_comparison_is_killed_in_its_middle(program, postgres):
+    """More rows than one transaction holds are compared anew, and the queries come once all are there."""
+    with database(postgres) as (dsn, sql), Server(program) as server, Gate(server.port) as gate:
+        sql.execute("CREATE TABLE bag (a int, b text); ALTER TABLE bag REPLICA IDENTITY FULL; CREATE TABLE t (a int PRIMARY KEY)")
+        sql.execute("INSERT INTO bag SELECT n % 3000, 'x' FROM generate_series(1, 70000) AS n; INSERT INTO t VALUES (1)")
+        gate.shut_after(1)
+        with Feed(dsn, gate.port, "--tables", "bag,t", "--query", "q(a,b) <- bag(a,b), t(1)") as feed:
+            wait_for(gate.is_shut.is_set, "for the first part")
+            wait_for(lambda: [one[2:] for one in positions(server)] == [(0, 1)], "for the first part in djq")
+            with contextlib.closing(server.connect()) as session:
+                for query in "q", "djq_lsn":
+                    raises(djq.NoQuery, lambda query=query: session.snapshot(query))
+            feed.kill()
+            gate.open()
+            sql.execute("DELETE FROM bag WHERE a % 3 = 0; INSERT INTO bag SELECT n % 3100, 'x' FROM generate_series(1, 9000) AS n")
+            feed.start()
+            await_place(sql, server)
+            with contextlib.closing(server.connect()) as session:
+                expect(session.snapshot("q"), set(rows_in(sql, "SELECT * FROM bag")))
+            expect_copies(sql, server, "bag")
+
+
 def free(sql):
     sql.execute("SELECT NOT active FROM pg_replication_slots WHERE slot_name = 'djq'")
     return sql.fetchone()[0]
@@ -673,7 +696,7 @@ def transactions_are_conditional_on_the_position(program, postgres):
         raises(Moved, lambda: second.commit(second.position.at(10), ["add r 3"]))
         raises(Differs, lambda: first.commit(first.position.at(11), ["del r 1"]))
         expect(first.allow([["del r 3", "add r 3"], ["del r 1", "add r 1"]]), [True, False])
-        raises(Moved, lambda: second.allows(["del r 3", "add r 3"]))
+        raises(Moved, lambda: second.allow([["del r 3", "add r 3"]]))
         third = Positions(two, "other")
         third.define("rows_of_others")
         expect(third.read(), [], "slots have positions of their own")

@@ -1,7 +1,8 @@
 """The rows of relations at a server, and the lines by which they become those of another place.
 
-    there = rows_of(server, query, "orders", (int, str))
-    change = Difference("orders", difference(Counter(there), wanted))
+    there = rows_of(server, query, "orders", (int, str), within)
+    copies = copies_of(positions, "orders", there, wanted)
+    change = Difference("orders", difference(copies, wanted))
     for lines in transactions([change, ..]): ..
 
 A table without a key may have a row several times, and the relation as many copies of it. The server says of a row
@@ -12,7 +13,6 @@ times, and change nothing: they are refused where it has fewer.
 from __future__ import annotations
 
 import contextlib
-from collections import Counter
 from collections.abc import Callable, Iterable, Iterator, Mapping, Sequence
 from dataclasses import dataclass
 
@@ -33,16 +33,16 @@ def line_of(command: str, relation: str, row: Answer) -> str:
     return f"{command} {relation} " + " ".join([str(one) if type(one) is int else spell(one) for one in row])
 
 
-def rows_of(server: Connection, query: str, relation: str, types: Sequence[type]) -> set[Answer]:
-    """The rows of a relation at one moment, by a query of this name that is registered for a while. Raises `Unfit` if the
-    relation has other columns."""
+def rows_of(server: Connection, query: str, relation: str, types: Sequence[type], within: float) -> set[Answer]:
+    """The rows of a relation at one moment, by a query of this name that is registered for a while, and `Overtaken` is
+    raised after so many seconds. Raises `Unfit` if the relation has other columns."""
     columns = ",".join(f"c{place}" for place in range(len(types)))
     try:
         with contextlib.suppress(Taken):
             server.query(f"{query}({columns}) <- {relation}({columns})")
         samples: list[Value] = [0 if kind is int else "" for kind in types]
         server.has(query, *samples)
-        return server.snapshot(query)
+        return server.snapshot(query, within)
     except (Arity, WrongType):
         words = " ".join("int" if kind is int else "text" for kind in types)
         raise Unfit(f"the relation {relation} is there with other columns than {words}, and can't be replaced") from None
@@ -54,18 +54,47 @@ def rows_of(server: Connection, query: str, relation: str, types: Sequence[type]
 # Copies
 
 
-def copies_of(held: Positions, relation: str, rows: Iterable[Answer], likely: Mapping[Answer, int]) -> Counter[Answer]:
+@dataclass
+class _Count:
+    """What is known of a row's copies: it has `low`, and hasn't `high`."""
+
+    row: Answer
+    likely: int
+    low: int = 1
+    high: int | None = None
+
+    @property
+    def is_known(self) -> bool:
+        return self.high is not None and self.high - self.low == 1
+
+    def question(self) -> int:
+        """Of which number it is asked next whether it has as many."""
+        if self.high is None:
+            return min(max(self.likely + 1, 2 * self.low), MOST_COUNTED)
+        return self.likely if self.low < self.likely < self.high else (self.low + self.high) // 2
+
+    def take(self, count: int, has: bool) -> None:
+        """Whether it has so many."""
+        if has:
+            self.low = count
+        else:
+            self.high = count
+
+
+def copies_of(held: Positions, relation: str, rows: Iterable[Answer], likely: Mapping[Answer, int]) -> dict[Answer, int]:
     """How many copies rows have that are there; `likely` says how many they should have, and is asked first."""
-    copies: Counter[Answer] = Counter()
-    for some in _parts(list(rows), AT_ONCE):
-        # has it so many copies, and not one more? That it has one is known
-        asked = [(row, min(likely.get(row, 1), MOST_COUNTED - 1)) for row in some]
-        enough = [(row, count) for row, count in asked if count > 1]
-        told = held.allow([_nothing(relation, *one) for one in enough + [(row, count + 1) for row, count in asked]])
-        fewer = {row for (row, _), has in zip(enough, told) if not has}
-        for (row, count), has_more in zip(asked, told[len(enough) :]):
-            copies[row] = _counted(held, relation, row) if has_more or row in fewer else count
-    return copies
+    counts = [_Count(row, likely.get(row, 1)) for row in rows]
+    waiting = counts
+    while waiting:
+        for some in _parts(waiting, AT_ONCE):
+            asked = [one.question() for one in some]
+            told = held.allow([_nothing(relation, one.row, count) for one, count in zip(some, asked)])
+            for one, count, has in zip(some, asked, told):
+                one.take(count, has)
+                if one.low == MOST_COUNTED:
+                    _reduce(held, relation, one)
+        waiting = [one for one in waiting if not one.is_known]
+    return {one.row: one.low for one in counts}
 
 
 def _nothing(relation: str, row: Answer, count: int) -> list[str]:
@@ -73,25 +102,14 @@ def _nothing(relation: str, row: Answer, count: int) -> list[str]:
     return [line_of("del", relation, row)] * count + [line_of("add", relation, row)] * count
 
 
-def _counted(held: Positions, relation: str, row: Answer) -> int:
-    """The copies of one row. If there are more than one transaction can ask for, copies are deleted until there aren't,
-    which changes nothing that anybody sees."""
-    while held.allows(_nothing(relation, row, MOST_COUNTED)):
-        if held.position is not None:
-            held.commit(held.position.next_piece(), [line_of("del", relation, row)] * (MOST_COUNTED - 1))
-    low, high = 1, 2  # copies that it has, and how many are asked for next
-    while held.allows(_nothing(relation, row, high)):
-        low, high = high, min(2 * high, MOST_COUNTED)
-    while high - low > 1:
-        middle = (low + high) // 2
-        if held.allows(_nothing(relation, row, middle)):
-            low = middle
-        else:
-            high = middle
-    return low
+def _reduce(held: Positions, relation: str, count: _Count) -> None:
+    """Deletes all but one of the copies that a transaction can ask for: nobody sees it, as the row stays."""
+    if held.position is not None:
+        held.commit(held.position.next_piece(), [line_of("del", relation, count.row)] * (MOST_COUNTED - 1))
+        count.low, count.high, count.likely = 1, None, 1
 
 
-def _parts(items: Sequence[Answer], size: int) -> Iterator[Sequence[Answer]]:
+def _parts(items: Sequence[_Count], size: int) -> Iterator[Sequence[_Count]]:
     for at in range(0, len(items), size):
         yield items[at : at + size]
 

@@ -112,10 +112,10 @@ class Feed:
             return None
         if position.lsn > self._end():
             return None
-        for one, table in zip(self._chosen, self._tables.values()):
-            if table.rows.has_key:
-                table.rows.start(self._rows_of(one))
-            self._slot.stream.stay()
+        with self._slot.stream.staying():
+            for one, table in zip(self._chosen, self._tables.values()):
+                if table.rows.has_key:
+                    table.rows.start(self._rows_of(one))
         if self._held.read() != [position]:
             raise Moved("another program has gone on meanwhile")
         log.info("goes on from %s", position)
@@ -134,7 +134,7 @@ class Feed:
         return "rows_" + hashlib.sha256(f"{self._source.slot} {relation}".encode()).hexdigest()[:16]
 
     def _rows_of(self, one: Chosen) -> set[Answer]:
-        return rows_of(self._server, self._query_of(one.relation), one.relation, one.mapping.types)
+        return rows_of(self._server, self._query_of(one.relation), one.relation, one.mapping.types, REPLY)
 
     # The difference
 
@@ -148,14 +148,15 @@ class Feed:
                 self._server.relation(one.relation, *one.mapping.types)
         self._held.define(self._query_of(""))
         self._held.claim(Position(self._slot.system, point, 0, 0))
-        differences = [self._difference(one, wanted[one.relation]) for one in self._chosen]
-        self._send(differences, point, progress)
+        with self._slot.stream.staying():
+            differences = [self._difference(one, wanted[one.relation]) for one in self._chosen]
+            self._send(differences, point, progress)
+        self._slot.stream.confirm(point - 1)
         for one, table in zip(self._chosen, self._tables.values()):
             table.rows.start(wanted[one.relation])
         return Position(self._slot.system, point, point, 0)
 
     def _difference(self, one: Chosen, wanted: Mapping[Answer, int]) -> Difference:
-        self._slot.stream.stay()
         there, rows = self._rows_of(one), self._tables[one.table.relation].rows
         copies = copies_of(self._held, one.relation, there, wanted)
         key = (lambda row: cast(Answer, rows.key(row))) if rows.has_key else None
@@ -169,11 +170,9 @@ class Feed:
             if waiting is not None and self._held.position is not None:
                 self._held.commit(self._held.position.next_piece(), waiting)
                 sent += len(waiting)
-                self._slot.stream.stay()
                 progress.part(sent, total)
             waiting = lines
         self._held.commit(Position(self._slot.system, point, point, 0), waiting or ())
-        self._slot.stream.confirm(point - 1)
         progress.end()
         log.info("has the rows of %s: %d lines differed", place_of(point), total)
 

@@ -23,7 +23,7 @@ from dataclasses import dataclass, replace
 from .connection import Connection
 from .errors import Error, InUse, NoQuery, NoRelation, RowAbsent, SomeRefused, Taken
 from .postgres_stream import place_of
-from .protocol import Answer, Value, spell
+from .protocol import Answer, Commit, Value, spell
 
 RELATION = "postgres_position"
 
@@ -129,12 +129,8 @@ class Positions:
             raise Moved(f"the position was {self.position}, and is {found}") from error
         self.position = position
 
-    def allows(self, lines: Sequence[str]) -> bool:
-        """Whether a transaction of these lines, which change nothing together, isn't refused. Raises `Moved`."""
-        return self.allow([lines])[0]
-
     def allow(self, transactions: Sequence[Sequence[str]]) -> list[bool]:
-        """The same of several transactions, which are sent together."""
+        """Which of these transactions, each of which changes nothing, aren't refused. Raises `Moved`."""
         if self.position is None:
             raise Moved("the position isn't known")
         here = [self._line("del", self.position), self._line("add", self.position)]
@@ -143,12 +139,7 @@ class Positions:
             self.server._pump()
             commits.append(self.server._say_transaction([*here, *lines]))
         self.server._settle()
-        allowed = []
-        for commit in commits:
-            try:
-                allowed.append(commit.result() is not None)
-            except RowAbsent:
-                allowed.append(False)
+        allowed = [_is_allowed(commit) for commit in commits]
         if not all(allowed) and self.read() != [self.position]:
             raise Moved(f"the position isn't {self.position} any more")
         return allowed
@@ -162,6 +153,14 @@ class Positions:
     def _line(self, command: str, position: Position) -> str:
         values: tuple[Value, ...] = (self.slot, position.system, position.point, position.lsn, position.pieces)
         return " ".join([command, RELATION, *map(spell, values)])
+
+
+def _is_allowed(commit: Commit) -> bool:
+    try:
+        commit.result()
+    except RowAbsent:
+        return False
+    return True
 
 
 def drop_unused(server: Connection, query: str) -> None:

@@ -19,6 +19,7 @@ from __future__ import annotations
 import contextlib
 import importlib
 import select
+import threading
 import time
 from collections.abc import Iterator
 from dataclasses import dataclass
@@ -150,6 +151,24 @@ class Stream:
         """Says it again, if it is time."""
         if self.is_due:
             self.confirm(self.confirmed)
+
+    @contextlib.contextmanager
+    def staying(self) -> Iterator[None]:
+        """Says it again in a thread, as often as it is time within the block, which doesn't use the stream."""
+        ends = threading.Event()
+
+        def stay() -> None:
+            with contextlib.suppress(Exception):  # that the stream has ended is found as it is read
+                while not ends.wait(1):
+                    self.stay()
+
+        thread = threading.Thread(target=stay, daemon=True)
+        thread.start()
+        try:
+            yield
+        finally:
+            ends.set()
+            thread.join()
 
     @property
     def end(self) -> int:
