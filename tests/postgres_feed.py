@@ -46,8 +46,12 @@ if not LACKS:
     import psycopg2
     from djq import postgres_in
     from djq.postgres_difference import MOST_COUNTED, copies_of
+    from djq.pgoutput import Begin, Column, Commit, Delete, Insert, Relation, Update
     from djq.postgres_position import RELATION, Differs, Moved, Position, Positions
+    from djq.postgres_rows import TableRows
     from djq.postgres_stream import connect, number_of
+    from djq.postgres_transactions import Followed, Transactions
+    from djq.postgres_types import mapping_of
 
 LONG = os.environ.get("DJQ_LONG") == "1"
 PATIENT = 120 if LONG else 60  # seconds that a condition is waited for
@@ -542,6 +546,78 @@ def a_large_transaction_is_killed_in_its_middle(program, postgres):
                 expect_copies(sql, server, "bare")
 
 
+KEYED = Relation(1, "public", "keyed", "d", (Column("a", 23, -1, True), Column("b", 23, -1, False))) if not LACKS else None
+BARE = Relation(2, "public", "bare", "f", (Column("a", 23, -1, True),)) if not LACKS else None
+
+
+def tables_with(rows):
+    """Two tables as they are followed, with these rows."""
+    followed = {}
+    for table in KEYED, BARE:
+        mapping = mapping_of(table.name, table.columns, {}, {})
+        followed[table.relation] = Followed(table.name, mapping, TableRows(table, mapping.value))
+    followed[KEYED.relation].rows.start([row for relation, row in rows if relation == "keyed"])
+    return followed
+
+
+def drawn_messages(draw):
+    """Transactions of different sizes, as the stream has them."""
+    keyed, bare = {}, []
+    for number in range(1, 9):
+        yield Begin(100 * number, 0, number)
+        yield from (KEYED, BARE)
+        for _ in range(draw.choice((1, 3, 40))):
+            a, b = draw.randrange(6), draw.randrange(3)
+            if draw.random() < 0.4 and (bare or b):
+                bare.append(a)
+                yield Insert(2, (str(a),))
+            elif bare and draw.random() < 0.3:
+                yield Delete(2, None, (str(bare.pop(draw.randrange(len(bare)))),))
+            elif a not in keyed:
+                keyed[a] = b
+                yield Insert(1, (str(a), str(b)))
+            elif draw.random() < 0.5:
+                keyed[a] = b
+                yield Update(1, None, None, (str(a), str(b)))
+            elif (to := draw.randrange(6, 12)) not in keyed:
+                keyed[to] = keyed.pop(a)
+                yield Update(1, (str(a), None), None, (str(to), str(keyed[to])))
+            else:
+                del keyed[a]
+                yield Delete(1, (str(a), None), None)
+        yield Commit(100 * number, 100 * number + 50, 0)
+
+
+def steps_from(position, rows, messages):
+    made = Transactions(position, tables_with(rows))
+    return [step for message in messages for step in made.take(message)] + list(made.flush())
+
+
+def carried_out(rows, lines):
+    """The rows after some lines, in which each row that is deleted is there."""
+    rows = collections.Counter(rows)
+    for line in lines:
+        command, relation, *values = line.split(" ")
+        rows[relation, tuple(map(int, values))] += 1 if command == "add" else -1
+        assert min(rows.values()) >= 0, line
+    return +rows
+
+
+@test
+def pieces_are_cut_alike(program, postgres):
+    """Wherever it stops, another run over the same stream carries out what is left, and nothing again."""
+    for seed in range(20):
+        messages = list(drawn_messages(random.Random(seed)))
+        with mock.patch("djq.postgres_transactions.ROOM_LINES", 12):
+            begin, rows = Position("s", 1, 50, 0), collections.Counter()
+            steps = steps_from(begin, rows, messages)
+            assert any(step.position.pieces > 1 for step in steps) and max(len(step.lines) for step in steps) <= 12, steps
+            for place, step in enumerate(steps):
+                rows = carried_out(rows, step.lines)
+                expect(steps_from(step.position, rows, messages), steps[place + 1 :], (seed, place))
+            expect(steps[-1].position, Position("s", 1, 850, 0))
+
+
 @test
 def a_comparison_is_killed_in_its_middle(program, postgres):
     """More rows than one transaction holds are compared anew, and the queries come once all are there."""
@@ -766,6 +842,21 @@ def a_lost_slot(program, postgres):
             feed.await_said("rows of")
             expect_same(sql, server)
             expect_copies(sql, server, "lines")
+
+
+@test
+def a_position_of_another_postgres(program, postgres):
+    """A position of another system or timeline, or behind the end of the log, is none to go on from."""
+    with shop(program, postgres) as (_, sql, server, feed):
+        for change in (lambda one: ("1/1", *one[1:]), lambda one: (*one[:2], one[2] + 2**40, one[3])):
+            feed.kill()
+            (one,) = positions(server)
+            with contextlib.closing(server.connect()) as session, session.transaction() as moved:
+                moved.update(RELATION, ("djq", *one), ("djq", *change(one)))
+            sql.execute("DELETE FROM orders WHERE id % 9 = 0; INSERT INTO orders VALUES (300, 'bo') ON CONFLICT DO NOTHING")
+            feed.start()
+            feed.await_said("rows of")
+            expect_same(sql, server)
 
 
 @test
