@@ -26,12 +26,12 @@ ROOT = os.path.abspath(os.path.join(os.path.dirname(os.path.abspath(__file__)), 
 # names of other programs, of the system and of mathematics that pages put between backticks
 ELSEWHERE = {
     "nc", "sqlite", "valgrind", "callgrind", "gcc", "epoll", "stunnel", "openssl", "git", "pip", "python3", "redis", "netcat", "nodejs",
-    "MemoryMax", "cert", "CAfile", "ulimit", "SIGTERM", "SIGINT", "SIGPIPE", "EMFILE", "LD_PRELOAD", "stdin", "stdout", "stderr", "NAME",
+    "MemoryMax", "cert", "CAfile", "ulimit", "SIGTERM", "SIGINT", "SIGPIPE", "EMFILE", "LD_PRELOAD", "max_slot_wal_keep_size", "stdin", "stdout", "stderr", "NAME",
 }
 
 # words of SQL and of Redis, that pages compare with
 ELSEWHERE |= set("AND AS CASE COUNT DATE DECIMAL DELETE DISTINCT EXCEPT EXISTS EXPLAIN FETCH FILTER FROM HAVING INSERT INTERSECT "
-                 "LIKE LISTEN MULTI NOT NOTIFY NULL OFFSET OR SELECT SUBSCRIBE SUM UNION UPDATE USING WITH".split())
+                 "LIKE LISTEN MULTI NOT NOTIFY NULL OFFSET OR REPLICATION SELECT SUBSCRIBE SUM UNION UPDATE USING WITH".split())
 
 passed, failed = 0, 0
 

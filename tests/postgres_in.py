@@ -49,7 +49,7 @@ from serving import SECONDS, raises
 
 from djq import pgoutput, postgres_tables
 from djq.pgoutput import UNCHANGED, Begin, Column, Commit, Delete, Insert, NotDecoded, Origin, Relation, Truncate, Type, Update
-from djq.postgres_rows import Rows
+from djq.postgres_rows import TableRows, take
 from djq.postgres_stream import Stream, connect, number_of, place_of, seeing
 from djq.postgres_tables import published, read_answers, read_rows, split_row, type_names
 from djq.postgres_types import Unfit, days_of, mapping_of, numeric_reader, read_date, read_timestamp
@@ -87,36 +87,52 @@ class Postgres:
             shutil.chown(self.folder, "postgres")
             self.front = ["setpriv", "--reuid", "postgres", "--regid", "postgres", "--init-groups"]
         self.data = os.path.join(self.folder, "data")
+        self.process = None
         self.databases = 0
 
     def __enter__(self):
         words = ["initdb", "-D", self.data, "-A", "trust", "-U", "postgres", "--no-sync", "-E", "UTF8", "--locale=C"]
         self.run(*words)
-        settings = {"wal_level": "logical", "fsync": "off", "max_connections": "20", "shared_buffers": "16MB"}
-        words = [f"{BINARIES}/postgres", "-D", self.data, "-k", self.folder, "-h", "127.0.0.1", "-p", str(self.port)]
-        words += [word for name, value in settings.items() for word in ("-c", f"{name}={value}")]
-        with open(os.path.join(self.folder, "out"), "w") as out:
-            self.process = subprocess.Popen([*self.front, *words], stdout=out, stderr=out, cwd=self.folder)
         try:
-            self.wait()
+            self.start()
         except BaseException:
             self.__exit__()
             raise
         return self
 
-    def wait(self):
-        """Waits until it can be used."""
+    def start(self):
+        """Starts it, also after it was killed: what it left then has to end first."""
+        settings = {"wal_level": "logical", "fsync": "off", "max_connections": "40", "shared_buffers": "16MB"}
+        words = [f"{BINARIES}/postgres", "-D", self.data, "-k", self.folder, "-h", "127.0.0.1", "-p", str(self.port)]
+        words += [word for name, value in settings.items() for word in ("-c", f"{name}={value}")]
         until = time.monotonic() + PATIENT
         while True:
+            with open(os.path.join(self.folder, "out"), "a") as out:
+                self.process = subprocess.Popen([*self.front, *words], stdout=out, stderr=out, cwd=self.folder)
+            if self.wait():
+                return
+            assert time.monotonic() < until, "PostgreSQL doesn't start"
+
+    def kill(self):
+        self.process.kill()
+        self.process.wait(PATIENT)
+
+    def wait(self):
+        """Waits until it can be used; false if it ends."""
+        until = time.monotonic() + PATIENT
+        while self.process.poll() is None:
             try:
-                return connect(self.dsn("postgres")).close()
+                connect(self.dsn("postgres")).close()
+                return True
             except Exception:  # noqa: BLE001
-                assert time.monotonic() < until and self.process.poll() is None, "PostgreSQL doesn't answer"
+                assert time.monotonic() < until, "PostgreSQL doesn't answer"
                 time.sleep(0.1)
+        return False
 
     def __exit__(self, *_):
-        self.process.send_signal(signal.SIGQUIT)
-        self.process.wait(PATIENT)
+        if self.process is not None and self.process.poll() is None:
+            self.process.send_signal(signal.SIGQUIT)
+            self.process.wait(PATIENT)
         shutil.rmtree(self.folder)
 
     def run(self, *words):
@@ -457,6 +473,24 @@ def partitions_and_children(postgres):
 # Rows by their identity
 
 
+class Rows:
+    """The rows of all tables that a stream reports."""
+
+    def __init__(self):
+        self.tables = {}
+
+    def define(self, definition):
+        if definition.relation in self.tables:
+            self.tables[definition.relation].define(definition)
+        return self.tables.setdefault(definition.relation, TableRows(definition))
+
+    def take(self, message):
+        return take(self.tables[message.relation], message)
+
+    def truncate(self, message):
+        return [self.tables[number] for number in message.relations]
+
+
 def follow_to_the_end(sql, stream, tables):
     """Applies the stream to rows that were read before, until all that was done is in it; then they are those of SQL."""
     rows, names = Rows(), {}
@@ -603,21 +637,20 @@ def a_definition_that_changes(postgres):
         with streaming(dsn) as stream:
             rows = Rows()
 
-            def take():
+            def taken():
                 return [rows.take(one) if isinstance(one, (Insert, Update, Delete)) else rows.define(one)
                         for one in transaction(stream)[1:-1]]  # fmt: skip
 
-            raises(Unfit, lambda: rows.take(Insert(1, ())))
             sql.execute("INSERT INTO t VALUES (1, 2)")
-            expect(take()[-1].came, ("1", "2"))
+            expect(taken()[-1].came, ("1", "2"))
             sql.execute("ALTER TABLE t REPLICA IDENTITY DEFAULT; UPDATE t SET b = 3")
-            expect(str(raises(Unfit, take)), "public.t: its replica identity is another one now, and the rows by that aren't known")
+            expect(str(raises(Unfit, taken)), "public.t: its replica identity is another one now, and the rows by that aren't known")
             sql.execute("ALTER TABLE t REPLICA IDENTITY FULL; UPDATE t SET b = 4")
-            expect((take()[-1].went), ("1", "3"))
+            expect((taken()[-1].went), ("1", "3"))
             sql.execute("ALTER TABLE t ADD c int; UPDATE t SET b = 5")
-            expect(str(raises(Unfit, take)), "public.t: its columns were a, b, and are a, b, c now")
+            expect(str(raises(Unfit, taken)), "public.t: its columns were a, b, and are a, b, c now")
             sql.execute("CREATE TABLE n (a int); ALTER PUBLICATION pub ADD TABLE n; ALTER TABLE n REPLICA IDENTITY NOTHING; INSERT INTO n VALUES (1)")
-            expect(take()[-1].came, ("1",))
+            expect(taken()[-1].came, ("1",))
 
 
 # Which are run

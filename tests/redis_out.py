@@ -467,9 +467,11 @@ def the_package_brings_the_command(program):
         shutil.copytree(CLIENT, source)
         environment = {**os.environ, "PIP_NO_INDEX": "1", "PIP_DISABLE_PIP_VERSION_CHECK": "1", "PIP_NO_CACHE_DIR": "1"}
         environment.pop("PYTHONPATH", None)
+        extras = "postgres,redis" if importlib.util.find_spec("psycopg2") else "redis"
         for words in (
             [sys.executable, "-m", "venv", "--system-site-packages", made],
-            [f"{made}/bin/pip", "install", "--quiet", f"{source}[redis]"],
+            [f"{made}/bin/pip", "install", "--quiet", f"{source}[{extras}]"],
+            *([[f"{made}/bin/djq-postgres", "--help"]] if "postgres" in extras else []),
             [f"{made}/bin/djq-redis", "--help"],
         ):
             done = subprocess.run(words, capture_output=True, text=True, env=environment, cwd=folder, timeout=PATIENT)

@@ -10,7 +10,8 @@
     stream.confirm(commit.end)                      # what PostgreSQL doesn't need to store any more
 
 psycopg2 frames messages and answers the server's questions whether this side is alive. What is confirmed is said by
-`confirm` alone.
+`confirm`; if that was at or behind the place of the last message, psycopg2 goes on to confirm the end of the log by itself as
+long as no further message comes.
 """
 
 from __future__ import annotations
@@ -18,6 +19,7 @@ from __future__ import annotations
 import contextlib
 import importlib
 import select
+import threading
 import time
 from collections.abc import Iterator
 from dataclasses import dataclass
@@ -28,6 +30,7 @@ from .postgres_tables import quoted
 from .postgres_types import SETTINGS
 
 STATUS = 5.0  # seconds between two reports of what is confirmed, at most
+AUTOMATIC = 3600  # seconds after which psycopg2 reports by itself, which `stay` does earlier
 
 
 @dataclass(frozen=True)
@@ -78,6 +81,7 @@ class Stream:
         self._cursor = self._connection.cursor()
         self.slot = slot
         self.confirmed = 0
+        self._reported = time.monotonic()
 
     def __enter__(self) -> Stream:
         return self
@@ -89,9 +93,18 @@ class Stream:
         """Closes the connection. The slot stays, and with it what PostgreSQL stores for it."""
         self._connection.close()
 
-    def create(self) -> Created:
-        """Makes the slot. Its snapshot can be seen until the next command of this connection."""
-        self._cursor.create_replication_slot(self.slot, output_plugin="pgoutput")
+    def identify(self) -> str:
+        """Which PostgreSQL it is: a number that no other has, and that of its timeline, which a restore from a backup
+        changes."""
+        self._cursor.execute("IDENTIFY_SYSTEM")
+        system, timeline, *_ = self._cursor.fetchone()
+        return f"{system}/{timeline}"
+
+    def create(self, temporary: bool = False) -> Created:
+        """Makes the slot; a temporary one is dropped as the connection ends. Its snapshot can be seen until the next
+        command of this connection."""
+        kind = "TEMPORARY " if temporary else ""
+        self._cursor.execute(f"CREATE_REPLICATION_SLOT {quoted(self.slot)} {kind}LOGICAL pgoutput EXPORT_SNAPSHOT")
         _, point, snapshot, _ = self._cursor.fetchone()
         return Created(number_of(point), snapshot)
 
@@ -103,7 +116,7 @@ class Stream:
         """Begins the stream, with the first transaction that ended behind this place and wasn't confirmed."""
         options = {"proto_version": "1", "publication_names": quoted(publication)}
         self._cursor.start_replication(
-            slot_name=self.slot, start_lsn=place_of(point), options=options, decode=False, status_interval=STATUS
+            slot_name=self.slot, start_lsn=place_of(point), options=options, decode=False, status_interval=AUTOMATIC
         )
 
     def messages(self, timeout: float | None = None) -> Iterator[Message]:
@@ -126,7 +139,36 @@ class Stream:
     def confirm(self, place: int) -> None:
         """Says that all before this place is taken over, so that PostgreSQL drops what it stores of it."""
         self.confirmed = max(self.confirmed, place)
+        self._reported = time.monotonic()
         self._cursor.send_feedback(write_lsn=self.confirmed, flush_lsn=self.confirmed, force=True)
+
+    @property
+    def is_due(self) -> bool:
+        """Whether it is time to say again what is confirmed, so that the server doesn't take this side for dead."""
+        return time.monotonic() - self._reported > STATUS
+
+    def stay(self) -> None:
+        """Says it again, if it is time."""
+        if self.is_due:
+            self.confirm(self.confirmed)
+
+    @contextlib.contextmanager
+    def staying(self) -> Iterator[None]:
+        """Says it again in a thread, as often as it is time within the block, which doesn't use the stream."""
+        ends = threading.Event()
+
+        def stay() -> None:
+            with contextlib.suppress(Exception):  # that the stream has ended is found as it is read
+                while not ends.wait(1):
+                    self.stay()
+
+        thread = threading.Thread(target=stay, daemon=True)
+        thread.start()
+        try:
+            yield
+        finally:
+            ends.set()
+            thread.join()
 
     @property
     def end(self) -> int:

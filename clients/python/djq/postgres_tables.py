@@ -65,7 +65,7 @@ _TABLES = """
 _COLUMNS = """
     SELECT a.attname, a.atttypid, a.atttypmod, %(identity)s = 'f' OR EXISTS (
         SELECT FROM pg_index i WHERE i.indrelid = a.attrelid AND a.attnum = ANY (i.indkey)
-        AND CASE %(identity)s WHEN 'd' THEN i.indisprimary WHEN 'i' THEN i.indisreplident ELSE false END)
+        AND CASE %(identity)s WHEN 'd' THEN i.indisprimary AND i.indimmediate WHEN 'i' THEN i.indisreplident ELSE false END)
     FROM pg_attribute a
     WHERE a.attrelid = %(table)s AND a.attname = ANY (%(names)s::name[])
     AND a.attnum > 0 AND NOT a.attisdropped AND a.attgenerated = '' ORDER BY a.attnum

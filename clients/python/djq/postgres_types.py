@@ -24,6 +24,8 @@ from .protocol import MOST_LINE, MOST_TEXT, Answer, Value, spell
 
 SETTINGS = "-c datestyle=ISO -c timezone=UTC -c client_encoding=UTF8 -c extra_float_digits=0"
 MOST_COLUMNS = 16  # of a relation
+LONGEST_NAME = 32  # bytes of a relation's name
+LONGEST_INT = 21  # bytes of an integer and the space before it
 MOST_DIGITS = 18  # of a numeric: as many as any number of 64 bits has room for
 
 BOOL, INT8, INT2, INT4, TEXT, VARCHAR = 16, 20, 21, 23, 25, 1043
@@ -147,15 +149,27 @@ class TableMapping:
 
     def read(self, row: Sequence[Said]) -> Answer:
         """The row of the relation. Raises `Unfit`, which names the table, the row's identity and the column."""
-        values: list[Value] = []
-        for place, text in enumerate(row):
-            try:
-                values.append(self._value(place, text))
-            except ValueError as error:
-                raise self._unfit(row, self.columns[place].name, str(error)) from None
+        values = tuple([self.value(row, place) for place in range(len(row))])
+        self.check(row, values)
+        return values
+
+    def value(self, row: Sequence[Said], place: int) -> Value:
+        """The value of one column of a row. Raises `Unfit`."""
+        try:
+            return self._value(place, row[place])
+        except ValueError as error:
+            raise self._unfit(row, self.columns[place].name, str(error)) from None
+
+    def check(self, row: Sequence[Said], values: Sequence[Value]) -> None:
+        """Raises `Unfit` if the line of these values is longer than the server accepts."""
         if str in self.types:
             self._check_line(row, values)
-        return tuple(values)
+
+    @property
+    def longest(self) -> int:
+        """How many bytes the line of a row can have, by the types of its columns."""
+        most = sum(LONGEST_INT if kind is int else 2 * MOST_TEXT + 3 for kind in self.types)
+        return min(MOST_LINE, most + len("add ") + LONGEST_NAME)
 
     def _value(self, place: int, text: Said) -> Value:
         if text is None:
@@ -168,9 +182,9 @@ class TableMapping:
             raise NotHeld("a large value that the update left as it was, and the row before isn't known")
         return self.readers[place](text)
 
-    def _check_line(self, row: Sequence[Said], values: list[Value]) -> None:
+    def _check_line(self, row: Sequence[Said], values: Sequence[Value]) -> None:
         """A row's line has to fit, also behind the words of the command."""
-        size = sum(len(spell(value).encode()) + 1 for value in values) + len("add ") + 32
+        size = sum(len(spell(value).encode()) + 1 for value in values) + len("add ") + LONGEST_NAME
         if size > MOST_LINE:
             raise self._unfit(row, "all columns", f"a line of {size} bytes, and {MOST_LINE} are the most")
 
