@@ -28,7 +28,7 @@ use Rattle.djq_machine.proofs.Relations.{walk_keeps}
 use Rattle.djq_run_laws.proofs.Lists.{queued_all, gaining}
 use Rattle.std.proofs.lemmas.List.Kept.{AllPairs-cons}
 use Rattle.djq_answer_laws.proofs.Lists.{hold_each, pairs_head, pairs_tail, mapped_there}
-use Rattle.djq_determinacy.specs.Determinacy.{SameText, is_equal, are_deltas, SameParts, IsNoRefusal}
+use Rattle.djq_determinacy.specs.Determinacy.{SameText, is_equal, are_deltas, SameQueued, IsNoRefusal}
 use Rattle.djq_determinacy.proofs.Sets.{Apart, AreAmong, same_set}
 
 -- ---- One delta.
@@ -67,15 +67,15 @@ same_length query a b n moved =
 -- two tellings have come as far
 record AsFar (m m' : Telling) : Type 0 where
   state : m.state ≡ m'.state
-  parts : SameParts m.queued m'.queued
+  parts : SameQueued m.queued m'.queued
   long : (s : ℕ) → length (to_session s m.queued) ≡ length (to_session s m'.queued)
 
 -- nothing that was told says that memory was refused
 abbrev IsClean : Telling → Type 0
 IsClean m = All (λ (q : ℕ × Bytes). IsNoRefusal q.1) m.queued
 
-same_push : (ps qs : List (ℕ × Bytes)) (s : ℕ) (a b : Bytes) → SameParts ps qs → SameText a b
-    → SameParts (ps ++ (s, a) ∷ []) (qs ++ (s, b) ∷ [])
+same_push : (ps qs : List (ℕ × Bytes)) (s : ℕ) (a b : Bytes) → SameQueued ps qs → SameText a b
+    → SameQueued (ps ++ (s, a) ∷ []) (qs ++ (s, b) ∷ [])
 same_push [] [] s a b h same = (refl, same, tt)
 same_push (p ∷ ps) (q ∷ qs) s a b h same = (h.0, h.1, same_push ps qs s a b h.2 same)
 same_push [] (q ∷ qs) s a b h same = absurd h
@@ -362,7 +362,7 @@ replies_same s reply m m' new new' far clean clean' h k =
 pub change_same : (old : State) (s : ℕ) (outcome : RowsOutcome) (store : Store) (reply : Bytes) (e e' : Effect)
     (new new' : State) → All (λ (q : ℕ × Bytes). IsNoRefusal q.1) e.queued → All (λ (q : ℕ × Bytes). IsNoRefusal q.1) e'.queued
     → ChangeStep old s outcome store reply e new → ChangeStep old s outcome store reply e' new'
-    → SameParts e.queued e'.queued × (new ≡ new')
+    → SameQueued e.queued e'.queued × (new ≡ new')
 change_same old s outcome store reply e e' new new' told told' h k =
     let clean = subst (λ qs. All (λ (q : ℕ × Bytes). IsNoRefusal q.1) qs) h.queued told in
     let clean' = subst (λ qs. All (λ (q : ℕ × Bytes). IsNoRefusal q.1) qs) k.queued told' in
@@ -374,6 +374,6 @@ change_same old s outcome store reply e e' new new' told told' h k =
     let far = deltas_same store.seq (cond (is_made outcome) h.deltas []) (cond (is_made outcome) k.deltas []) start start
     h.told k.told (told_same (is_made outcome) h.deltas k.deltas listed) none before before' h.tells k.tells in
     let last = replies_same s reply h.told k.told h.last k.last far clean clean' h.replies k.replies in (
-      subst (λ qs. SameParts qs e'.queued) (sym h.queued) (subst (λ qs. SameParts h.last.queued qs) (sym k.queued) last.parts),
+      subst (λ qs. SameQueued qs e'.queued) (sym h.queued) (subst (λ qs. SameQueued h.last.queued qs) (sym k.queued) last.parts),
       h.state ∙ last.state ∙ sym k.state,
     )

@@ -45,7 +45,7 @@ use Rattle.djq_store_spec.specs.Listing.{IsLeft}
 use Rattle.std.proofs.lemmas.List.Elements.{All-contains, Contains-append_left, Contains-append_right, Contains-append_cases}
 use Rattle.std.proofs.lemmas.List.Sorted.{length_permutation}
 use Rattle.djq_run_laws.proofs.Forms.{done_of}
-use Rattle.djq_determinacy.specs.Determinacy.{SameText, is_equal, are_pages, SameParts, IsNoRefusal}
+use Rattle.djq_determinacy.specs.Determinacy.{SameText, is_equal, are_pages, SameQueued, IsNoRefusal}
 
 -- ---- What is answered, memory aside.
 
@@ -96,10 +96,10 @@ pub not_err : {A : Type 0} (reply : Result A Refusal → Bytes) (s : ℕ) (r : R
 not_err reply s r e text queued told is = (not_refused s (reply r) e.queued queued told).0 (ap reply is ∙ text)
 
 pub same_alone : (s : ℕ) (a b : Bytes) (e e' : Effect) → e.queued ≡ (s, a) ∷ [] → e'.queued ≡ (s, b) ∷ [] → a ≡ b
-    → SameParts e.queued e'.queued
+    → SameQueued e.queued e'.queued
 same_alone s a b e e' is is' same =
-    subst (λ qs. SameParts qs e'.queued) (sym is)
-    (subst (λ qs. SameParts ((s, a) ∷ []) qs) (sym is') (refl, is_equal same, tt))
+    subst (λ qs. SameQueued qs e'.queued) (sym is)
+    (subst (λ qs. SameQueued ((s, a) ∷ []) qs) (sym is') (refl, is_equal same, tt))
 
 pub said : (s : ℕ) (text : Bytes) (e : Effect) → e ≡ says s text → e.queued ≡ (s, text) ∷ []
 said s text e is = ap (λ (d : Effect). d.queued) is
@@ -109,7 +109,7 @@ answered s text test e is = ap (λ (d : Effect). d.queued) is
 
 -- the same is queued, and the same store is left before rows are reordered
 abbrev pub Same : Effect → State → Effect → State → Type 0
-Same e new e' new' = SameParts e.queued e'.queued × (new.store ≡ new'.store)
+Same e new e' new' = SameQueued e.queued e'.queued × (new.store ≡ new'.store)
 
 -- ---- The commands.
 
@@ -427,8 +427,8 @@ module _ (old : State) (s : ℕ) (e e' : Effect) (new new' : State) (told : IsTo
   page_same : (c : Bytes) (q : Listed) (given : List Tuple) (count : ℕ) → NextStep old s c q given count e new
       → NextStep old s c q given count e' new' → Same e new e' new'
   page_same c q given count h k = (
-    subst (λ qs. SameParts qs e'.queued) (sym (ap (λ (d : Effect). d.queued) h.effect))
-        (subst (λ qs. SameParts ((s, text_of (listing_lines h.told h.end)) ∷ []) qs)
+    subst (λ qs. SameQueued qs e'.queued) (sym (ap (λ (d : Effect). d.queued) h.effect))
+        (subst (λ qs. SameQueued ((s, text_of (listing_lines h.told h.end)) ∷ []) qs)
         (sym (ap (λ (d : Effect). d.queued) k.effect))
         (refl, pages_same (AnswersOf old.store.relations q) given h.told k.told count h.end k.end h.tells k.tells, tt)),
     ap (λ (x : State). x.store) h.state ∙ sym (ap (λ (x : State). x.store) k.state),

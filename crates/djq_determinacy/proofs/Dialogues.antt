@@ -34,7 +34,7 @@ use Rattle.djq_model.specs.declared.value.Value.TheVariants.{Int}
 use Rattle.djq_model.specs.declared.query.Term.TheVariants.{Variable}
 use Rattle.djq_answer_laws.proofs.Lists.{first_there}
 use Rattle.djq_machine.specs.Step.{stepped, Acts}
-use Rattle.djq_determinacy.specs.Determinacy.{SameText, is_equal, are_pages, are_deltas, SameParts, IsNoRefusal, HasMemory, SaysSuch, is_settled}
+use Rattle.djq_determinacy.specs.Determinacy.{SameText, is_equal, are_pages, are_deltas, SameQueued, IsNoRefusal, HasMemory, SaysSuch, is_no_query}
 use Rattle.djq_determinacy.specs.Dialogues.{differences, over_one_row, IsAnsweredBy, Exchanged, IsAnsweredSo, AllAnswered, exchanges, holding_line, seven, sevens, one_row}
 use Rattle.djq_determinacy.proofs.Memory.{differs_at, memory_text}
 use Rattle.djq_determinacy.proofs.Prefixes.{step_of}
@@ -81,7 +81,7 @@ ends_otherwise text other front is =
 
 -- the tests of an exchange that a proof computes
 record IsPlain (x : Exchanged) : Type 0 where
-  such : SaysSuch is_settled (reading_of x.says)
+  such : SaysSuch is_no_query (reading_of x.says)
   plain : is_list (line x.reply) ≡ false
   reply_first : IsNoRefusal (line x.reply)
   other_first : IsNoRefusal (line x.other)
@@ -103,8 +103,8 @@ only_so x plain so = λ other. differs (bytes_eq-Decides (line x.reply) (line x.
         let same = is_determined (holding_line x.says x.store) (stepped 1 (run x.says)) so.effect other.effect so.new other.new
         plain.such so.step other.step (memory (line x.reply) so plain.reply_first)
         (memory (line x.other) other plain.other_first) in
-        let parts = subst (λ qs. SameParts qs ((1, line x.other) ∷ [])) so.queued
-        (subst (λ qs. SameParts so.effect.queued qs) other.queued same.0) in
+        let parts = subst (λ qs. SameQueued qs ((1, line x.other) ∷ [])) so.queued
+        (subst (λ qs. SameQueued so.effect.queued qs) other.queued same.0) in
         only_text (line x.reply) (line x.other) parts.1 plain.plain
 
     differs : Decides (bytes_eq (line x.reply) (line x.other)) (line x.reply ≡ line x.other) → line x.reply ≡ line x.other → ⊥
@@ -132,7 +132,7 @@ runs store l reply e mid acts queued = record {
 }
 
 -- one exchange, by what its line says
-exchange : (x : Exchanged) (r : Reading) (e : Effect) (mid : State) → reading_of x.says ≡ r → SaysSuch is_settled r
+exchange : (x : Exchanged) (r : Reading) (e : Effect) (mid : State) → reading_of x.says ≡ r → SaysSuch is_no_query r
     → front_of (line x.says) ≡ a_line x.says [] → is_blank x.says ≡ false
     → is_list (line x.reply) ≡ false → IsNoRefusal (line x.reply) → IsNoRefusal (line x.other)
     → bytes_eq (line x.reply) (line x.other) ≡ false → differences x.reply x.other ≡ 1
@@ -154,7 +154,7 @@ exchange x r e mid reads such front blank plain reply_first other_first differ o
       so = so;
       one_byte = one;
       not_so = only_so x (record {
-        such = subst (λ k. SaysSuch is_settled k) (sym reads) such;
+        such = subst (λ k. SaysSuch is_no_query k) (sym reads) such;
         plain = plain;
         reply_first = reply_first;
         other_first = other_first;

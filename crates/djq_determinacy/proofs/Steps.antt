@@ -27,14 +27,14 @@ use Rattle.djq_machine.specs.Step.{FedStep, TookStep, EndedStep}
 use Rattle.djq_machine.specs.Step.{Event, opened, fed, stepped, took, ended, closed, Acts, SameRelations, with_relations, is_dry}
 use Rattle.djq_run_laws.proofs.Deltas.{queued_store}
 use Rattle.djq_run_laws.proofs.Lists.{session_changed}
-use Rattle.djq_determinacy.specs.Determinacy.{is_equal, SameParts, SameStore, SaysSuch, IsSuch, is_settled, IsDetermined}
+use Rattle.djq_determinacy.specs.Determinacy.{is_equal, SameQueued, SameStore, SaysSuch, IsSuch, is_no_query, IsDetermined}
 use Rattle.djq_determinacy.proofs.Determinacy.{Same, IsTold, not_refused, said, same_alone, rel_same, drop_same, open_same, watch_same, unwatch_same, batch_same}
 use Rattle.djq_determinacy.proofs.Determinacy.{hold_same, has_same, shape_same, explain_same, refused_same, ends_same, close_same, union_same, next_same}
 use Rattle.djq_determinacy.proofs.DoneSame.{done_same}
 use Rattle.djq_determinacy.proofs.RowsSame.{GoesOn, delete_same, add_same}
 
 module _ (s : ℕ) (e e' : Effect) (new new' : State) (told : IsTold e) (told' : IsTold e') where
-  command_same : (old : State) (x : Session) (l : Bytes) (c : Command) → is_settled c ≡ true → GoesOn old s
+  command_same : (old : State) (x : Session) (l : Bytes) (c : Command) → is_no_query c ≡ true → GoesOn old s
       → CommandStep old s x l c e new → CommandStep old s x l c e' new' → Same e new e' new'
   command_same old x l (Rel name types) such goes h k = rel_same old s e e' new new' told told' name types h k
   command_same old x l (Union name members) such goes h k = union_same old s e e' new new' told told' name members h k
@@ -108,7 +108,7 @@ module _ (s : ℕ) (e e' : Effect) (new new' : State) (told : IsTold e) (told' :
   not_told' : (old : State) → RefusedStep old s NoMemory e' new' → ⊥
   not_told' old h = (not_refused s (refusal_line NoMemory) e'.queued (said s (refusal_line NoMemory) e' h.0) told').0 refl
 
-  said_same : (old : State) (x : Session) (l : Bytes) (c : Command) → is_settled c ≡ true → GoesOn old s
+  said_same : (old : State) (x : Session) (l : Bytes) (c : Command) → is_no_query c ≡ true → GoesOn old s
       → ReadStep old s x l (says_command c) e new → ReadStep old s x l (says_command c) e' new' → Same e new e' new'
   said_same old x l c such goes h k = by (is_misplaced x.batch c) h k
     where
@@ -129,7 +129,7 @@ module _ (s : ℕ) (e e' : Effect) (new new' : State) (told : IsTold e) (told' :
       by true h k = refused_same old s e e' new new' told told' Misplaced h k
       by false h k = read h.0 k.0 h.1 k.1
 
-  read_same : (old : State) (x : Session) (l : Bytes) (r : Reading) → SaysSuch is_settled r → GoesOn old s
+  read_same : (old : State) (x : Session) (l : Bytes) (r : Reading) → SaysSuch is_no_query r → GoesOn old s
       → ReadStep old s x l r e new → ReadStep old s x l r e' new' → Same e new e' new'
   read_same old x l outside such goes h k = refused_same old s e e' new new' told told' Syntax h k
   read_same old x l (past_limit c) such goes h k =
@@ -146,11 +146,11 @@ module _ (s : ℕ) (e e' : Effect) (new new' : State) (told : IsTold e) (told' :
       subst (λ o. IsSomeAnd o (λ (y : Session). y.cause ≡ None))
       (sym (session_changed old s (behind_line rest) (λ y. refl) ∙ ap (λ o. option_map (behind_line rest) o) found)) goes
 
-  nothing_same : e ≡ nothing → e' ≡ nothing → SameParts e.queued e'.queued
+  nothing_same : e ≡ nothing → e' ≡ nothing → SameQueued e.queued e'.queued
   nothing_same h k =
-      subst (λ (d : Effect). SameParts d.queued e'.queued) (sym h) (subst (λ (d : Effect). SameParts [] d.queued) (sym k) tt)
+      subst (λ (d : Effect). SameQueued d.queued e'.queued) (sym h) (subst (λ (d : Effect). SameQueued [] d.queued) (sym k) tt)
 
-  front_same : (old : State) (x : Session) (outcome : LineOutcome) → IsSuch is_settled (stepped s outcome)
+  front_same : (old : State) (x : Session) (outcome : LineOutcome) → IsSuch is_no_query (stepped s outcome)
       → session_of old s ≡ Some x → x.cause ≡ None → FrontStep old s x outcome e new → FrontStep old s x outcome e' new'
       → Same e new e' new'
   front_same old x long such found goes h k = ends_same old s e e' new new' told told' end_long Long old h.1 k.1
@@ -191,17 +191,17 @@ same_reordered [] [] (b ∷ bs) h k = absurd k
 same_reordered (r ∷ rs) [] bs h k = absurd h
 same_reordered (r ∷ rs) (a ∷ qs) [] h k = absurd k
 
-equal_same : (e e' : Effect) → e ≡ e' → SameParts e.queued e'.queued
-equal_same e e' is = subst (λ (d : Effect). SameParts e.queued d.queued) is (each e.queued)
+equal_same : (e e' : Effect) → e ≡ e' → SameQueued e.queued e'.queued
+equal_same e e' is = subst (λ (d : Effect). SameQueued e.queued d.queued) is (each e.queued)
   where
-    each : (qs : List (ℕ × Bytes)) → SameParts qs qs
+    each : (qs : List (ℕ × Bytes)) → SameQueued qs qs
     each [] = tt
     each (q ∷ qs) = (refl, is_equal refl, each qs)
 
-quiet_same : (e e' : Effect) → e ≡ nothing → e' ≡ nothing → SameParts e.queued e'.queued
+quiet_same : (e e' : Effect) → e ≡ nothing → e' ≡ nothing → SameQueued e.queued e'.queued
 quiet_same e e' h k = equal_same e e' (h ∙ sym k)
 
-acts_same : (old : State) (event : Event) (e e' : Effect) (mid mid' : State) → IsSuch is_settled event → IsTold e → IsTold e'
+acts_same : (old : State) (event : Event) (e e' : Effect) (mid mid' : State) → IsSuch is_no_query event → IsTold e → IsTold e'
     → Acts old event e mid → Acts old event e' mid' → Same e mid e' mid'
 acts_same old (opened s) e e' mid mid' such told told' h k =
     (quiet_same e e' h.0 k.0, stays mid h.2 ∙ sym (stays mid' k.2))
@@ -256,7 +256,7 @@ acts_same old (stepped s outcome) e e' mid mid' such told told' h k = by (sessio
     by None found h k = absurd h
     by (Some x) found h k = front_same s e e' mid mid' told told' old x outcome such found h.0 h.1 k.1
 
-pub is_determined : IsDetermined is_settled
+pub is_determined : IsDetermined is_no_query
 is_determined old event e e' new new' such h k memory memory' =
     let same = acts_same old event e e' h.mid k.mid such memory.told memory'.told h.acts k.acts in
     let left = ap (λ (st : State). st.store) h.queued ∙ queued_store (with_relations h.mid h.relations) e.queued in

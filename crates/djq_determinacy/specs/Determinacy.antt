@@ -26,10 +26,10 @@ pub data SameText (a b : Bytes) : Type 0 where
       → a ≡ text_of (delta_lines query changes n) → b ≡ text_of (delta_lines query changes' n) → SameText a b
 
 -- the same is queued, part by part, to the same sessions
-abbrev pub SameParts : List (ℕ × Bytes) → List (ℕ × Bytes) → Type 0
-SameParts [] [] = ⊤
-SameParts (p ∷ ps) (q ∷ qs) = (p.0 ≡ q.0) × SameText p.1 q.1 × SameParts ps qs
-SameParts _ _ = ⊥
+abbrev pub SameQueued : List (ℕ × Bytes) → List (ℕ × Bytes) → Type 0
+SameQueued [] [] = ⊤
+SameQueued (p ∷ ps) (q ∷ qs) = (p.0 ≡ q.0) × SameText p.1 q.1 × SameQueued ps qs
+SameQueued _ _ = ⊥
 
 -- the same store, but for the order of rows
 pub record SameStore (a b : Store) : Type 0 where
@@ -62,13 +62,13 @@ IsSuch such _ = ⊤
 
 -- The commands of which it is proved: all but `query`. Of a query that isn't free-connex it isn't shown yet that it has one
 -- rest alone.
-abbrev pub is_settled : Command → Bool
-is_settled (Query q) = false
-is_settled c = true
+abbrev pub is_no_query : Command → Bool
+is_no_query (Query q) = false
+is_no_query c = true
 
 -- **Nothing loose.** Two steps of one event from one state, to neither of which memory is refused, queue the same and
 -- leave the same store. Of commands it is said of such ones.
 abbrev pub IsDetermined : (Command → Bool) → Type 0
 IsDetermined such = (old : State) (event : Event) (e e' : Effect) (new new' : State) → IsSuch such event
     → Step old event e new → Step old event e' new' → HasMemory old event e new → HasMemory old event e' new'
-    → SameParts e.queued e'.queued × SameStore new.store new'.store
+    → SameQueued e.queued e'.queued × SameStore new.store new'.store

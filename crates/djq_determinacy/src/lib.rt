@@ -20,7 +20,7 @@
 //! What surprises: a `del` may be refused for memory while its line is read, and never once it is read.
 #![tactic(auto)]
 
-ghost use Rattle.djq_determinacy.specs.Determinacy.{IsDetermined, is_settled};
+ghost use Rattle.djq_determinacy.specs.Determinacy.{IsDetermined, is_no_query};
 ghost use Rattle.djq_determinacy.specs.Dialogues.{AllAnswered, exchanges};
 ghost use Rattle.djq_determinacy.specs.Memory.{NeverRefusedForMemory};
 ghost use Rattle.djq_determinacy.specs.Prefixes.{PrefixesReturn};
@@ -28,7 +28,7 @@ ghost use Rattle.djq_determinacy.specs.Prefixes.{PrefixesReturn};
 /// Two steps of one event from one state, to neither of which memory is refused, queue the same to each session, up to
 /// the order of a listing, and leave the same store, up to the order of rows. This is so of all commands but `query`.
 pub fn steps_are_determined()
-    ensures { IsDetermined is_settled }
+    ensures { IsDetermined is_no_query }
 {}
 
 /// Which commands are never refused for memory: those that take away, ask or end, once they are read.
