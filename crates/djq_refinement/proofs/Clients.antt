@@ -19,7 +19,7 @@ use Rattle.djq_abstract.specs.Moves.{CoreStep}
 use Rattle.djq_abstract.specs.Histories.{Happening, state_after, CoreRun, all_sent}
 use Rattle.djq_refinement.specs.View.{client_by, client_in, core_of, core_reading}
 use Rattle.djq_refinement.specs.Spelling.{SpellsMessage, AreSpelled}
-use Rattle.djq_refinement.specs.Refinement.{AreOfLine}
+use Rattle.djq_refinement.specs.Refinement.{MayBeCut, AreOfLine}
 
 -- ---- states and clients that agree are the same
 
@@ -227,9 +227,14 @@ goes_away E S old s e new events there after quiet = record {
 abbrev pub LineGoes : State → ℕ → Reading → Effect → State → Type 0
 LineGoes old s r e new = Going (AreOfLine s (core_reading old.store.queries r)) (SpellsMessage s r) old e new
 
-of_ending : (s : ℕ) (o : Option CoreCommand) → AreOfLine s o (disconnects s ∷ [])
-of_ending s None = refl
-of_ending s (Some c) = inr refl
+-- the line ends its session, or its reply may be cut
+abbrev pub MayEnd : Option CoreCommand → Type 0
+MayEnd None = Unit {0}
+MayEnd (Some c) = MayBeCut c
+
+of_ending : (s : ℕ) (o : Option CoreCommand) → MayEnd o → AreOfLine s o (disconnects s ∷ [])
+of_ending s None may = refl
+of_ending s (Some c) may = inr (may, refl)
 
 -- A command gets one reply.
 pub line_says : (old : State) (s : ℕ) (r : Reading) (e : Effect) (new : State) (c : CoreCommand) (m : CoreMessage)
@@ -254,10 +259,10 @@ line_says old s r e new c m text is step queued spelled = record {
 
 -- A line ends its session.
 pub line_ends : (old : State) (s : ℕ) (x : Session) (r : Reading) (e : Effect) (mid : State) (cause : EndCause)
-    (new : State) (text : Bytes) → session_of old s ≡ Some x → x.cause ≡ None → core_of mid ≡ core_of old
+    (new : State) (text : Bytes) → MayEnd (core_reading old.store.queries r) → session_of old s ≡ Some x → x.cause ≡ None → core_of mid ≡ core_of old
     → new ≡ with_session mid s (ended_by cause) → e.queued ≡ (s, text) ∷ [] → LineGoes old s r e new
-line_ends old s x r e mid cause new text found runs same after queued =
+line_ends old s x r e mid cause new text may found runs same after queued =
     goes_away (AreOfLine s (core_reading old.store.queries r)) (SpellsMessage s r) old s e new
-    (of_ending s (core_reading old.store.queries r)) (is_connected old s x found runs)
+    (of_ending s (core_reading old.store.queries r) may) (is_connected old s x found runs)
     (core_ended mid (core_of old) s cause new same after)
     (λ t k. ap (λ (qs : List (ℕ × Bytes)). parts_for t qs) queued ∙ parts_other s t text k)

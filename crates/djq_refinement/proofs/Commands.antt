@@ -289,7 +289,7 @@ module _ (old : State) (kept : AreKept old) (s : ℕ) (x : Session) (found : ses
       mid = record old { store = h.store }
 
       by_end : core_of mid ≡ core_of old → (test : Bool) → e ≡ answers s end_memory test → LineGoes old s r e new
-      by_end same test said = line_ends old s x r e mid Memory new end_memory found runs same h.ends.1
+      by_end same test said = line_ends old s x r e mid Memory new end_memory tt found runs same h.ends.1
           (queued_of e _ said)
 
       by : (o : Result QueryOutcome Refusal) → RegistersQuery old.store q o h.store
@@ -435,7 +435,7 @@ module _ (old : State) (kept : AreKept old) (s : ℕ) (x : Session) (found : ses
       (only_stays replied new (ap core_of h.1)) (queued_of e _ h.0)
       (and_some (listed_of old.store.queries q) (λ p. IsExplaining p (text_of lines)) l is explains)
   lines_go q l lines e new is explains (inr (told, lacking, rest, parts, ends)) =
-      line_ends old s x (says_command (Explain q)) e old Memory new (text_of told ++ end_memory) found runs refl ends.1
+      line_ends old s x (says_command (Explain q)) e old Memory new (text_of told ++ end_memory) tt found runs refl ends.1
       (queued_of e _ ends.0)
 
   pub explain_goes : (q : Bytes) (e : Effect) (new : State)
@@ -511,7 +511,7 @@ module _ (old : State) (kept : AreKept old) (s : ℕ) (x : Session) (found : ses
       turned_down (says_command (Next c count)) e new (next c count) refused _ refl (may_refuse (next c count)) refl
       (ap core_of h.1) (queued_of e _ h.0) (inr (relation, n, refl))
   next_at c k l count (open_at given finished) e new is over at (inr h) =
-      line_ends old s x (says_command (Next c count)) e old Memory new _ found runs refl h.state (queued_of e _ h.effect)
+      line_ends old s x (says_command (Next c count)) e old Memory new _ tt found runs refl h.state (queued_of e _ h.effect)
   next_at c k l count (open_at given finished) e new is over at (inl h) =
       accepted (says_command (Next c count)) e new (next c count) (page h.told h.end) _ refl
       (and_some (author.cursor c) (λ j. ReturnsPage (core_of old) s c count j

@@ -11,7 +11,7 @@ use Rattle.djq_answer_laws.proofs.Lists.{some_as}
 use Rattle.djq_machine.specs.State.{Session, State, session_of}
 use Rattle.djq_machine.specs.LineStep.{LineOutcome, long, blank, slow, no_room, run}
 use Rattle.djq_machine.specs.Step.{Event, opened, fed, stepped, took, ended, closed, Step}
-use Rattle.djq_machine.specs.Run.{Did, Run}
+use Rattle.djq_machine.specs.Run.{Did}
 use Rattle.djq_machine.specs.Watch.{is_watching}
 use Rattle.djq_machine.proofs.Relations.{walk_as}
 use Rattle.djq_run_laws.specs.Sound.{IsSoundStore, IsSoundState, IsStart}
@@ -19,14 +19,14 @@ use Rattle.djq_run_laws.specs.Watched.{IsWatcher, WatchesStep, WatchesAlong, par
 use Rattle.djq_run_laws.proofs.SoundStates.{step_sound, start_sound, runs_keep_sound}
 use Rattle.djq_abstract.specs.Rows.{AnswersOver}
 use Rattle.djq_abstract.specs.Clients.{Core, CoreCommand, CoreEvent, connects, disconnects, says}
-use Rattle.djq_abstract.specs.Histories.{Happening, state_after, CoreRun, HasNobody, IsReached, IsSubscribedAlong, all_sent}
+use Rattle.djq_abstract.specs.Histories.{Happening, state_after, CoreRun, HasNobody, IsSubscribedAlong, all_sent}
 use Rattle.djq_abstract.specs.Histories.{deltas_applied}
 use Rattle.djq_abstract.proofs.Sound.{finished_cursors_listed}
 use Rattle.djq_abstract.proofs.Live.{subscribers_have_answers}
 use Rattle.djq_refinement.specs.View.{client_by, client_in, core_of, core_reading}
 use Rattle.djq_refinement.specs.Spelling.{AreSpelled}
 use Rattle.djq_refinement.specs.Refinement.{AreOfLine, AreOfFront, AreCoreEvents, SpellsBy, IsSpelled}
-use Rattle.djq_refinement.specs.Refinement.{MachineFinishedListed, MachineSubscribersHaveAnswers}
+use Rattle.djq_refinement.specs.Refinement.{MachineStatesAreReached, MachineFinishedListed, MachineSubscribersHaveAnswers}
 use Rattle.djq_refinement.proofs.Stores.{answer_seen, answer_back, own_names}
 use Rattle.djq_refinement.proofs.Steps.{machine_refines_core}
 use Rattle.djq_refinement.proofs.AcceptedChanges.{spelled_append}
@@ -40,8 +40,7 @@ start_nobody start h = record {
   names = own_names start.store.queries h.store.queries;
 }
 
-reached : (start : State) → IsStart start → (done : List Did) (new : State) → Run start done new
-    → IsReached (core_of new)
+pub reached : MachineStatesAreReached
 reached start h done new w =
     let r = runs_refine_core start (start_sound start h) done new w in record {
       start = core_of start;
@@ -78,7 +77,7 @@ AreShort es = (es ≡ []) ⊎ ((e : CoreEvent) × (es ≡ e ∷ []))
 short_line : (s : ℕ) (o : Option CoreCommand) (es : List CoreEvent) → AreOfLine s o es → AreShort es
 short_line s None es h = inr (disconnects s, h)
 short_line s (Some c) es (inl h) = inr (says s c, h)
-short_line s (Some c) es (inr h) = inr (disconnects s, h)
+short_line s (Some c) es (inr h) = inr (disconnects s, h.1)
 
 short_front : (qs : List Listed) (s : ℕ) (o : LineOutcome) (es : List CoreEvent) → AreOfFront qs s o es → AreShort es
 short_front qs s (run l) es h = short_line s (core_reading qs (reading_of l)) es h

@@ -39,7 +39,7 @@ use Rattle.djq_refinement.specs.View.{client_by, core_of, core_command, core_rea
 use Rattle.djq_refinement.specs.Spelling.{SpellsMessage, IsRefusing}
 use Rattle.djq_refinement.specs.Refinement.{AreCoreEvents, SpellsBy, MachineRefinesCore}
 use Rattle.djq_refinement.proofs.Clients.{core_path, core_same, core_queued, by_held, goes_from}
-use Rattle.djq_refinement.proofs.Clients.{goes_silent, LineGoes, line_ends}
+use Rattle.djq_refinement.proofs.Clients.{goes_silent, LineGoes, MayEnd, line_ends}
 use Rattle.djq_refinement.proofs.Events.{EventGoes, open_goes, fed_goes, took_goes, input_goes, closed_goes, ends_goes}
 use Rattle.djq_refinement.proofs.Stores.{reordered_copies}
 use Rattle.djq_refinement.proofs.Commands.{refusing, accepted, author, is_author, only_stays, rel_goes, query_goes}
@@ -210,8 +210,8 @@ module _ (old : State) (kept : AreKept old) (rising : AreRising old) (s : ℕ) (
   drops e new (Some held) is placed h = abandon_goes old kept s x found runs held e new is h
 
   ends_line : (c : Command) (text : Bytes) (cause : EndCause) (mid : State) (e : Effect) (new : State)
-      → core_of mid ≡ core_of old → EndsWith text cause mid s e new → LineGoes old s (says_command c) e new
-  ends_line c text cause mid e new same h = line_ends old s x (says_command c) e mid cause new text found runs same h.1
+      → MayEnd (core_command old.store.queries c) → core_of mid ≡ core_of old → EndsWith text cause mid s e new → LineGoes old s (says_command c) e new
+  ends_line c text cause mid e new may same h = line_ends old s x (says_command c) e mid cause new text may found runs same h.1
       (ap (λ (d : Effect). d.queued) h.0)
 
   command_goes : (l : Bytes) (c : Command) (e : Effect) (new : State) → IsSoundStore new.store
@@ -235,9 +235,9 @@ module _ (old : State) (kept : AreKept old) (rising : AreRising old) (s : ℕ) (
   command_goes l Batch e new sound placed h = begins e new x.batch refl placed h
   command_goes l (Done given) e new sound placed h = does_lines given e new sound x.batch refl h
   command_goes l Abandon e new sound placed h = drops e new x.batch refl placed h
-  command_goes l Quit e new sound placed h = ends_line Quit (lost_line x.batch ++ bye) SaidQuit old e new refl h
+  command_goes l Quit e new sound placed h = ends_line Quit (lost_line x.batch ++ bye) SaidQuit old e new tt refl h
   command_goes l Stop e new sound placed h =
-      ends_line Stop (lost_line x.batch ++ bye) SaidStop (record old { stopped = true }) e new refl h
+      ends_line Stop (lost_line x.batch ++ bye) SaidStop (record old { stopped = true }) e new tt refl h
 
   -- ---- a line that is run
 

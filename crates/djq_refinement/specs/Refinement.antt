@@ -14,8 +14,9 @@ use Rattle.djq_run_laws.specs.Moved.{SparesSession}
 use Rattle.djq_run_laws.specs.Sound.{IsSoundState, IsStart}
 use Rattle.djq_run_laws.specs.Staying.{GoesOn}
 use Rattle.djq_run_laws.specs.Watched.{WatchesAlong, parts_for, parts_to}
-use Rattle.djq_abstract.specs.Clients.{Core, CoreCommand, CoreMessage, valid, CoreEvent, connects, disconnects, says}
-use Rattle.djq_abstract.specs.Histories.{Happening, state_after, CoreRun, deltas_applied, all_sent}
+use Rattle.djq_abstract.specs.Clients.{Core, CoreCommand, register, next, ask, CoreMessage, valid, CoreEvent, connects}
+use Rattle.djq_abstract.specs.Clients.{disconnects, says}
+use Rattle.djq_abstract.specs.Histories.{Happening, state_after, CoreRun, IsReached, deltas_applied, all_sent}
 use Rattle.djq_refinement.specs.View.{core_of, core_reading}
 use Rattle.djq_refinement.specs.Spelling.{SpellsMessage, AreSpelled}
 
@@ -23,11 +24,19 @@ use Rattle.djq_refinement.specs.Spelling.{SpellsMessage, AreSpelled}
 abbrev pub MayDisconnect : ℕ → List CoreEvent → Type 0
 MayDisconnect s events = (events ≡ []) ⊎ (events ≡ disconnects s ∷ [])
 
+-- Commands whose reply may be of any length, so that memory may be out as it is written: the rest of a query that isn't
+-- registered, a page, an explanation.
+abbrev pub MayBeCut : CoreCommand → Type 0
+MayBeCut (register q) = Unit {0}
+MayBeCut (next c count) = Unit {0}
+MayBeCut ask = Unit {0}
+MayBeCut _ = ⊥
+
 -- The event of the core that the line of a session is: its command; or the session is disconnected, since the line ends
--- it, or memory is out as it is answered.
+-- it, or its reply is cut.
 abbrev pub AreOfLine : ℕ → Option CoreCommand → List CoreEvent → Type 0
 AreOfLine s None events = events ≡ disconnects s ∷ []
-AreOfLine s (Some c) events = (events ≡ says s c ∷ []) ⊎ (events ≡ disconnects s ∷ [])
+AreOfLine s (Some c) events = (events ≡ says s c ∷ []) ⊎ (MayBeCut c × (events ≡ disconnects s ∷ []))
 
 -- The events of the core that the front of a session's bytes is.
 abbrev pub AreOfFront : List Listed → ℕ → LineOutcome → List CoreEvent → Type 0
@@ -103,6 +112,12 @@ abbrev pub CoursesRefineCore : Type 0
 CoursesRefineCore = (start : State) → IsStart start → (before now : Outside) (state : State)
     → (course : Course start before now state)
     → (walk : Run start course.done state) × RefinesRun start course.done state walk
+
+-- Each state that a run of the machine reaches from a start is one that a run of the core reaches: all that is proved of
+-- these holds of it.
+abbrev pub MachineStatesAreReached : Type 0
+MachineStatesAreReached = (start : State) → IsStart start → (done : List Did) (new : State) → Run start done new
+    → IsReached (core_of new)
 
 -- By the core's first law: in each state that a run of the machine reaches from a start, a finished cursor that isn't
 -- stale has returned each answer over the present rows once, and nothing else.

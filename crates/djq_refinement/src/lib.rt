@@ -33,7 +33,8 @@
 #![tactic(auto)]
 
 ghost use Rattle.djq_refinement.specs.Refinement.{MachineRefinesCore, RunsRefineCore, CoursesRefineCore};
-ghost use Rattle.djq_refinement.specs.Refinement.{MachineFinishedListed, MachineSubscribersHaveAnswers};
+ghost use Rattle.djq_refinement.specs.Refinement.{MachineStatesAreReached, MachineFinishedListed};
+ghost use Rattle.djq_refinement.specs.Refinement.{MachineSubscribersHaveAnswers};
 
 /// Each step of the machine from a sound state is a step of the core, or none: a session opens, or says its
 /// line's command, or is disconnected. To each session that goes on after it the core sends the
@@ -51,11 +52,13 @@ pub fn runs_refine_core()
     ensures courses { CoursesRefineCore }
 {}
 
-/// The core's two promises, of runs of the machine from a state to start from. A finished cursor that isn't
+/// Each state that a run of the machine reaches from a state to start from is one that a run of the core
+/// reaches. So the core's two promises hold of the machine. A finished cursor that isn't
 /// stale has returned each answer over the present rows once. A session that has a listing of a
 /// query's answers and watches it from then on has the answers over the present rows by applying the
 /// deltas that are queued to it.
 pub fn promises_hold_of_runs()
+    ensures reached { MachineStatesAreReached }
     ensures finished { MachineFinishedListed }
     ensures subscribers { MachineSubscribersHaveAnswers }
 {}
