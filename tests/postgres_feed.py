@@ -274,6 +274,7 @@ def shop(program, postgres, whole=False, log=None, words=()):
         make_shop(sql, whole)
         with Feed(dsn, server.port, *TABLES, *words) as feed:
             await_place(sql, server)
+            feed.await_said("rows of")
             yield dsn, sql, server, feed
 
 
@@ -467,7 +468,6 @@ def a_kill_of_djq_without_a_log(program, postgres):
                 wait_for(lambda: present(client) == answers, "for Redis")
             expect([entry for entry in entries(client) if entry.went], [])
             expect_copies(sql, server, "lines")
-            assert feed.has_said("rows of"), feed.said
 
 
 class Gate(Proxy):
@@ -513,7 +513,7 @@ class Gate(Proxy):
 
 @test
 def a_large_transaction_is_killed_in_its_middle(program, postgres):
-    """A transaction of 30,000 rows is cut into pieces; it goes on behind the last that is there."""
+    """A transaction of 30,000 rows is cut into pieces; it is resumed after the last that is there."""
     count = 30_000 if LONG else 12_000
     statements = (
         f"INSERT INTO wide SELECT n, 'a', 'b', 'c', 'd', 'e', 'f', 'g' FROM generate_series(1, {count}) AS n",
@@ -537,7 +537,7 @@ def a_large_transaction_is_killed_in_its_middle(program, postgres):
                 feed.kill()
                 gate.open()
                 feed.start()
-                feed.await_said("goes on from")
+                feed.await_said("resumes at")
                 assert feed.has_said(f"and {passed} pieces") and not feed.has_said("rows of"), (feed.said, positions(server))
                 await_place(sql, server)
                 with contextlib.closing(server.connect()) as session:
@@ -661,7 +661,7 @@ def end_stream(sql):
 
 @test
 def a_stopped_feed_is_replaced(program, postgres):
-    """One that is stopped until another has its slot, and then goes on, carries nothing out a second time."""
+    """One that is stopped until another has its slot, and then continued, commits nothing a second time."""
     with shop(program, postgres, words=()) as (dsn, sql, server, feed), Feed(dsn, server.port, *TABLES) as other:
         writers, pair = Shop(dsn, seed=3), [feed, other]
         pair[1].await_said("is active")
@@ -671,7 +671,7 @@ def a_stopped_feed_is_replaced(program, postgres):
                 wait_for(lambda before=before: writers.done > before + 20, "for the writers")
                 pair[0].send(signal.SIGSTOP)
                 end_stream(sql)
-                pair[1].await_said("goes on from")
+                pair[1].await_said("resumes at")
                 before = writers.done
                 wait_for(lambda before=before: writers.done > before + 20, "for the writers")
                 pair[0].send(signal.SIGCONT)
@@ -796,7 +796,7 @@ def rows_that_somebody_else_changed(program, postgres):
 
 @test
 def an_older_log_of_djq(program, postgres):
-    """A djq with a position before what PostgreSQL has forgotten is compared; one with a later one goes on."""
+    """If the position of djq is before what is confirmed to PostgreSQL, all rows are compared; else it is resumed."""
     with log_path() as log, shop(program, postgres, log=log) as (_, sql, server, feed):
         server.process.kill()
         server.process.wait()
@@ -818,8 +818,8 @@ def an_older_log_of_djq(program, postgres):
         restart(server, program, log)
         feed.start()
         expect_same(sql, server)
-        expect([line for line in feed.said if "goes on" in line], [])
-        assert feed.has_said("rows of"), feed.said
+        feed.await_said("rows of")
+        expect([line for line in feed.said if "resumes" in line], [])
 
 
 def confirmed(sql):
@@ -870,7 +870,7 @@ def a_truncated_table(program, postgres):
             expect([(told.came, told.went) for told in told], [({(7, "bolt", 1)}, before)])
         sql.execute("INSERT INTO lines VALUES (8, 'nut', 1); TRUNCATE lines, orders")
         expect_same(sql, server)
-        expect(sum("a table was truncated" in line for line in feed.said), 2)
+        wait_for(lambda: sum("a table was truncated" in line for line in feed.said) == 2, "for what it says")
 
 
 @test

@@ -93,10 +93,11 @@ def drop_publication(sql: Any, name: str) -> None:
 def _chosen(sql: Any, source: Source) -> list[Chosen]:
     there = published(sql, source.publication)
     labels = [table.label for table in there]
-    wrong = [f"{name}: the publication {source.publication} doesn't have it" for name in source.tables if name not in labels]
+    publication = source.publication
+    wrong = [f"{name}: the publication {publication} doesn't have it" for name in source.tables if name not in labels]
     wrong += [f"{name}: --null names no table that is followed" for name, _, _ in source.nulls if name not in labels]
     if not there:
-        wrong.append(f"the publication {source.publication} has no table")
+        wrong.append(f"the publication {publication} has no table")
     names = type_names(sql, there)
     chosen: list[Chosen] = []
     for table in there:
@@ -138,8 +139,8 @@ class Slot:
 
 
 def state_of(sql: Any, slot: str) -> tuple[int, bool] | None:
-    """Up to where a slot is confirmed, and whether it can be read; none if there is no slot. Raises `Unfit` if it is one
-    of another kind."""
+    """Up to which place a slot is confirmed, and whether it can be read; none if there is no slot. Raises `Unfit` if it
+    is one of another kind."""
     with sql.cursor() as cursor:
         cursor.execute(_STATE, (slot,))
         found = cursor.fetchone()
@@ -153,7 +154,8 @@ def state_of(sql: Any, slot: str) -> tuple[int, bool] | None:
 
 
 _STATE = """
-    SELECT confirmed_flush_lsn::text, coalesce(wal_status <> 'lost', true), coalesce(database, 'none'), coalesce(plugin, 'none')
+    SELECT confirmed_flush_lsn::text, coalesce(wal_status <> 'lost', true), coalesce(database, 'none'),
+        coalesce(plugin, 'none')
     FROM pg_replication_slots WHERE slot_name = %s
 """
 
