@@ -312,7 +312,7 @@ def log_path():
 
 
 def random_transactions(program, postgres, whole, log):
-    rounds, count = (10, 250) if LONG else (3, 40)
+    rounds, count = (10, 500) if LONG else (3, 40)
     with shop(program, postgres, whole, log) as (dsn, sql, server, feed):
         writers = Shop(dsn, seed=f"{whole} {log is None}")
         for _ in range(rounds):
