@@ -888,6 +888,7 @@ def definitions_that_change(program, postgres):
         status, said = feed.ends()
         expect(status, 1)
         assert "the relation orders is there with other columns than int text int, and can't be replaced" in said, said
+        assert "The slot djq stays" in said, said
 
 
 # What is refused, and how
@@ -914,12 +915,17 @@ def what_cannot_be_followed(program, postgres):
                 expect(status, 1, told)
                 assert said in told, (words, told)
             sql.execute("SELECT slot_name::text FROM pg_replication_slots UNION ALL SELECT pubname FROM pg_publication")
-            made = sql.fetchall()
-            expect(made if "--beat" not in words else [], [], words)
+            expect(sql.fetchall(), [], words)
             with contextlib.closing(server.connect()) as session:
                 for name in "t", "u", RELATION:
                     raises(djq.NoRelation, lambda name=name, session=session: session.add(name, 1))
-            sql.execute("DROP PUBLICATION IF EXISTS djq")
+        # a slot of another kind
+        sql.execute("SELECT pg_create_logical_replication_slot('djq', 'test_decoding')")
+        with Feed(dsn, server.port, "--tables", "u", "--null", "u.b=") as feed:
+            status, told = feed.ends()
+            assert status == 1 and "the slot djq is one of test_decoding in the database" in told, told
+        sql.execute("SELECT pubname FROM pg_publication")
+        expect(sql.fetchall(), [])
 
 
 @test

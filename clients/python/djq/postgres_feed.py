@@ -46,9 +46,9 @@ class Target:
 class Feed:
     """One session: the slot's stream on one side, the server on the other."""
 
-    def __init__(self, source: Source, target: Target, beat: str | None, compares: bool) -> None:
-        self._source, self._target, self._beat = source, target, beat
-        self._compares = compares
+    def __init__(self, source: Source, target: Target, compares: bool) -> None:
+        self.has_slot = False  # whether the slot stays if the session ends
+        self._source, self._target, self._compares = source, target, compares
         self._stack = contextlib.ExitStack()
         self._psycopg2 = importlib.import_module("psycopg2")
         self._reported = time.monotonic()
@@ -69,36 +69,38 @@ class Feed:
         self._stack.callback(self._server.close)
         self._held = Positions(self._server, source.slot)
         self._chosen, made_publication = choose(self._sql, source)
-        self._check_beat()
-        self._slot = open_slot(self._sql, source, self._invalidate)
+        try:
+            position = self._open()
+        except Unfit:
+            if made_publication:
+                with contextlib.suppress(self._psycopg2.Error):
+                    drop_publication(self._sql, source.publication)
+            raise
+        self._register()
+        beat = next((one.table.relation for one in self._chosen if one.table.label == source.beat), None)
+        self.made = Transactions(position, self._tables, beat)
+
+    def _open(self) -> Position:
+        """Opens the slot, and brings the rows to a position. A slot that was created for nothing is dropped."""
+        self._slot = open_slot(self._sql, self._source, self._invalidate)
         self._stack.callback(self._slot.stream.close)
+        self.has_slot = self._slot.made is None
         self._tables = {one.table.relation: one.follow() for one in self._chosen}
         try:
             position = self._resume() or self._compare()
         except Unfit:
-            self._unmake(made_publication)
+            if self._slot.made is not None:
+                self._slot.stream.close()
+                with contextlib.suppress(self._psycopg2.Error):
+                    wait_and_drop(self._sql, self._source.slot)
             raise
-        self._register()
-        beat = next((one.table.relation for one in self._chosen if one.table.label == self._beat), None)
-        self.made = Transactions(position, self._tables, beat)
-
-    def _check_beat(self) -> None:
-        if self._beat is not None and self._beat not in [one.table.label for one in self._chosen]:
-            raise Unfit(f"--beat {self._beat}: it is none of the tables that are followed")
+        self.has_slot = True
+        return position
 
     def _invalidate(self) -> None:
         """Before the slot is created: a position is of the one before."""
         if self._held.find(self._query_of("")):
             self._held.invalidate()
-
-    def _unmake(self, made_publication: bool) -> None:
-        """Drops what was created in vain."""
-        with contextlib.suppress(self._psycopg2.Error):
-            if self._slot.made is not None:
-                self._slot.stream.close()
-                wait_and_drop(self._sql, self._source.slot)
-            if made_publication:
-                drop_publication(self._sql, self._source.publication)
 
     # The position
 

@@ -50,31 +50,29 @@ log = logging.getLogger("djq")
 class Runner:
     """Runs sessions, one after another."""
 
-    def __init__(self, source: Source, target: Target, beat: str | None, compares: bool) -> None:
-        self._source, self._target, self._beat = source, target, beat
-        self._compares = compares
+    def __init__(self, source: Source, target: Target, compares: bool) -> None:
+        self._source, self._target, self._compares = source, target, compares
         self._redefined = ""  # what the last session ended by, if that was a definition
         self._waits = Waits("changes of PostgreSQL")
 
     def run(self) -> NoReturn:
         """Runs until an error that doesn't pass: raises `Unfit`, another `Error`, or what psycopg2 raises."""
         while True:
-            with Feed(self._source, self._target, self._beat, self._compares) as feed:
+            with Feed(self._source, self._target, self._compares) as feed:
                 pause = self._once(feed)
             time.sleep(pause)
 
     def _once(self, feed: Feed) -> float:
         """A session. Gives the seconds before the next one."""
-        is_begun = False
         try:
             feed.begin()
-            is_begun, self._compares = True, False
+            self._compares = False
             self._waits = Waits("changes of PostgreSQL")
             feed.follow()
         except Redefined as error:
             return self._redefine(error, feed)
         except Unfit as error:
-            raise self._stopped(error) if is_begun else error
+            raise self._stopped(error) if feed.has_slot else error
         except (Anew, Differs) as error:
             return self._anew(error)
         except (Busy, Moved, *PASSING) as error:
@@ -99,8 +97,8 @@ class Runner:
     def _stopped(self, error: Unfit) -> Unfit:
         slot = self._source.slot
         return Unfit(
-            f"{error}\nAll earlier transactions are committed. The slot {slot} stays, and PostgreSQL retains its log for it"
-            " from here on: repair the row and start with --compare, or drop the slot by"
+            f"{error}\nThe slot {slot} stays, and PostgreSQL retains its log for it from the next transaction on: repair what"
+            " is named and start with --compare, or drop the slot by"
             f" SELECT pg_drop_replication_slot('{slot}')"
         )
 
@@ -117,7 +115,7 @@ def main() -> None:
     source = _source(words, given)
     target = Target(host, port, tuple(given.query), tuple(_unions(words, given.union)))
     try:
-        Runner(source, target, given.beat, given.compare).run()
+        Runner(source, target, given.compare).run()
     except KeyboardInterrupt:
         pass
     except Error as error:
@@ -162,7 +160,8 @@ def _source(words: argparse.ArgumentParser, given: argparse.Namespace) -> Source
     tables = tuple(name.strip().removeprefix("public.") for name in given.tables.split(",") if name.strip())
     if not tables and given.tables:
         words.error(f"--tables: no table: {given.tables!r}")
-    return Source(given.dsn, given.publication, given.slot, tables, tuple(_null(words, said) for said in given.null))
+    nulls = tuple(_null(words, said) for said in given.null)
+    return Source(given.dsn, given.publication, given.slot, tables, nulls, given.beat)
 
 
 def _null(words: argparse.ArgumentParser, said: str) -> tuple[str, str, str]:
