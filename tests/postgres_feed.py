@@ -618,6 +618,49 @@ def pieces_are_cut_alike(program, postgres):
             expect(steps[-1].position, Position("s", 1, 850, 0))
 
 
+def states_of(messages):
+    """The rows after each transaction, by the place behind it."""
+    rows, keyed, states = collections.Counter(), {}, {}
+    for message in messages:
+        if isinstance(message, Commit):
+            states[message.end] = +rows + collections.Counter({("keyed", row): 1 for row in keyed.items()})
+        elif isinstance(message, (Insert, Update)) and message.relation == KEYED.relation:
+            if isinstance(message, Update) and message.key is not None:
+                del keyed[int(message.key[0])]
+            keyed[int(message.new[0])] = int(message.new[1])
+        elif isinstance(message, Delete) and message.relation == KEYED.relation:
+            del keyed[int(message.key[0])]
+        elif isinstance(message, (Insert, Delete)):
+            came = isinstance(message, Insert)
+            rows["bare", (int((message.new if came else message.old)[0]),)] += 1 if came else -1
+    return states
+
+
+@test
+def whole_transactions_alone(program, postgres):
+    """Whenever it is flushed or moved, the rows at a position are those of the transactions up to it."""
+    for seed in range(40):
+        draw = random.Random(seed)
+        messages = list(drawn_messages(draw))
+        states = {50: collections.Counter(), **states_of(messages)}
+        with mock.patch("djq.postgres_transactions.ROOM_LINES", draw.choice((12, 60, 1000))):
+            made, rows, whole, end = Transactions(Position("s", 1, 50, 0), tables_with(())), collections.Counter(), 0, 50
+            for message in messages:
+                steps = list(made.take(message))
+                end = message.end if isinstance(message, Commit) else end
+                if draw.random() < 0.2:
+                    steps += list(draw.choice((made.flush, lambda end=end, made=made: made.move(end)))())
+                for step in steps:
+                    rows = carried_out(rows, step.lines)
+                    assert step.position.lsn >= whole or step.position.pieces, (seed, step)
+                    if step.position.pieces == 0:
+                        whole = step.position.lsn
+                        expect(rows, states[max(place for place in states if place <= whole)], (seed, step))
+            for step in made.flush():
+                rows = carried_out(rows, step.lines)
+            expect((rows, made.position.lsn), (states[850], 850), seed)
+
+
 @test
 def a_comparison_is_killed_in_its_middle(program, postgres):
     """More rows than one transaction holds are compared anew, and the queries come once all are there."""
@@ -857,6 +900,35 @@ def a_position_of_another_postgres(program, postgres):
             feed.start()
             feed.await_said("rows of")
             expect_same(sql, server)
+
+
+@test
+def changes_of_other_tables(program, postgres):
+    """They move the position and what is confirmed, so a session that is killed, or whose PostgreSQL is stopped, is resumed."""
+    with shop(program, postgres) as (dsn, sql, server, feed):
+        sql.execute("CREATE TABLE other (a int)")
+        for number in range(6):
+            before = confirmed(sql)
+            sql.execute("INSERT INTO other SELECT generate_series(1, 1000)")
+            if number % 3:
+                sql.execute("UPDATE orders SET who = who || 'o' WHERE id = 3")
+            await_place(sql, server)
+            wait_for(lambda before=before: confirmed(sql) > before, "for what is confirmed")
+            sql.execute("INSERT INTO other SELECT generate_series(1, 1000)")
+            if number % 2:
+                feed.kill()
+                feed.start()
+                feed.await_said("resumes at")
+        expect_same(sql, server)
+        postgres.process.send_signal(signal.SIGINT)  # stops, once all streams have confirmed its last place
+        postgres.process.wait(PATIENT)
+        said = len(feed.said)
+        postgres.start()
+        wait_for(lambda: any("resumes at" in line for line in feed.said[said:]), "for the stream")
+        expect([line for line in feed.said if "rows of" in line], [])
+        with contextlib.closing(connect(dsn)) as again, again.cursor() as own:
+            again.autocommit = True
+            expect_same(own, server)
 
 
 @test
