@@ -274,6 +274,7 @@ def shop(program, postgres, whole=False, log=None, words=()):
         make_shop(sql, whole)
         with Feed(dsn, server.port, *TABLES, *words) as feed:
             await_place(sql, server)
+            feed.await_said("rows of")
             yield dsn, sql, server, feed
 
 
@@ -311,7 +312,7 @@ def log_path():
 
 
 def random_transactions(program, postgres, whole, log):
-    rounds, count = (10, 250) if LONG else (3, 40)
+    rounds, count = (10, 500) if LONG else (3, 40)
     with shop(program, postgres, whole, log) as (dsn, sql, server, feed):
         writers = Shop(dsn, seed=f"{whole} {log is None}")
         for _ in range(rounds):
@@ -467,7 +468,6 @@ def a_kill_of_djq_without_a_log(program, postgres):
                 wait_for(lambda: present(client) == answers, "for Redis")
             expect([entry for entry in entries(client) if entry.went], [])
             expect_copies(sql, server, "lines")
-            assert feed.has_said("rows of"), feed.said
 
 
 class Gate(Proxy):
@@ -513,7 +513,7 @@ class Gate(Proxy):
 
 @test
 def a_large_transaction_is_killed_in_its_middle(program, postgres):
-    """A transaction of 30,000 rows is cut into pieces; it goes on behind the last that is there."""
+    """A transaction of 30,000 rows is cut into pieces; it is resumed after the last that is there."""
     count = 30_000 if LONG else 12_000
     statements = (
         f"INSERT INTO wide SELECT n, 'a', 'b', 'c', 'd', 'e', 'f', 'g' FROM generate_series(1, {count}) AS n",
@@ -537,7 +537,7 @@ def a_large_transaction_is_killed_in_its_middle(program, postgres):
                 feed.kill()
                 gate.open()
                 feed.start()
-                feed.await_said("goes on from")
+                feed.await_said("resumes at")
                 assert feed.has_said(f"and {passed} pieces") and not feed.has_said("rows of"), (feed.said, positions(server))
                 await_place(sql, server)
                 with contextlib.closing(server.connect()) as session:
@@ -618,6 +618,49 @@ def pieces_are_cut_alike(program, postgres):
             expect(steps[-1].position, Position("s", 1, 850, 0))
 
 
+def states_of(messages):
+    """The rows after each transaction, by the place behind it."""
+    rows, keyed, states = collections.Counter(), {}, {}
+    for message in messages:
+        if isinstance(message, Commit):
+            states[message.end] = +rows + collections.Counter({("keyed", row): 1 for row in keyed.items()})
+        elif isinstance(message, (Insert, Update)) and message.relation == KEYED.relation:
+            if isinstance(message, Update) and message.key is not None:
+                del keyed[int(message.key[0])]
+            keyed[int(message.new[0])] = int(message.new[1])
+        elif isinstance(message, Delete) and message.relation == KEYED.relation:
+            del keyed[int(message.key[0])]
+        elif isinstance(message, (Insert, Delete)):
+            came = isinstance(message, Insert)
+            rows["bare", (int((message.new if came else message.old)[0]),)] += 1 if came else -1
+    return states
+
+
+@test
+def whole_transactions_alone(program, postgres):
+    """Whenever it is flushed or moved, the rows at a position are those of the transactions up to it."""
+    for seed in range(40):
+        draw = random.Random(seed)
+        messages = list(drawn_messages(draw))
+        states = {50: collections.Counter(), **states_of(messages)}
+        with mock.patch("djq.postgres_transactions.ROOM_LINES", draw.choice((12, 60, 1000))):
+            made, rows, whole, end = Transactions(Position("s", 1, 50, 0), tables_with(())), collections.Counter(), 0, 50
+            for message in messages:
+                steps = list(made.take(message))
+                end = message.end if isinstance(message, Commit) else end
+                if draw.random() < 0.2:
+                    steps += list(draw.choice((made.flush, lambda end=end, made=made: made.move(end)))())
+                for step in steps:
+                    rows = carried_out(rows, step.lines)
+                    assert step.position.lsn >= whole or step.position.pieces, (seed, step)
+                    if step.position.pieces == 0:
+                        whole = step.position.lsn
+                        expect(rows, states[max(place for place in states if place <= whole)], (seed, step))
+            for step in made.flush():
+                rows = carried_out(rows, step.lines)
+            expect((rows, made.position.lsn), (states[850], 850), seed)
+
+
 @test
 def a_comparison_is_killed_in_its_middle(program, postgres):
     """More rows than one transaction holds are compared anew, and the queries come once all are there."""
@@ -661,7 +704,7 @@ def end_stream(sql):
 
 @test
 def a_stopped_feed_is_replaced(program, postgres):
-    """One that is stopped until another has its slot, and then goes on, carries nothing out a second time."""
+    """One that is stopped until another has its slot, and then continued, commits nothing a second time."""
     with shop(program, postgres, words=()) as (dsn, sql, server, feed), Feed(dsn, server.port, *TABLES) as other:
         writers, pair = Shop(dsn, seed=3), [feed, other]
         pair[1].await_said("is active")
@@ -671,7 +714,7 @@ def a_stopped_feed_is_replaced(program, postgres):
                 wait_for(lambda before=before: writers.done > before + 20, "for the writers")
                 pair[0].send(signal.SIGSTOP)
                 end_stream(sql)
-                pair[1].await_said("goes on from")
+                pair[1].await_said("resumes at")
                 before = writers.done
                 wait_for(lambda before=before: writers.done > before + 20, "for the writers")
                 pair[0].send(signal.SIGCONT)
@@ -796,7 +839,7 @@ def rows_that_somebody_else_changed(program, postgres):
 
 @test
 def an_older_log_of_djq(program, postgres):
-    """A djq with a position before what PostgreSQL has forgotten is compared; one with a later one goes on."""
+    """If the position of djq is before what is confirmed to PostgreSQL, all rows are compared; else it is resumed."""
     with log_path() as log, shop(program, postgres, log=log) as (_, sql, server, feed):
         server.process.kill()
         server.process.wait()
@@ -818,8 +861,8 @@ def an_older_log_of_djq(program, postgres):
         restart(server, program, log)
         feed.start()
         expect_same(sql, server)
-        expect([line for line in feed.said if "goes on" in line], [])
-        assert feed.has_said("rows of"), feed.said
+        feed.await_said("rows of")
+        expect([line for line in feed.said if "resumes" in line], [])
 
 
 def confirmed(sql):
@@ -860,6 +903,35 @@ def a_position_of_another_postgres(program, postgres):
 
 
 @test
+def changes_of_other_tables(program, postgres):
+    """They move the position and what is confirmed, so a session that is killed, or whose PostgreSQL is stopped, is resumed."""
+    with shop(program, postgres) as (dsn, sql, server, feed):
+        sql.execute("CREATE TABLE other (a int)")
+        for number in range(6):
+            before = confirmed(sql)
+            sql.execute("INSERT INTO other SELECT generate_series(1, 1000)")
+            if number % 3:
+                sql.execute("UPDATE orders SET who = who || 'o' WHERE id = 3")
+            await_place(sql, server)
+            wait_for(lambda before=before: confirmed(sql) > before, "for what is confirmed")
+            sql.execute("INSERT INTO other SELECT generate_series(1, 1000)")
+            if number % 2:
+                feed.kill()
+                feed.start()
+                feed.await_said("resumes at")
+        expect_same(sql, server)
+        postgres.process.send_signal(signal.SIGINT)  # stops, once all streams have confirmed its last place
+        postgres.process.wait(PATIENT)
+        said = len(feed.said)
+        postgres.start()
+        wait_for(lambda: any("resumes at" in line for line in feed.said[said:]), "for the stream")
+        expect([line for line in feed.said if "rows of" in line], [])
+        with contextlib.closing(connect(dsn)) as again, again.cursor() as own:
+            again.autocommit = True
+            expect_same(own, server)
+
+
+@test
 def a_truncated_table(program, postgres):
     with shop(program, postgres) as (_, sql, server, feed):
         with server.connect() as session, session.lives("all_lines") as lives:
@@ -870,7 +942,7 @@ def a_truncated_table(program, postgres):
             expect([(told.came, told.went) for told in told], [({(7, "bolt", 1)}, before)])
         sql.execute("INSERT INTO lines VALUES (8, 'nut', 1); TRUNCATE lines, orders")
         expect_same(sql, server)
-        expect(sum("a table was truncated" in line for line in feed.said), 2)
+        wait_for(lambda: sum("a table was truncated" in line for line in feed.said) == 2, "for what it says")
 
 
 @test
@@ -888,6 +960,7 @@ def definitions_that_change(program, postgres):
         status, said = feed.ends()
         expect(status, 1)
         assert "the relation orders is there with other columns than int text int, and can't be replaced" in said, said
+        assert "The slot djq stays" in said, said
 
 
 # What is refused, and how
@@ -914,12 +987,17 @@ def what_cannot_be_followed(program, postgres):
                 expect(status, 1, told)
                 assert said in told, (words, told)
             sql.execute("SELECT slot_name::text FROM pg_replication_slots UNION ALL SELECT pubname FROM pg_publication")
-            made = sql.fetchall()
-            expect(made if "--beat" not in words else [], [], words)
+            expect(sql.fetchall(), [], words)
             with contextlib.closing(server.connect()) as session:
                 for name in "t", "u", RELATION:
                     raises(djq.NoRelation, lambda name=name, session=session: session.add(name, 1))
-            sql.execute("DROP PUBLICATION IF EXISTS djq")
+        # a slot of another kind
+        sql.execute("SELECT pg_create_logical_replication_slot('djq', 'test_decoding')")
+        with Feed(dsn, server.port, "--tables", "u", "--null", "u.b=") as feed:
+            status, told = feed.ends()
+            assert status == 1 and "the slot djq is one of test_decoding in the database" in told, told
+        sql.execute("SELECT pubname FROM pg_publication")
+        expect(sql.fetchall(), [])
 
 
 @test

@@ -7,7 +7,7 @@
 
 A table without a key may have a row several times, and the relation as many copies of it. The server says of a row
 whether it is there and not how often. So the copies are counted by transactions that delete and insert the row several
-times, and change nothing: they are refused where it has fewer.
+times, and change nothing: they are refused if it has fewer.
 """
 
 from __future__ import annotations

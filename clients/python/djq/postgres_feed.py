@@ -1,4 +1,4 @@
-"""One session between PostgreSQL and a server: where it goes on, the rows of one moment, and the changes after it.
+"""One session between PostgreSQL and a server: from which position, the rows of one moment, and the changes after it.
 
 `djq.postgres_in` is the command, which begins another session whenever one ends.
 """
@@ -26,7 +26,7 @@ from .postgres_types import Unfit
 from .protocol import Answer, spell
 
 IDLE = 1.0  # seconds without a transaction, after which the position is moved to the end of the log
-LONGEST = 0.25  # seconds that whole transactions wait while others come
+LONGEST = 0.25  # seconds that whole transactions wait for further ones
 REPORT = 10.0  # seconds between two lines about the lag
 REPLY = 600.0  # seconds that a reply of the server may take
 
@@ -46,14 +46,14 @@ class Target:
 class Feed:
     """One session: the slot's stream on one side, the server on the other."""
 
-    def __init__(self, source: Source, target: Target, beat: str | None, compares: bool) -> None:
-        self._source, self._target, self._beat = source, target, beat
-        self._compares = compares
+    def __init__(self, source: Source, target: Target, compares: bool) -> None:
+        self.has_slot = False  # whether the slot stays if the session ends
+        self._source, self._target, self._compares = source, target, compares
         self._stack = contextlib.ExitStack()
         self._psycopg2 = importlib.import_module("psycopg2")
         self._reported = time.monotonic()
         self._lines = self._counted = 0  # lines and transactions, since they were reported
-        self._delay = 0.0  # seconds from the last commit until it was here
+        self._delay = 0.0  # seconds from the last commit until it was acknowledged
 
     def __enter__(self) -> Feed:
         return self
@@ -69,41 +69,43 @@ class Feed:
         self._stack.callback(self._server.close)
         self._held = Positions(self._server, source.slot)
         self._chosen, made_publication = choose(self._sql, source)
-        self._check_beat()
-        self._slot = open_slot(self._sql, source, self._invalidate)
+        try:
+            position = self._open()
+        except Unfit:
+            if made_publication:
+                with contextlib.suppress(self._psycopg2.Error):
+                    drop_publication(self._sql, source.publication)
+            raise
+        self._register()
+        beat = next((one.table.relation for one in self._chosen if one.table.label == source.beat), None)
+        self.made = Transactions(position, self._tables, beat)
+
+    def _open(self) -> Position:
+        """Opens the slot, and brings the rows to a position. A slot that was created for nothing is dropped."""
+        self._slot = open_slot(self._sql, self._source, self._invalidate)
         self._stack.callback(self._slot.stream.close)
+        self.has_slot = self._slot.made is None
         self._tables = {one.table.relation: one.follow() for one in self._chosen}
         try:
             position = self._resume() or self._compare()
         except Unfit:
-            self._unmake(made_publication)
+            if self._slot.made is not None:
+                self._slot.stream.close()
+                with contextlib.suppress(self._psycopg2.Error):
+                    wait_and_drop(self._sql, self._source.slot)
             raise
-        self._register()
-        beat = next((one.table.relation for one in self._chosen if one.table.label == self._beat), None)
-        self.made = Transactions(position, self._tables, beat)
-
-    def _check_beat(self) -> None:
-        if self._beat is not None and self._beat not in [one.table.label for one in self._chosen]:
-            raise Unfit(f"--beat {self._beat}: it is none of the tables that are followed")
+        self.has_slot = True
+        return position
 
     def _invalidate(self) -> None:
         """Before the slot is created: a position is of the one before."""
         if self._held.find(self._query_of("")):
             self._held.invalidate()
 
-    def _unmake(self, made_publication: bool) -> None:
-        """Drops what was created in vain."""
-        with contextlib.suppress(self._psycopg2.Error):
-            if self._slot.made is not None:
-                self._slot.stream.close()
-                wait_and_drop(self._sql, self._source.slot)
-            if made_publication:
-                drop_publication(self._sql, self._source.publication)
-
-    # Where it goes on
+    # The position
 
     def _resume(self) -> Position | None:
-        """The position to go on from. None if the server has none, or one that the slot doesn't go on from."""
+        """Resumes at the server's position. None if there is none, or one that the slot has no changes after."""
         if self._slot.made is not None or self._compares:
             return None
         self._held.define(self._query_of(""))
@@ -117,8 +119,8 @@ class Feed:
                 if table.rows.has_key:
                     table.rows.start(self._rows_of(one))
         if self._held.read() != [position]:
-            raise Moved("another program has gone on meanwhile")
-        log.info("goes on from %s", position)
+            raise Moved("another program has moved the position meanwhile")
+        log.info("resumes at %s", position)
         return position
 
     def _end(self) -> int:
@@ -139,7 +141,7 @@ class Feed:
     # The difference
 
     def _compare(self) -> Position:
-        """Makes the rows those of one moment of PostgreSQL."""
+        """Makes the server's rows those of one moment of PostgreSQL."""
         progress = Progress()
         point, wanted = read_all(self._sql, self._source, self._slot, self._chosen, progress.rows)
         progress.end()
@@ -163,7 +165,7 @@ class Feed:
         return Difference(one.relation, difference(copies, wanted), key)
 
     def _send(self, differences: Sequence[Difference], point: int, progress: Progress) -> None:
-        """Carries out the differences, and moves to the place with the last of them."""
+        """Commits the differences, the last of them with the position."""
         total, sent = sum(map(len, differences)), 0
         waiting: list[str] | None = None
         for lines in transactions(differences):
@@ -196,7 +198,7 @@ class Feed:
     # The stream
 
     def follow(self) -> NoReturn:
-        """Carries out what comes, until something goes wrong."""
+        """Commits the transactions of the stream, until something goes wrong."""
         stream, made = self._slot.stream, self.made
         since = time.monotonic()  # when a transaction began to wait
         try:
@@ -235,24 +237,24 @@ class Feed:
         self._report()
 
     def _move_on(self) -> None:
-        """Moves the position also by what isn't followed. It has to be there before psycopg2 confirms the end of the log by
-        itself: a position before what is confirmed is taken for an old one by the next session."""
+        """Moves the position also by what isn't followed, before psycopg2 confirms the end of the log by itself: the next
+        session takes a position before what is confirmed for an old one."""
         self._carry_out(self.made.move(self._slot.stream.end))
 
     def _report(self) -> None:
         now = time.monotonic()
         if now - self._reported < REPORT or not self._lines:
             return
-        behind = max(0, self._end() - self.made.position.lsn)
+        lag = max(0, self._end() - self.made.position.lsn)
         log.info(
-            "at %s, %d bytes behind: %d transactions, %d lines; the last one was here after %.3f s",
-            self.made.position, behind, self.made.taken - self._counted, self._lines, self._delay,
+            "at %s, lag %d bytes: %d transactions, %d lines; the last commit was acknowledged after %.3f s",
+            self.made.position, lag, self.made.taken - self._counted, self._lines, self._delay,
         )  # fmt: skip
         self._reported, self._lines, self._counted = now, 0, self.made.taken
 
 
 class Progress:
-    """How far a comparison is, on the last line of a terminal; of longer ones a line now and then elsewhere."""
+    """The progress of a comparison: a line of a terminal that is overwritten, else a line every ten seconds."""
 
     def __init__(self) -> None:
         self._is_terminal = sys.stderr.isatty()

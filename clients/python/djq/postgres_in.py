@@ -4,12 +4,13 @@
     djq-postgres DSN HOST:PORT --publication shop --query 'open(o,i) <- orders(o,_), lines(o,i)'
     python3 -m djq.postgres_in DSN HOST:PORT --tables orders,lines
 
-The tables are those of a publication, and a slot stores what isn't there yet, so nothing is lost while this program or
-the server is down. At first, and whenever the server has no position that the slot goes on from, the rows of one moment
-are read from PostgreSQL, and what differs is sent. Then the queries are registered, and the changes follow.
+The tables are those of a publication, and a slot retains the changes that the server doesn't have yet, so nothing is lost
+while this program or the server is down. At first, and whenever the server's position isn't one that the slot continues,
+the rows of one moment are read from PostgreSQL, and the difference is sent. Then the queries are registered, and the
+changes follow.
 
-A session is begun anew after whatever went wrong on either side; where it goes on is what the server says. PostgreSQL is
-told that it need not store a transaction any more once the server has acknowledged it.
+After any failure on either side a new session begins, at the server's position. A transaction is confirmed to PostgreSQL
+once the server has acknowledged it.
 """
 
 from __future__ import annotations
@@ -47,33 +48,31 @@ log = logging.getLogger("djq")
 
 
 class Runner:
-    """Begins sessions, one after another."""
+    """Runs sessions, one after another."""
 
-    def __init__(self, source: Source, target: Target, beat: str | None, compares: bool) -> None:
-        self._source, self._target, self._beat = source, target, beat
-        self._compares = compares
+    def __init__(self, source: Source, target: Target, compares: bool) -> None:
+        self._source, self._target, self._compares = source, target, compares
         self._redefined = ""  # what the last session ended by, if that was a definition
         self._waits = Waits("changes of PostgreSQL")
 
     def run(self) -> NoReturn:
-        """Goes on until something is wrong that doesn't pass: raises `Unfit`, another `Error`, or what psycopg2 raises."""
+        """Runs until an error that doesn't pass: raises `Unfit`, another `Error`, or what psycopg2 raises."""
         while True:
-            with Feed(self._source, self._target, self._beat, self._compares) as feed:
+            with Feed(self._source, self._target, self._compares) as feed:
                 pause = self._once(feed)
             time.sleep(pause)
 
     def _once(self, feed: Feed) -> float:
         """A session. Gives the seconds before the next one."""
-        is_begun = False
         try:
             feed.begin()
-            is_begun, self._compares = True, False
+            self._compares = False
             self._waits = Waits("changes of PostgreSQL")
             feed.follow()
         except Redefined as error:
             return self._redefine(error, feed)
         except Unfit as error:
-            raise self._stopped(error) if is_begun else error
+            raise self._stopped(error) if feed.has_slot else error
         except (Anew, Differs) as error:
             return self._anew(error)
         except (Busy, Moved, *PASSING) as error:
@@ -98,8 +97,8 @@ class Runner:
     def _stopped(self, error: Unfit) -> Unfit:
         slot = self._source.slot
         return Unfit(
-            f"{error}\nAll transactions before are there. The slot {slot} stays, and PostgreSQL stores its log for it from here"
-            " on: repair the row and start with --compare, or drop the slot by"
+            f"{error}\nThe slot {slot} stays, and PostgreSQL retains its log for it from the next transaction on: repair what"
+            " is named and start with --compare, or drop the slot by"
             f" SELECT pg_drop_replication_slot('{slot}')"
         )
 
@@ -108,7 +107,7 @@ class Runner:
 
 
 def main() -> None:
-    """Follows until it is ended from outside."""
+    """Follows until it is stopped."""
     words = _words()
     given = words.parse_args()
     logging.basicConfig(level=logging.INFO, format="djq-postgres: %(message)s", stream=sys.stderr)
@@ -116,7 +115,7 @@ def main() -> None:
     source = _source(words, given)
     target = Target(host, port, tuple(given.query), tuple(_unions(words, given.union)))
     try:
-        Runner(source, target, given.beat, given.compare).run()
+        Runner(source, target, given.compare).run()
     except KeyboardInterrupt:
         pass
     except Error as error:
@@ -140,7 +139,7 @@ def _words() -> argparse.ArgumentParser:
     add("--union", metavar="'NAME QUERY ..'", action="append", default=[], help="a union of queries, after them")
     add("--null", metavar="t.c=VALUE", action="append", default=[], help="what stands for NULL in a column of a table")
     add("--beat", metavar="TABLE", help="a transaction that changes this table ends one of the server's")
-    add("--compare", action="store_true", help="compare all rows first, also if the server has a position to go on from")
+    add("--compare", action="store_true", help="compare all rows first, also if the position is valid")
     return words
 
 
@@ -161,7 +160,8 @@ def _source(words: argparse.ArgumentParser, given: argparse.Namespace) -> Source
     tables = tuple(name.strip().removeprefix("public.") for name in given.tables.split(",") if name.strip())
     if not tables and given.tables:
         words.error(f"--tables: no table: {given.tables!r}")
-    return Source(given.dsn, given.publication, given.slot, tables, tuple(_null(words, said) for said in given.null))
+    nulls = tuple(_null(words, said) for said in given.null)
+    return Source(given.dsn, given.publication, given.slot, tables, nulls, given.beat)
 
 
 def _null(words: argparse.ArgumentParser, said: str) -> tuple[str, str, str]:

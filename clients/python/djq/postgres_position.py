@@ -2,8 +2,8 @@
 
 The relation `postgres_position` has one row for each slot: `slot`, `system`, `point`, `lsn`, `pieces`. Each transaction
 that `djq-postgres` sends deletes this row and inserts the next one. The server refuses a transaction that deletes a row
-which isn't there, so of several programs, of one that was stopped for a while, and of transactions whose reply was lost,
-each change of the rows is carried out once and in order.
+without a copy. So each change is committed once and in order, also if there are several programs, if one was stopped for
+a while, and if a reply was lost.
 
 - `system`: which PostgreSQL, and which timeline
 - `point`: the place of the log at which all rows were compared last
@@ -11,7 +11,7 @@ each change of the rows is carried out once and in order.
 - `pieces`: of the next transaction, which is too large for one, so many pieces are there; while rows are compared so many
   transactions of the comparison
 
-For readers the query `SLOT_lsn(lsn)` has `lsn` if no transaction is there in part, and no answer meanwhile.
+For readers the query `SLOT_lsn(lsn)` has `lsn`; while a transaction is there in part it has no answer.
 """
 
 from __future__ import annotations
@@ -29,7 +29,7 @@ RELATION = "postgres_position"
 
 
 class Moved(Error):
-    """The position isn't the one that was read last: another program has gone on from it."""
+    """The position isn't the one that was read last: another program has moved it."""
 
 
 class Differs(Error):
@@ -51,8 +51,7 @@ class Position:
         return self.lsn > 0 and self.pieces == 0
 
     def __str__(self) -> str:
-        behind = f" and {self.pieces} pieces" if self.pieces else ""
-        return place_of(self.lsn) + behind
+        return place_of(self.lsn) + (f" and {self.pieces} pieces" if self.pieces else "")
 
     def next_piece(self) -> Position:
         """The position with one piece more."""
@@ -106,7 +105,7 @@ class Positions:
                 self._carry_out([self._line("del", one) for one in there])
 
     def claim(self, position: Position) -> None:
-        """Begins a comparison: no other program goes on from any position before. The position is the only one then."""
+        """Begins a comparison: this position replaces all others of the slot, so no other program commits any more."""
         while True:
             before = self.read()
             with contextlib.suppress(RowAbsent):
@@ -116,7 +115,7 @@ class Positions:
                     return
 
     def commit(self, position: Position, lines: Sequence[str] = ()) -> None:
-        """Carries out these lines, and moves to the position. Raises `Moved` and `Differs`, and has done nothing then."""
+        """Commits these lines and the position. Raises `Moved` and `Differs`, and nothing was changed then."""
         if self.position is None:
             raise Moved("the position isn't known")
         try:

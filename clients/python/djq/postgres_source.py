@@ -39,6 +39,7 @@ class Source:
     slot: str
     tables: tuple[str, ...] = ()
     nulls: tuple[tuple[str, str, str], ...] = ()  # a table, a column, and the text that stands for NULL
+    beat: str | None = None  # a table each change of which ends a transaction of the server
 
     def nulls_of(self, table: Table) -> dict[str, str]:
         """The texts that stand for NULL in a table's columns."""
@@ -92,15 +93,18 @@ def drop_publication(sql: Any, name: str) -> None:
 
 def _chosen(sql: Any, source: Source) -> list[Chosen]:
     there = published(sql, source.publication)
-    labels = [table.label for table in there]
-    wrong = [f"{name}: the publication {source.publication} doesn't have it" for name in source.tables if name not in labels]
+    labels = [table.label for table in there if not source.tables or table.label in source.tables]
+    publication = source.publication
+    wrong = [f"{name}: the publication {publication} doesn't have it" for name in source.tables if name not in labels]
     wrong += [f"{name}: --null names no table that is followed" for name, _, _ in source.nulls if name not in labels]
+    if source.beat is not None and source.beat not in labels:
+        wrong.append(f"--beat {source.beat}: it is none of the tables that are followed")
     if not there:
-        wrong.append(f"the publication {source.publication} has no table")
+        wrong.append(f"the publication {publication} has no table")
     names = type_names(sql, there)
     chosen: list[Chosen] = []
     for table in there:
-        if source.tables and table.label not in source.tables:
+        if table.label not in labels:
             continue
         try:
             mapping = mapping_of(table.label, table.columns, names, source.nulls_of(table))
@@ -138,8 +142,8 @@ class Slot:
 
 
 def state_of(sql: Any, slot: str) -> tuple[int, bool] | None:
-    """Up to where a slot is confirmed, and whether it can be read; none if there is no slot. Raises `Unfit` if it is one
-    of another kind."""
+    """Up to which place a slot is confirmed, and whether it can be read; none if there is no slot. Raises `Unfit` if it
+    is one of another kind."""
     with sql.cursor() as cursor:
         cursor.execute(_STATE, (slot,))
         found = cursor.fetchone()
@@ -153,7 +157,8 @@ def state_of(sql: Any, slot: str) -> tuple[int, bool] | None:
 
 
 _STATE = """
-    SELECT confirmed_flush_lsn::text, coalesce(wal_status <> 'lost', true), coalesce(database, 'none'), coalesce(plugin, 'none')
+    SELECT confirmed_flush_lsn::text, coalesce(wal_status <> 'lost', true), coalesce(database, 'none'),
+        coalesce(plugin, 'none')
     FROM pg_replication_slots WHERE slot_name = %s
 """
 

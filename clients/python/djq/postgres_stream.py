@@ -10,8 +10,8 @@
     stream.confirm(commit.end)                      # what PostgreSQL doesn't need to store any more
 
 psycopg2 frames messages and answers the server's questions whether this side is alive. What is confirmed is said by
-`confirm`; if that was at or behind the place of the last message, psycopg2 goes on to confirm the end of the log by itself as
-long as no further message comes.
+`confirm`. If that is the place of the last message or a later one, psycopg2 itself confirms the end of the log as well, until
+the next message comes.
 """
 
 from __future__ import annotations

@@ -2,13 +2,13 @@
 
     made = Transactions(position, tables)
     for message in stream:
-        for step in made.take(message):             # what is to be carried out now
-            held.commit(step.position, step.lines)
+        for step in made.take(message):             # what is to be committed now
+            positions.commit(step.position, step.lines)
 
-Whole transactions are collected until there are as many lines as one transaction of the server holds, until somebody
-asks for them by `flush`, or until one changed the table `beat`. A larger transaction is alone, and is cut into pieces. Where
-it is cut depends on its messages alone, so that another run finds the pieces that are there already: each message counts
-as many lines as it can have, each as long as the types of the columns allow.
+Whole transactions are grouped until they have as many lines as one transaction of the server holds, until `flush`, or until
+one changed the table `beat`. A transaction above that is alone, and is cut into pieces. The cuts depend on its messages
+alone, so that another run finds the pieces that are committed already: each message counts as many lines as it can have,
+each as long as the types of the columns allow.
 """
 
 from __future__ import annotations
@@ -48,8 +48,7 @@ class Followed:
 
 @dataclass(frozen=True)
 class Step:
-    """A transaction of the server: its lines, the position behind it, and the last commit of PostgreSQL in it, if it ends
-    one."""
+    """A transaction of the server: its lines, the position after it, and the last commit of PostgreSQL that it has."""
 
     position: Position
     lines: list[str]
@@ -93,7 +92,7 @@ class Net:
 
 
 class Transactions:
-    """What the messages of a stream come to, from a position on. The stream may begin earlier."""
+    """The steps that the messages of a stream come to, from a position on. The stream may begin earlier."""
 
     def __init__(self, position: Position, tables: Mapping[int, Followed], beat: int | None = None) -> None:
         self.position = position
@@ -117,8 +116,7 @@ class Transactions:
         return self._begun is None and self._last is None and self.position.is_whole
 
     def take(self, message: Message) -> Iterator[Step]:
-        """Takes a message, and gives what is to be carried out now. Raises `Unfit` and `Anew`; what was given before is
-        right all the same."""
+        """Takes a message, and gives the steps that are due. Raises `Unfit` and `Anew`; the steps before are valid."""
         if isinstance(message, Begin):
             self._begin(message)
         elif isinstance(message, Commit):
