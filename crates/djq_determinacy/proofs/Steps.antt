@@ -32,6 +32,7 @@ use Rattle.djq_determinacy.proofs.Determinacy.{Same, IsTold, not_refused, said, 
 use Rattle.djq_determinacy.proofs.Determinacy.{hold_same, has_same, shape_same, explain_same, refused_same, ends_same, close_same, union_same, next_same}
 use Rattle.djq_determinacy.proofs.DoneSame.{done_same}
 use Rattle.djq_determinacy.proofs.RowsSame.{GoesOn, delete_same, add_same}
+use Rattle.djq_determinacy.proofs.Rests.{rest_edges, one_order, numbers_rise}
 
 module _ (s : ℕ) (e e' : Effect) (new new' : State) (told : IsTold e) (told' : IsTold e') where
   command_same : (old : State) (x : Session) (l : Bytes) (c : Command) → is_no_query c ≡ true → GoesOn old s
