@@ -6,5 +6,6 @@ pub mod Determinacy
 pub mod RowsSame
 pub mod DoneSame
 pub mod Rests
+pub mod QuerySame
 pub mod Steps
 pub mod Dialogues
