@@ -1,6 +1,6 @@
 -- What `query` answers is determined, memory aside.
 use Rattle.std.specs.Prelude.{ℕ, zero, suc, List, [], ◌∷◌, ◌≡◌, ◌≢◌, ◌⊎◌, ◌<◌, ◌≤◌, Option, None, Some, is_some, Result, Ok, Err}
-use Rattle.std.specs.Prelude.{length, map}
+use Rattle.std.specs.Prelude.{length}
 use Rattle.std.proofs.Common.{refl, sym, ap, ap₂, ◌∙◌, subst, inl, inr, arith}
 use Rattle.std.proofs.lemmas.List.Kept.{AllPairs-filter}
 use Rattle.djq_model.specs.declared.query.Query.{Query}
@@ -18,7 +18,7 @@ use Rattle.djq_protocol.specs.Hypergraph.{edges_from, edges_of, head_of, numbers
 use Rattle.djq_protocol.specs.Variables.{Label, with_atom, variables_of, constants_of}
 use Rattle.djq_protocol.specs.Rest.{IsNamedRest}
 use Rattle.djq_protocol.specs.Reply.{query_reply, end_memory}
-use Rattle.djq_hypergraph.specs.Hypergraph.{member, edge_at, numbers_below, set_below}
+use Rattle.djq_hypergraph.specs.Hypergraph.{member, numbers_below, set_below}
 use Rattle.djq_hypergraph.specs.JoinTree.{IsFreeConnex}
 use Rattle.djq_hypergraph.specs.Gyo.{IsRest}
 use Rattle.djq_hypergraph.proofs.Sets.{Rising}
@@ -53,7 +53,7 @@ edges_rise n known (a ∷ atoms) =
     rises_first (set_below n (numbers_in known a.terms)) (edges_from n (with_atom known a) atoms)
     (set_rises n (numbers_in known a.terms)) (edges_rise n (with_atom known a) atoms)
 
--- ---- One rest is told.
+-- ---- A query has one outcome.
 
 same_rest : (q : Query) (E A B : List (List ℕ)) (rest rest' : NamedRest) → EachRises E → IsRest E A → IsRest E B
     → IsNamedRest q A rest → IsNamedRest q B rest' → rest ≡ rest'

@@ -1,6 +1,6 @@
 -- All rests of a hypergraph have the same edges.
-use Rattle.std.specs.Prelude.{ℕ, zero, suc, ◌+◌, ◌-◌, ◌<◌, ◌≤◌, min, Bool, true, false, List, [], ◌∷◌, ◌≡◌, ◌≢◌, ◌⊎◌, ◌↔◌}
-use Rattle.std.specs.Prelude.{slice_set, slice_index_or, remove, filter, not, ◌==◌, ◌&&◌, ◌||◌, nat_lt, length, All, AllPairs, Contains}
+use Rattle.std.specs.Prelude.{ℕ, zero, suc, ◌+◌, ◌<◌, ◌≤◌, true, List, [], ◌∷◌, ◌≡◌, ◌≢◌, ◌⊎◌}
+use Rattle.std.specs.Prelude.{slice_set, remove, not, ◌==◌, ◌&&◌, nat_lt, length, All, AllPairs, Contains}
 use Rattle.std.proofs.Common.{refl, sym, ap, ap₂, ◌∙◌, subst, inl, inr, arith}
 use Rattle.std.proofs.lemmas.Bool.{true≢false, cases_lt, cases_eq, or_cases, and_parts, ltb-true, eqb-true}
 use Rattle.std.proofs.lemmas.List.{get_or_past, get_or_default}
@@ -15,6 +15,7 @@ use Rattle.djq_hypergraph.proofs.Sets.{subset_from, subset_says, has_here, has_o
 use Rattle.djq_hypergraph.proofs.Labels.{edge_in, edge_with}
 use Rattle.djq_answer_laws.proofs.Lists.{nothing_there, first_or_later, first_there, later_there, pairs_head, pairs_tail, pairs_join}
 use Rattle.djq_protocol.specs.Rest.{is_before}
+use Rattle.djq_determinacy.specs.Reductions.{RestsAgree}
 
 -- ---- What a step leaves of the edges, by their positions.
 
@@ -122,10 +123,12 @@ EachSeen R E = (p : ℕ) → (q : ℕ) × ((x : ℕ) → 0 < degree x R → has_
 seen_before : (E : List (List ℕ)) (s : Step) (R : List (List ℕ)) → IsStep E s
     → ((x : ℕ) → degree x R ≤ degree x (reduced E s)) → EachSeen R (reduced E s) → EachSeen R E
 seen_before E (Vertex i x) R h fall seen p =
-    let w = seen p in
-    (w.0, λ y lies. let other : y ≢ x = λ same. absurd (taken y same lies) in
-    let stays = vertex_keeps E i x p y h.0 other in
-    let found = w.1 y lies in omega arith)
+    let w = seen p in (
+      w.0,
+      λ y lies. let other : y ≢ x = λ same. absurd (taken y same lies) in
+          let stays = vertex_keeps E i x p y h.0 other in
+          let found = w.1 y lies in omega arith,
+    )
   where
     taken : (y : ℕ) → y ≡ x → 0 < degree y R → ⊥
     taken y same lies =
@@ -136,17 +139,21 @@ seen_before E (Edge i j) R h fall seen p =
     elim (cases_eq p i) [
       | inl same ↦
           let a = after_removal E i j h.0 (λ is. h.2 (sym is)) in
-          let w = seen a.0 in
-          (w.0, λ y lies. let here : has_bit y (edge_at E p) ≡ has_bit y (edge_at E i) = ap (λ k. has_bit y (edge_at E k)) same in
-          let over = subset_says (edge_at E i) (edge_at E j) h.3 y in
-          let stays : has_bit y (edge_at (remove E i) a.0) ≡ has_bit y (edge_at E j) = ap (has_bit y) a.1 in
-          let found = w.1 y lies in omega arith)
+          let w = seen a.0 in (
+            w.0,
+            λ y lies. let here : has_bit y (edge_at E p) ≡ has_bit y (edge_at E i) = ap (λ k. has_bit y (edge_at E k)) same in
+                let over = subset_says (edge_at E i) (edge_at E j) h.3 y in
+                let stays : has_bit y (edge_at (remove E i) a.0) ≡ has_bit y (edge_at E j) = ap (has_bit y) a.1 in
+                let found = w.1 y lies in omega arith,
+          )
       | inr apart ↦
           let a = after_removal E i p h.0 apart in
-          let w = seen a.0 in
-          (w.0, λ y lies.
-          let stays : has_bit y (edge_at (remove E i) a.0) ≡ has_bit y (edge_at E p) = ap (has_bit y) a.1 in
-          let found = w.1 y lies in omega arith)
+          let w = seen a.0 in (
+            w.0,
+            λ y lies.
+                let stays : has_bit y (edge_at (remove E i) a.0) ≡ has_bit y (edge_at E p) = ap (has_bit y) a.1 in
+                let found = w.1 y lies in omega arith,
+          )
     ]
 
 seen_by_rest : (E : List (List ℕ)) (S : List Step) (R : List (List ℕ)) → Leads E S R → EachSeen R E
@@ -271,15 +278,19 @@ module _ (R : List (List ℕ)) (irreducible : IsIrreducible R) where
       let a = within r in
       elim (cases_eq a.0 i) [
         | inl same ↦
-            let b = after_removal E i j h.0 (λ is. h.2 (sym is)) in
-            (b.0, λ y. let here : has_bit y (edge_at E a.0) ≡ has_bit y (edge_at E i) = ap (λ k. has_bit y (edge_at E k)) same in
-            let over = subset_says (edge_at E i) (edge_at E j) h.3 y in
-            let stays : has_bit y (edge_at (remove E i) b.0) ≡ has_bit y (edge_at E j) = ap (has_bit y) b.1 in
-            let more = a.1 y in omega arith)
+            let b = after_removal E i j h.0 (λ is. h.2 (sym is)) in (
+              b.0,
+              λ y. let here : has_bit y (edge_at E a.0) ≡ has_bit y (edge_at E i) = ap (λ k. has_bit y (edge_at E k)) same in
+                  let over = subset_says (edge_at E i) (edge_at E j) h.3 y in
+                  let stays : has_bit y (edge_at (remove E i) b.0) ≡ has_bit y (edge_at E j) = ap (has_bit y) b.1 in
+                  let more = a.1 y in omega arith,
+            )
         | inr apart ↦
-            let b = after_removal E i a.0 h.0 apart in
-            (b.0, λ y. let stays : has_bit y (edge_at (remove E i) b.0) ≡ has_bit y (edge_at E a.0) = ap (has_bit y) b.1 in
-            let more = a.1 y in omega arith)
+            let b = after_removal E i a.0 h.0 apart in (
+              b.0,
+              λ y. let stays : has_bit y (edge_at (remove E i) b.0) ≡ has_bit y (edge_at E a.0) = ap (has_bit y) b.1 in
+                  let more = a.1 y in omega arith,
+            )
       ]
 
   within_all : (E : List (List ℕ)) (S : List Step) (D : List (List ℕ)) → Leads E S D → EachSeen R E → EachWithin R E
@@ -332,22 +343,31 @@ has_some E R h r low = by (edge_at R r) refl
         absurd (h.irreducible (Edge r w.0)
         (low, low_at R w.0 h.variable has, apart, ap (λ (l : List ℕ). subset l (edge_at R w.0)) is))
 
--- **The edges of one rest are those of another.**
+-- **One rest.**
+pub rests_agree : RestsAgree
+rests_agree E A B h k r low =
+    let some = has_some E A h r low in
+    let a = rest_within E A B h k r in
+    let b = rest_within E B A k h a.0 in
+    let under : Sub (edge_at A r) (edge_at A b.0) = λ x. let first = a.1 x in let later = b.1 x in omega arith in
+    let over = one_over A h.irreducible some.0 r b.0 some.1 under in (
+      a.0,
+      low_at B a.0 some.0 (let more = a.1 some.0 in let it = some.1 in omega arith),
+      λ x. same_one (member x (edge_at A r)) (member x (edge_at B a.0))
+          (let back : has_bit x (edge_at A b.0) ≡ has_bit x (edge_at A r) = ap (λ p. has_bit x (edge_at A p)) (sym over) in
+          let first = a.1 x in let later = b.1 x in omega arith),
+    )
+
+-- as lists, where they are in rising order
 pub rest_edges : (E A B : List (List ℕ)) → EachRises E → IsRest E A → IsRest E B → (e : List ℕ) → Contains A e → Contains B e
 rest_edges E A B rises h k e there =
-    let some = has_some E A h there.0 there.1 in
-    let a = rest_within E A B h k there.0 in
-    let b = rest_within E B A k h a.0 in
-    let under : Sub (edge_at A there.0) (edge_at A b.0) = λ x. let first = a.1 x in let later = b.1 x in omega arith in
-    let over = one_over A h.irreducible some.0 there.0 b.0 some.1 under in
-    let low : a.0 < length B = low_at B a.0 some.0 (let more = a.1 some.0 in let it = some.1 in omega arith) in
-    let bits : (x : ℕ) → has_bit x (edge_at A there.0) ≡ has_bit x (edge_at B a.0) = λ x.
-    (let back : has_bit x (edge_at A b.0) ≡ has_bit x (edge_at A there.0) = ap (λ p. has_bit x (edge_at A p)) (sym over) in
-    let first = a.1 x in let later = b.1 x in omega arith) in
-    let same : edge_at A there.0 ≡ edge_at B a.0 = same_sets (edge_at A there.0) (edge_at B a.0)
-    (rises_all E h.steps A h.leads rises there.0) (rises_all E k.steps B k.leads rises a.0)
-    (λ x. same_one (member x (edge_at A there.0)) (member x (edge_at B a.0)) (bits x)) in
-    (a.0, low, get_or_default B a.0 e [] low ∙ sym same ∙ get_or_default A there.0 [] e there.1 ∙ there.2)
+    let other = rests_agree E A B h k there.0 there.1 in
+    let same : edge_at A there.0 ≡ edge_at B other.0 = same_sets (edge_at A there.0) (edge_at B other.0)
+    (rises_all E h.steps A h.leads rises there.0) (rises_all E k.steps B k.leads rises other.0) other.2 in (
+      other.0,
+      other.1,
+      get_or_default B other.0 e [] other.1 ∙ sym same ∙ get_or_default A there.0 [] e there.1 ∙ there.2,
+    )
 
 -- ---- Edges in lexical order.
 

@@ -1,18 +1,14 @@
 -- What of a step is determined by its state and its event, memory aside.
-use Rattle.std.specs.Prelude.{ℕ, List, [], ◌∷◌, ◌≡◌, ◌≢◌, ◌++◌, ◌<◌, Bool, true, false, All, IsPermutation, length, ⊤}
+use Rattle.std.specs.Prelude.{ℕ, List, [], ◌∷◌, ◌≡◌, ◌≢◌, ◌++◌, ◌<◌, Bool, true, All, IsPermutation, length, ⊤}
 use Rattle.djq_model.specs.Data.{Bytes, Tuple}
 use Rattle.djq_protocol.specs.declared.limits.TheConstants.{SESSIONS}
 use Rattle.djq_protocol.specs.declared.answer.Refusal.TheVariants.{NoMemory}
-use Rattle.djq_protocol.specs.declared.command.Command.{Command}
-use Rattle.djq_protocol.specs.declared.command.Command.TheVariants.{Query}
-use Rattle.djq_protocol.specs.Grammar.{Reading, outside, past_limit, says_command, reading_of}
 use Rattle.djq_protocol.specs.Reply.{refusal_line, end_memory, text_of, listing_lines}
 use Rattle.djq_store_spec.specs.Store.{Store}
 use Rattle.djq_store_spec.specs.Delta.{Change, delta_lines}
 use Rattle.djq_machine.specs.State.{State}
 use Rattle.djq_machine.specs.Effect.{Effect}
-use Rattle.djq_machine.specs.LineStep.{run}
-use Rattle.djq_machine.specs.Step.{Event, opened, stepped, Step, SameRelations}
+use Rattle.djq_machine.specs.Step.{Event, opened, Step, SameRelations}
 use Rattle.djq_machine.specs.Call.{IsOpen}
 
 -- Two texts say the same. They are equal; or they are the page of a listing, as long and as near to its end, and the
