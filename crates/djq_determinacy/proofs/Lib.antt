@@ -5,5 +5,6 @@ pub mod ChangesSame
 pub mod Determinacy
 pub mod RowsSame
 pub mod DoneSame
+pub mod QuerySame
 pub mod Steps
 pub mod Dialogues
