@@ -20,6 +20,7 @@ use Rattle.djq_machine.specs.Effect.{Effect}
 use Rattle.djq_machine.specs.Command.{QueryStep, QueryCutStep}
 use Rattle.djq_determinacy.specs.Determinacy.{SameText, is_equal, are_rests, SameQueued}
 use Rattle.djq_determinacy.proofs.Determinacy.{Same, IsTold, not_refused, not_err, answered}
+use Rattle.djq_determinacy.proofs.RestsSame.{In}
 use Rattle.djq_determinacy.proofs.RowsSame.{one_too_many, texts_late, refused_texts}
 
 abbrev query_failed : Refusal → Result QueryOutcome Refusal
