@@ -36,10 +36,10 @@ two_degree x (e ∷ E) (suc i) (suc j) apart low low' h k =
     omega (arith, more)
 
 -- an edge at a place
-record Spot (E : List (List ℕ)) (P : ℕ → Type 0) : Type 0 where
-  at : ℕ
-  low : at < length E
-  has : P at
+pub record Spot (E : List (List ℕ)) (P : ℕ → Type 0) : Type 0 where
+  pub at : ℕ
+  pub low : at < length E
+  pub has : P at
 
 some_edge : (x : ℕ) (E : List (List ℕ)) → 0 < degree x E → Spot E (λ i. In x (edge_at E i))
 some_edge x [] h = absurd (omega (arith, h))
@@ -155,3 +155,195 @@ shrinks E (s ∷ S) H leads k low =
     let p = shrinks (reduced E s) S H leads.1 k low in
     let q = step_from E s leads.0 p.at p.low in
     record { at = q.at; low = q.low; has = sub_trans _ _ _ p.has q.has }
+
+-- a variable that was taken out lies nowhere
+lies_nowhere : (E : List (List ℕ)) (i x : ℕ) → IsStep E (Vertex i x) → (k : ℕ) → k < length E
+    → In x (edge_at (reduced E (Vertex i x)) k) → ⊥
+lies_nowhere E i x h k low lies = by (cases_eq k i)
+  where
+    by : (k ≡ i) ⊎ (k ≢ i) → ⊥
+    by (inl same) =
+        let here : In x (difference (edge_at E i) (x ∷ [])) =
+            subst (λ e. In x e) (taken_here E i x h.0) (subst (λ n. In x (edge_at (reduced E (Vertex i x)) n)) same lies) in
+        omega (arith, here, has_difference x (edge_at E i) (x ∷ []), has_here x x [] refl)
+    by (inr apart) =
+        let there : In x (edge_at E k) = subst (λ e. In x e) (taken_other E i x k apart) lies in
+        let two = two_degree x E k i apart low h.0 there (from_true (member x (edge_at E i)) h.1) in
+        omega (arith, two, h.2)
+
+-- ---- What is left of an edge lies within an edge that is left.
+
+-- each edge, but for variables that are gone, lies within an edge of these
+abbrev Dominated : List (List ℕ) → List (List ℕ) → ℕ → Type 0
+Dominated E R j = Spot R (λ c. (y : ℕ) → 0 < degree y R → In y (edge_at E j) → In y (edge_at R c))
+
+other_than : (x y : ℕ) → y ≢ x → has_bit y (x ∷ []) ≡ 0
+other_than x y apart = by (cases_lt 0 (has_bit y (x ∷ [])))
+  where
+    by : (0 < has_bit y (x ∷ [])) ⊎ (has_bit y (x ∷ []) ≤ 0) → has_bit y (x ∷ []) ≡ 0
+    by (inl is) = absurd (apart (has_one y x is))
+    by (inr none) = omega (arith, none)
+
+dominated : (E : List (List ℕ)) (S : List Step) (R : List (List ℕ)) → Leads E S R → (j : ℕ) → j < length E
+    → Dominated E R j
+dominated E [] R leads j low = record {
+  at = j;
+  low = subst (λ G. j < length G) leads low;
+  has = λ y there h. subst (λ G. In y (edge_at G j)) leads h;
+}
+dominated E (Edge i k ∷ S) R leads j low = by (cases_eq j i) (λ n less. dominated (remove E i) S R leads.1 n less)
+  where
+    through : (p : Spot (remove E i) (λ n. edge_at (remove E i) n ≡ edge_at E k)) → Dominated (remove E i) R p.at
+        → Sub (edge_at E j) (edge_at E k) → Dominated E R j
+    through p d within = record {
+      at = d.at;
+      low = d.low;
+      has = λ y there h. d.has y there (subst (λ e. In y e) (sym p.has) (omega (arith, h, within y)));
+    }
+
+    straight : (p : Spot (remove E i) (λ n. edge_at (remove E i) n ≡ edge_at E j)) → Dominated (remove E i) R p.at
+        → Dominated E R j
+    straight p d = record { at = d.at; low = d.low; has = λ y there h. d.has y there (subst (λ e. In y e) (sym p.has) h) }
+
+    by : (j ≡ i) ⊎ (j ≢ i) → ((n : ℕ) → n < length (remove E i) → Dominated (remove E i) R n) → Dominated E R j
+    by (inl same) rest =
+        let p = left_place E i k (λ back. leads.0.2 (sym back)) leads.0.0 leads.0.1 in
+        through p (rest p.at p.low) (subst (λ n. Sub (edge_at E n) (edge_at E k)) (sym same)
+        (subset_says (edge_at E i) (edge_at E k) leads.0.3))
+    by (inr apart) rest =
+        let p = left_place E i j apart leads.0.0 low in straight p (rest p.at p.low)
+dominated E (Vertex i x ∷ S) R leads j low =
+    let d = dominated (reduced E (Vertex i x)) S R leads.1 j (omega (arith, taken_length E i x, low)) in
+    record { at = d.at; low = d.low; has = λ y there h. d.has y there (by y there h (cases_eq j i)) }
+  where
+    gone : 0 < degree x R → ⊥
+    gone lies =
+        let r = some_edge x R lies in
+        let from = shrinks (reduced E (Vertex i x)) S R leads.1 r.at r.low in
+        lies_nowhere E i x leads.0 from.at (omega (arith, taken_length E i x, from.low))
+        (let h = r.has in omega (arith, h, from.has x))
+
+    by : (y : ℕ) → 0 < degree y R → In y (edge_at E j) → (j ≡ i) ⊎ (j ≢ i) → In y (edge_at (reduced E (Vertex i x)) j)
+    by y there h (inr apart) = subst (λ e. In y e) (sym (taken_other E i x j apart)) h
+    by y there h (inl same) =
+        let apart : y ≢ x = λ is. gone (subst (λ n. 0 < degree n R) is there) in
+        let here : In y (edge_at E i) = subst (λ n. In y (edge_at E n)) same h in
+        subst (λ n. In y (edge_at (reduced E (Vertex i x)) n)) (sym same)
+        (subst (λ e. In y e) (sym (taken_here E i x leads.0.0))
+        (omega (arith, here, has_difference y (edge_at E i) (x ∷ []), other_than x y apart)))
+
+-- ---- A rest is covered by what leads to another one.
+
+-- each edge of the first lies within one of the second
+abbrev Covers : List (List ℕ) → List (List ℕ) → Type 0
+Covers R H = (a : ℕ) → a < length R → Spot H (λ k. Sub (edge_at R a) (edge_at H k))
+
+-- no edge of what no step applies to lies within another one
+alone : (R : List (List ℕ)) → IsIrreducible R → (a c : ℕ) → a < length R → c < length R → Sub (edge_at R a) (edge_at R c)
+    → a ≡ c
+alone R irreducible a c low low' within = by (cases_eq a c)
+  where
+    by : (a ≡ c) ⊎ (a ≢ c) → a ≡ c
+    by (inl same) = same
+    by (inr apart) = absurd (irreducible (Edge a c) (low, low', apart, subset_from (edge_at R a) (edge_at R c) within))
+
+-- an edge in which a variable lies that lies in one alone is that one
+same_spot : (H : List (List ℕ)) (i x : ℕ) → IsStep H (Vertex i x) → (k : ℕ) → k < length H → In x (edge_at H k) → k ≡ i
+same_spot H i x h k low there = by (cases_eq k i)
+  where
+    by : (k ≡ i) ⊎ (k ≢ i) → k ≡ i
+    by (inl same) = same
+    by (inr apart) =
+        let two = two_degree x H k i apart low h.0 there (from_true (member x (edge_at H i)) h.1) in
+        absurd (omega (arith, two, h.2))
+
+module _ (E R : List (List ℕ)) (S : List Step) (leads : Leads E S R) (irreducible : IsIrreducible R) where
+  -- an edge of it within an edge of H lies within the edge that dominates that
+  below : (H : List (List ℕ)) (i : ℕ) (whole : Spot E (λ j. Sub (edge_at H i) (edge_at E j))) (top : Dominated E R whole.at)
+      (b : ℕ) → b < length R → Sub (edge_at R b) (edge_at H i) → Sub (edge_at R b) (edge_at R top.at)
+  below H i whole top b less sub y = at (cases_lt 0 (has_bit y (edge_at R b)))
+    where
+      at : (0 < has_bit y (edge_at R b)) ⊎ (has_bit y (edge_at R b) ≤ 0) → has_bit y (edge_at R b) ≤ has_bit y (edge_at R top.at)
+      at (inr none) = omega (arith, none)
+      at (inl here) =
+          let most = one_le (member y (edge_at R b)) in
+          let up = top.has y (in_degree y R b less here) (omega (arith, here, sub y, whole.has y)) in
+          omega (arith, most, up)
+
+  -- a variable of it that lies in one edge of H alone would be in two of its own, which lie within one
+  in_none : (H : List (List ℕ)) → ((k : ℕ) → k < length H → Spot E (λ j. Sub (edge_at H k) (edge_at E j))) → Covers R H
+      → (i x : ℕ) → IsStep H (Vertex i x) → (a : ℕ) → a < length R → Sub (edge_at R a) (edge_at H i)
+      → In x (edge_at R a) → ⊥
+  in_none H from covers i x step a low within lies =
+      let other = other_edge x R a low lies
+          (λ single. irreducible (Vertex a x) (low, one_true (member x (edge_at R a)) lies, single)) in
+      let p = covers other.at other.low in
+      let there : In x (edge_at H p.at) = (let h = other.has.1 in omega (arith, h, p.has x)) in
+      let same = same_spot H i x step p.at p.low there in
+      let whole = from i step.0 in
+      let top = dominated E S R leads whole.at whole.low in
+      let one = alone R irreducible a top.at low top.low (below H i whole top a low within) in
+      let two = alone R irreducible other.at top.at other.low top.low
+          (below H i whole top other.at other.low (subst (λ n. Sub (edge_at R other.at) (edge_at H n)) same p.has)) in
+      other.has.0 (two ∙ sym one)
+
+  -- so each step leaves it covered
+  still_covers : (H : List (List ℕ)) → ((k : ℕ) → k < length H → Spot E (λ j. Sub (edge_at H k) (edge_at E j))) → Covers R H
+      → (s : Step) → IsStep H s → Covers R (reduced H s)
+  still_covers H from covers (Edge i j) step a low = by (cases_eq (covers a low).at i)
+    where
+      by : ((covers a low).at ≡ i) ⊎ ((covers a low).at ≢ i) → Spot (remove H i) (λ k. Sub (edge_at R a) (edge_at (remove H i) k))
+      by (inr apart) =
+          let q = left_place H i (covers a low).at apart step.0 (covers a low).low in
+          record { at = q.at; low = q.low; has = sub_trans _ _ _ (covers a low).has (same_sub _ _ (sym q.has)) }
+      by (inl same) =
+          let q = left_place H i j (λ back. step.2 (sym back)) step.0 step.1 in
+          record {
+            at = q.at;
+            low = q.low;
+            has = sub_trans _ _ _ (subst (λ n. Sub (edge_at R a) (edge_at H n)) same (covers a low).has)
+                (sub_trans _ _ _ (subset_says (edge_at H i) (edge_at H j) step.3) (same_sub _ _ (sym q.has)));
+          }
+  still_covers H from covers (Vertex i x) step a low = by (cases_eq (covers a low).at i)
+    where
+      few : (covers a low).at < length (reduced H (Vertex i x))
+      few = omega (arith, taken_length H i x, (covers a low).low)
+
+      by : ((covers a low).at ≡ i) ⊎ ((covers a low).at ≢ i)
+          → Spot (reduced H (Vertex i x)) (λ k. Sub (edge_at R a) (edge_at (reduced H (Vertex i x)) k))
+      by (inr apart) = record {
+        at = (covers a low).at;
+        low = few;
+        has = sub_trans _ _ _ (covers a low).has (same_sub _ _ (sym (taken_other H i x (covers a low).at apart)));
+      }
+      by (inl same) =
+          let within = subst (λ n. Sub (edge_at R a) (edge_at H n)) same (covers a low).has in
+          record {
+            at = i;
+            low = subst (λ n. n < length (reduced H (Vertex i x))) same few;
+            has = subst (λ e. Sub (edge_at R a) e) (sym (taken_here H i x step.0))
+                (λ y. each within y (cases_lt 0 (has_bit y (edge_at R a))));
+          }
+        where
+          each : Sub (edge_at R a) (edge_at H i) → (y : ℕ) → (0 < has_bit y (edge_at R a)) ⊎ (has_bit y (edge_at R a) ≤ 0)
+              → has_bit y (edge_at R a) ≤ has_bit y (difference (edge_at H i) (x ∷ []))
+          each within y (inr none) = omega (arith, none)
+          each within y (inl here) =
+              let apart : y ≢ x = λ is. in_none H from covers i x step a low within (subst (λ n. In n (edge_at R a)) is here) in
+              omega (arith, within y, has_difference y (edge_at H i) (x ∷ []), other_than x y apart,
+              one_le (member y (edge_at R a)))
+
+  covers_all : (T : List Step) (H Q : List (List ℕ)) → Leads H T Q
+      → ((k : ℕ) → k < length H → Spot E (λ j. Sub (edge_at H k) (edge_at E j))) → Covers R H → Covers R Q
+  covers_all [] H Q to from covers = subst (λ G. Covers R G) to covers
+  covers_all (s ∷ T) H Q to from covers =
+      covers_all T (reduced H s) Q to.1
+      (λ k low. let p = step_from H s to.0 k low in let q = from p.at p.low in
+      record { at = q.at; low = q.low; has = sub_trans _ _ _ p.has q.has })
+      (still_covers H from covers s to.0)
+
+-- what two ways of taking steps come to covers each other
+pub rests_cover : (E R R' : List (List ℕ)) (S S' : List Step) → Leads E S R → Leads E S' R' → IsIrreducible R → Covers R R'
+rests_cover E R R' S S' leads leads' irreducible =
+    covers_all E R S leads irreducible S' E R' leads'
+    (λ k low. record { at = k; low = low; has = λ y. omega arith }) (shrinks E S R leads)
