@@ -1,5 +1,5 @@
--- `query` is determined, memory aside, but for the rest that it tells.
-use Rattle.std.specs.Prelude.{ℕ, List, [], ◌∷◌, ◌≡◌, ◌≢◌, ◌⊎◌, ◌≤◌, Bool, true, false, Option, None, Some, is_some, Result, Ok, Err, length}
+-- `query` is determined, memory aside.
+use Rattle.std.specs.Prelude.{ℕ, List, [], ◌∷◌, ◌≡◌, ◌≢◌, ◌⊎◌, ◌≤◌, Bool, true, false, Option, None, Some, is_some, Result, Ok, Err, codes, length}
 use Rattle.std.proofs.Common.{refl, sym, ap, ◌∙◌, subst, inl, inr}
 use Rattle.djq_model.specs.declared.query.Query.{Query}
 use Rattle.djq_model.specs.Data.{Bytes}
@@ -11,6 +11,7 @@ use Rattle.djq_protocol.specs.declared.rest.QueryOutcome.{QueryOutcome}
 use Rattle.djq_protocol.specs.declared.rest.QueryOutcome.TheVariants.{Registered, Cyclic, NotConnex}
 use Rattle.djq_protocol.specs.Conditions.{Answers}
 use Rattle.djq_protocol.specs.Variables.{constants_of}
+use Rattle.djq_protocol.specs.Hypergraph.{edges_of, head_of}
 use Rattle.djq_protocol.specs.Reply.{query_reply, end_memory}
 use Rattle.djq_store_spec.specs.Store.{Store}
 use Rattle.djq_store_spec.specs.Relations.{RefusedByTexts}
@@ -18,9 +19,9 @@ use Rattle.djq_store_spec.specs.Registering.{query_refusal, RegistersAs, Refused
 use Rattle.djq_machine.specs.State.{State}
 use Rattle.djq_machine.specs.Effect.{Effect}
 use Rattle.djq_machine.specs.Command.{QueryStep, QueryCutStep}
-use Rattle.djq_determinacy.specs.Determinacy.{SameText, is_equal, are_rests, SameQueued}
+use Rattle.djq_determinacy.specs.Determinacy.{SameText, is_equal, SameQueued}
 use Rattle.djq_determinacy.proofs.Determinacy.{Same, IsTold, not_refused, not_err, answered}
-use Rattle.djq_determinacy.proofs.RestsSame.{In}
+use Rattle.djq_determinacy.proofs.RestsSame.{one_named, query_rises, head_rises}
 use Rattle.djq_determinacy.proofs.RowsSame.{one_too_many, texts_late, refused_texts}
 
 abbrev query_failed : Refusal → Result QueryOutcome Refusal
@@ -36,8 +37,15 @@ SameQuery r r' st st' = SameText (query_reply r) (query_reply r') × (st ≡ st'
 module _ (old : Store) (q : Query) (st st' : Store) where
   outcomes : (a b : QueryOutcome) → RegistersAs old q st a → RegistersAs old q st' b → SameQuery (Ok a) (Ok b) st st'
   outcomes (Registered m) (Registered n) x y = (is_equal (ap (λ k. query_reply (Ok (Registered k))) (x.1 ∙ sym y.1)), x.3 ∙ sym y.3)
-  outcomes (Cyclic r) (Cyclic t) x y = (are_rests true r t refl refl, x.1 ∙ sym y.1)
-  outcomes (NotConnex r) (NotConnex t) x y = (are_rests false r t refl refl, x.1 ∙ sym y.1)
+  outcomes (Cyclic r) (Cyclic t) x y = (
+    is_equal (one_named q (edges_of q) x.0.0 y.0.0 r t (codes "no cyclic") (query_rises q) (x.0.1).rest (y.0.1).rest x.0.2 y.0.2),
+    x.1 ∙ sym y.1,
+  )
+  outcomes (NotConnex r) (NotConnex t) x y = (
+    is_equal (one_named q (head_of q ∷ edges_of q) x.0.0 y.0.0 r t (codes "no connex") (head_rises q) (x.0.1).rest (y.0.1).rest
+        x.0.2 y.0.2),
+    x.1 ∙ sym y.1,
+  )
   outcomes (Registered m) (Cyclic t) x y = absurd ((y.0.1).no_tree x.0.0)
   outcomes (Cyclic r) (Registered n) x y = absurd ((x.0.1).no_tree y.0.0)
   outcomes (Registered m) (NotConnex t) x y = absurd ((y.0.1).no_tree x.0.1)

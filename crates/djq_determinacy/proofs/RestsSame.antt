@@ -1,5 +1,5 @@
 -- Edges have one rest: whatever order the steps are taken in, what no step applies to is the same set of edges.
-use Rattle.std.specs.Prelude.{ℕ, zero, suc, List, [], ◌∷◌, ◌≡◌, ◌≢◌, ◌⊎◌, ◌<◌, ◌≤◌, ◌+◌, ◌-◌, min, Bool, true, false, cond, Contains, length, remove, slice_set}
+use Rattle.std.specs.Prelude.{ℕ, zero, suc, List, [], ◌∷◌, ◌≡◌, ◌≢◌, ◌⊎◌, ◌<◌, ◌≤◌, ◌+◌, ◌-◌, min, Bool, true, false, not, nat_lt, ◌==◌, ◌&&◌, ◌||◌, ◌++◌, cond, All, AllPairs, Contains, length, map, remove, slice_set}
 use Rattle.std.proofs.Common.{refl, sym, ap, ◌∙◌, subst, inl, inr, arith}
 use Rattle.std.proofs.lemmas.Bool.{cases_lt, cases_eq, cases_order}
 use Rattle.std.proofs.lemmas.List.{get_or-set_same, get_or-set_other, length-set}
@@ -7,7 +7,22 @@ use Rattle.std.proofs.lemmas.List.Edits.{get_or-remove_below, get_or-remove_abov
 use Rattle.djq_hypergraph.specs.declared.step.Step.{Step}
 use Rattle.djq_hypergraph.specs.declared.step.Step.TheVariants.{Vertex, Edge}
 use Rattle.djq_hypergraph.specs.Hypergraph.{member, one, degree, edge_at, difference, subset}
-use Rattle.djq_hypergraph.specs.Gyo.{IsStep, reduced, Leads, IsIrreducible}
+use Rattle.djq_hypergraph.specs.Gyo.{IsStep, reduced, Leads, IsIrreducible, IsRest}
+use Rattle.djq_hypergraph.specs.Hypergraph.{numbers_below, set_below}
+use Rattle.djq_hypergraph.proofs.Sets.{Rising, same_sets, same_one}
+use Rattle.djq_model.specs.Data.{Bytes}
+use Rattle.djq_model.specs.declared.query.Query.{Query}
+use Rattle.djq_model.specs.declared.query.Atom.{Atom}
+use Rattle.djq_protocol.specs.declared.rest.NamedRest.{NamedRest}
+use Rattle.djq_protocol.specs.Hypergraph.{number_of, numbers_in, edges_from, edges_of, head_of}
+use Rattle.djq_protocol.specs.Rest.{is_before, IsNamedRest}
+use Rattle.djq_protocol.specs.Reply.{line, rest_line, edges_text}
+use Rattle.djq_protocol.specs.Variables.{Label, with_atom, variables_of}
+use Rattle.djq_answer_laws.proofs.Lists.{nothing_there, first_or_later, first_there, later_there, pairs_head, pairs_tail}
+use Rattle.djq_run_laws.proofs.Lists.{pairs_push, nothing_apart}
+use Rattle.std.proofs.lemmas.List.Kept.{AllPairs-filter}
+use Rattle.std.proofs.lemmas.List.Elements.{All-nil, All-cons, All-head, All-tail, All-push, All-contains}
+use Rattle.std.proofs.lemmas.Bool.{true≢false, or_cases, and_parts, ltb-true, eqb-true}
 use Rattle.djq_hypergraph.proofs.Sets.{has_bit, Sub, one_le, one_true, from_true, has_here, has_one, subset_from, subset_says, has_difference}
 
 -- a variable lies in an edge
@@ -235,7 +250,7 @@ dominated E (Vertex i x ∷ S) R leads j low =
 -- ---- A rest is covered by what leads to another one.
 
 -- each edge of the first lies within one of the second
-abbrev Covers : List (List ℕ) → List (List ℕ) → Type 0
+abbrev pub Covers : List (List ℕ) → List (List ℕ) → Type 0
 Covers R H = (a : ℕ) → a < length R → Spot H (λ k. Sub (edge_at R a) (edge_at H k))
 
 -- no edge of what no step applies to lies within another one
@@ -347,3 +362,147 @@ pub rests_cover : (E R R' : List (List ℕ)) (S S' : List Step) → Leads E S R 
 rests_cover E R R' S S' leads leads' irreducible =
     covers_all E R S leads irreducible S' E R' leads'
     (λ k low. record { at = k; low = low; has = λ y. omega arith }) (shrinks E S R leads)
+
+-- ---- One set of edges, told in one way.
+
+-- the variables of each edge rise
+abbrev pub Rise : List (List ℕ) → Type 0
+Rise E = (k : ℕ) → k < length E → Rising (edge_at E k)
+
+rise_step : (E : List (List ℕ)) (s : Step) → IsStep E s → Rise E → Rise (reduced E s)
+rise_step E (Edge i j) step rise k low =
+    let p = from_left E i k step.0 low in subst (λ e. Rising e) (sym p.has) (rise p.at p.low)
+rise_step E (Vertex i x) step rise k low = by (cases_eq k i)
+  where
+    by : (k ≡ i) ⊎ (k ≢ i) → Rising (edge_at (reduced E (Vertex i x)) k)
+    by (inr apart) =
+        subst (λ e. Rising e) (sym (taken_other E i x k apart)) (rise k (omega (arith, taken_length E i x, low)))
+    by (inl same) =
+        subst (λ n. Rising (edge_at (reduced E (Vertex i x)) n)) (sym same)
+        (subst (λ e. Rising e) (sym (taken_here E i x step.0))
+        (AllPairs-filter (λ a b. a < b) (λ y. not (member y (x ∷ []))) (edge_at E i) (rise i step.0)))
+
+rise_all : (E : List (List ℕ)) (S : List Step) (R : List (List ℕ)) → Leads E S R → Rise E → Rise R
+rise_all E [] R leads rise = subst (λ G. Rise G) leads rise
+rise_all E (s ∷ S) R leads rise = rise_all (reduced E s) S R leads.1 (rise_step E s leads.0 rise)
+
+place_of : (R : List (List ℕ)) (e : List ℕ) → Contains R e → Spot R (λ a. edge_at R a ≡ e)
+place_of [] e there = absurd (nothing_there e there)
+place_of (r ∷ R) e there = by (first_or_later r R e there) (place_of R e)
+  where
+    by : (r ≡ e) ⊎ Contains R e → (Contains R e → Spot R (λ a. edge_at R a ≡ e)) → Spot (r ∷ R) (λ a. edge_at (r ∷ R) a ≡ e)
+    by (inl same) more = record { at = zero; low = omega arith; has = same }
+    by (inr later) more = let s = more later in record { at = suc s.at; low = omega (arith, s.low); has = s.has }
+
+stands : (R : List (List ℕ)) (a : ℕ) → a < length R → Contains R (edge_at R a)
+stands [] a low = absurd (omega (arith, low))
+stands (r ∷ R) zero low = first_there r R r refl
+stands (r ∷ R) (suc a) low = later_there r R (edge_at R a) (stands R a (omega (arith, low)))
+
+-- **Edges have one rest**, as a set
+pub one_rest : (E R R' : List (List ℕ)) → Rise E → IsRest E R → IsRest E R' → (e : List ℕ) → Contains R e → Contains R' e
+one_rest E R R' rise h k e there =
+    let a = place_of R e there in
+    let p = rests_cover E R R' h.steps k.steps h.leads k.leads h.irreducible a.at a.low in
+    let q = rests_cover E R' R k.steps h.steps k.leads h.leads k.irreducible p.at p.low in
+    let same = alone R h.irreducible a.at q.at a.low q.low (sub_trans _ _ _ p.has q.has) in
+    let back : Sub (edge_at R' p.at) (edge_at R a.at) = subst (λ n. Sub (edge_at R' p.at) (edge_at R n)) (sym same) q.has in
+    let equal = same_sets (edge_at R a.at) (edge_at R' p.at) (rise_all E h.steps R h.leads rise a.at a.low)
+        (rise_all E k.steps R' k.leads rise p.at p.low)
+        (λ x. same_one (member x (edge_at R a.at)) (member x (edge_at R' p.at))
+        (let one = p.has x in let two = back x in omega (arith, one, two))) in
+    subst (λ f. Contains R' f) (sym equal ∙ a.has) (stands R' p.at p.low)
+
+-- the edges of a query rise
+all_below : (n : ℕ) → All (λ x. x < n) (numbers_below n)
+all_below zero = All-nil (λ x. x < zero)
+all_below (suc n) = All-push (λ x. x < suc n) (numbers_below n) n
+    (all_so_far (numbers_below n) (all_below n)) (omega arith)
+  where
+    all_so_far : (xs : List ℕ) → All (λ x. x < n) xs → All (λ x. x < suc n) xs
+    all_so_far [] h = All-nil (λ x. x < suc n)
+    all_so_far (x ∷ xs) h = All-cons (λ x. x < suc n) x xs (let less = All-head (λ x. x < n) x xs h in omega (arith, less))
+        (all_so_far xs (All-tail (λ x. x < n) x xs h))
+
+below_rise : (n : ℕ) → Rising (numbers_below n)
+below_rise zero = nothing_apart (λ a b. a < b)
+below_rise (suc n) = pairs_push (λ a b. a < b) (numbers_below n) n (below_rise n) (all_below n)
+
+pub set_rise : (n : ℕ) (xs : List ℕ) → Rising (set_below n xs)
+set_rise n xs = AllPairs-filter (λ a b. a < b) (λ x. member x xs) (numbers_below n) (below_rise n)
+
+edges_rise : (n : ℕ) (known : List Label) (atoms : List Atom) → Rise (edges_from n known atoms)
+unfolding edges_from
+edges_rise n known [] k low = absurd (omega (arith, low))
+edges_rise n known (a ∷ atoms) zero low = set_rise n (numbers_in known a.terms)
+edges_rise n known (a ∷ atoms) (suc k) low = edges_rise n (with_atom known a) atoms k (omega (arith, low))
+
+pub query_rises : (q : Query) → Rise (edges_of q)
+query_rises q = edges_rise (length (variables_of q.atoms)) [] q.atoms
+
+pub head_rises : (q : Query) → Rise (head_of q ∷ edges_of q)
+head_rises q zero low = set_rise (length (variables_of q.atoms)) (map (number_of (variables_of q.atoms)) q.head)
+head_rises q (suc k) low = query_rises q k (omega (arith, low))
+
+-- the lexical order
+not_both : (e f : List ℕ) → is_before e f ≡ true → is_before f e ≡ true → ⊥
+not_both [] [] h k = true≢false (sym h)
+not_both [] (y ∷ ys) h k = true≢false (sym k)
+not_both (x ∷ xs) [] h k = true≢false (sym h)
+not_both (x ∷ xs) (y ∷ ys) h k =
+    by (or_cases (nat_lt x y) (x == y && is_before xs ys) h) (or_cases (nat_lt y x) (y == x && is_before ys xs) k)
+    (not_both xs ys)
+  where
+    by : (nat_lt x y ≡ true) ⊎ ((x == y && is_before xs ys) ≡ true) → (nat_lt y x ≡ true) ⊎ ((y == x && is_before ys xs) ≡ true)
+        → (is_before xs ys ≡ true → is_before ys xs ≡ true → ⊥) → ⊥
+    by (inl l) (inl m) more = omega (arith, ltb-true x y l, ltb-true y x m)
+    by (inl l) (inr m) more = omega (arith, ltb-true x y l, eqb-true y x (and_parts (y == x) (is_before ys xs) m).0)
+    by (inr l) (inl m) more = omega (arith, ltb-true y x m, eqb-true x y (and_parts (x == y) (is_before xs ys) l).0)
+    by (inr l) (inr m) more =
+        more (and_parts (x == y) (is_before xs ys) l).1 (and_parts (y == x) (is_before ys xs) m).1
+
+abbrev Ordered : List (List ℕ) → Type 0
+Ordered es = AllPairs (λ e f. is_before e f ≡ true) es
+
+one_order : (es fs : List (List ℕ)) → Ordered es → Ordered fs → ((e : List ℕ) → Contains es e → Contains fs e)
+    → ((e : List ℕ) → Contains fs e → Contains es e) → es ≡ fs
+one_order [] [] h k to from = refl
+one_order [] (f ∷ fs) h k to from = absurd (nothing_there f (from f (first_there f fs f refl)))
+one_order (e ∷ es) [] h k to from = absurd (nothing_there e (to e (first_there e es e refl)))
+one_order (e ∷ es) (f ∷ fs) h k to from =
+    let same = first (first_or_later f fs e (to e (first_there e es e refl)))
+        (first_or_later e es f (from f (first_there f fs f refl))) in
+    ap (λ x. x ∷ es) same
+    ∙ ap (λ xs. f ∷ xs) (one_order es fs (pairs_tail (λ a b. is_before a b ≡ true) e es h)
+    (pairs_tail (λ a b. is_before a b ≡ true) f fs k)
+    (λ g there. later g there (first_or_later f fs g (to g (later_there e es g there))) same)
+    (λ g there. back g there (first_or_later e es g (from g (later_there f fs g there))) same))
+  where
+    first : (f ≡ e) ⊎ Contains fs e → (e ≡ f) ⊎ Contains es f → e ≡ f
+    first (inl is) other = sym is
+    first (inr there) (inl is) = is
+    first (inr there) (inr there') =
+        absurd (not_both e f (All-contains (λ b. is_before e b ≡ true) es f (pairs_head (λ a b. is_before a b ≡ true) e es h) there')
+        (All-contains (λ b. is_before f b ≡ true) fs e (pairs_head (λ a b. is_before a b ≡ true) f fs k) there))
+
+    later : (g : List ℕ) → Contains es g → (f ≡ g) ⊎ Contains fs g → e ≡ f → Contains fs g
+    later g there (inr here) same = here
+    later g there (inl is) same =
+        let before = All-contains (λ b. is_before e b ≡ true) es g (pairs_head (λ a b. is_before a b ≡ true) e es h) there in
+        let loop = subst (λ x. is_before e x ≡ true) (sym (same ∙ is)) before in absurd (not_both e e loop loop)
+
+    back : (g : List ℕ) → Contains fs g → (e ≡ g) ⊎ Contains es g → e ≡ f → Contains es g
+    back g there (inr here) same = here
+    back g there (inl is) same =
+        let before = All-contains (λ b. is_before f b ≡ true) fs g (pairs_head (λ a b. is_before a b ≡ true) f fs k) there in
+        let loop = subst (λ x. is_before f x ≡ true) (sym (sym same ∙ is)) before in absurd (not_both f f loop loop)
+
+-- **A query has one rest**, as it is told
+pub one_named : (q : Query) (E R R' : List (List ℕ)) (rest rest' : NamedRest) (words : Bytes) → Rise E → IsRest E R
+    → IsRest E R' → IsNamedRest q R rest → IsNamedRest q R' rest' → rest_line words rest ≡ rest_line words rest'
+one_named q E R R' rest rest' words rise h k named named' =
+    let same = one_order rest.edges rest'.edges named.order named'.order
+        (λ e there. (named'.edges e).1 (one_rest E R R' rise h k e ((named.edges e).0 there)))
+        (λ e there. (named.edges e).1 (one_rest E R' R rise k h e ((named'.edges e).0 there))) in
+    ap (λ es. line (words ++ edges_text rest.names es)) same
+    ∙ ap (λ ns. line (words ++ edges_text ns rest'.edges)) (named.names ∙ sym named'.names)
