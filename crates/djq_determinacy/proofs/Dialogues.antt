@@ -13,14 +13,13 @@ use Rattle.djq_protocol.specs.declared.answer.Sign.{Sign}
 use Rattle.djq_protocol.specs.declared.answer.Sign.TheVariants.{Came, Went}
 use Rattle.djq_protocol.specs.declared.command.Command.TheVariants.{Rel, Has, Open, Close, Watch, Unwatch, Drop, Batch, Done, Quit}
 use Rattle.djq_model.specs.declared.relation.ColumnType.TheVariants.{Int as IntColumn}
-use Rattle.djq_protocol.specs.declared.rest.NamedRest.{NamedRest}
 use Rattle.djq_protocol.specs.Line.{a_line, front_of, is_blank}
 use Rattle.djq_protocol.specs.Grammar.{Reading, outside, says_command, reading_of, command_of}
 use Rattle.djq_value.specs.Token.{tokens}
 use Rattle.std.specs.Fmt.{digits}
 use Rattle.std.specs.Str.{is_utf8, chars}
 use lib.Utf8.{encode}
-use Rattle.djq_protocol.specs.Reply.{line, refusal_line, end_memory, text_of, listing_lines, rest_line}
+use Rattle.djq_protocol.specs.Reply.{line, refusal_line, end_memory, text_of, listing_lines}
 use Rattle.djq_store_spec.specs.Store.{Store, empty_store}
 use Rattle.djq_store_spec.specs.Delta.{Change, delta_lines}
 use Rattle.djq_machine.specs.State.{State, fresh, with_session, ended_by}
@@ -35,19 +34,19 @@ use Rattle.djq_model.specs.declared.value.Value.TheVariants.{Int}
 use Rattle.djq_model.specs.declared.query.Term.TheVariants.{Variable}
 use Rattle.djq_answer_laws.proofs.Lists.{first_there}
 use Rattle.djq_machine.specs.Step.{stepped, Acts}
-use Rattle.djq_determinacy.specs.Determinacy.{SameText, is_equal, are_pages, are_deltas, SameQueued, IsNoRefusal, HasMemory, are_rests, rest_words}
+use Rattle.djq_determinacy.specs.Determinacy.{SameText, is_equal, are_pages, are_deltas, SameQueued, IsNoRefusal, HasMemory}
 use Rattle.djq_determinacy.specs.Dialogues.{differences, over_one_row, IsAnsweredBy, Exchanged, IsAnsweredSo, AllAnswered, exchanges, holding_line, seven, sevens, one_row}
 use Rattle.djq_determinacy.proofs.Memory.{differs_at, memory_text}
 use Rattle.djq_determinacy.proofs.Prefixes.{step_of}
 use Rattle.djq_determinacy.proofs.Steps.{is_determined}
 
--- ---- A reply that is neither a page, a delta nor a rest is the only one.
+-- ---- A reply that is neither a page nor a delta is the only one.
 
--- whether a text may begin a page, a delta or a rest
+-- whether a text may begin a page or a delta
 abbrev is_list : Bytes → Bool
 is_list text =
     let first = get_or text 0 0 in
-    first == 61 || first == 43 || first == 45 || first == 97 || first == 110 || bytes_eq text (line (codes "end"))
+    first == 61 || first == 43 || first == 45 || first == 97 || bytes_eq text (line (codes "end"))
     || bytes_eq text (line (codes "more"))
 
 page_is_list : (told : List Tuple) (end : Bool) → is_list (text_of (listing_lines told end)) ≡ true
@@ -63,18 +62,12 @@ delta_is_list query (c ∷ cs) n = by c.sign
     by Came = refl
     by Went = refl
 
-rest_is_list : (cyclic : Bool) (rest : NamedRest) → is_list (rest_line (rest_words cyclic) rest) ≡ true
-rest_is_list true rest = refl
-rest_is_list false rest = refl
-
 only_text : (a b : Bytes) → SameText a b → is_list a ≡ false → a ≡ b
 only_text a b (is_equal same) plain = same
 only_text a b (are_pages told told' end is is' long moved) plain =
     absurd (true≢false (sym (page_is_list told end) ∙ ap is_list (sym is) ∙ plain))
 only_text a b (are_deltas query changes changes' n moved is is') plain =
     absurd (true≢false (sym (delta_is_list query changes n) ∙ ap is_list (sym is) ∙ plain))
-only_text a b (are_rests cyclic rest rest' is is') plain =
-    absurd (true≢false (sym (rest_is_list cyclic rest) ∙ ap is_list (sym is) ∙ plain))
 
 -- a text that doesn't end so that memory was refused
 ends_otherwise : (text : Bytes) → (get_or text (length text - 2) 0 == 121) ≡ false → (front : Bytes)
@@ -96,13 +89,9 @@ record IsPlain (x : Exchanged) : Type 0 where
 only_so : (x : Exchanged) → IsPlain x → IsAnsweredBy x.store x.says (line x.reply) → IsAnsweredBy x.store x.says (line x.other) → ⊥
 only_so x plain so = λ other. differs (bytes_eq-Decides (line x.reply) (line x.other)) (same_reply other)
   where
-    memory : (reply : Bytes) (a : IsAnsweredBy x.store x.says reply) → IsNoRefusal reply
-        → HasMemory (holding_line x.says x.store) (stepped 1 (run x.says)) a.effect a.new
-    memory reply a none = record {
-      told = subst (λ qs. All (λ (q : ℕ × Bytes). IsNoRefusal q.1) qs) (sym a.queued)
-          (All-cons (λ (q : ℕ × Bytes). IsNoRefusal q.1) (1, reply) [] none (All-nil (λ (q : ℕ × Bytes). IsNoRefusal q.1)));
-      opens = tt;
-    }
+    memory : (reply : Bytes) (a : IsAnsweredBy x.store x.says reply) → IsNoRefusal reply → HasMemory a.effect
+    memory reply a none = subst (λ qs. All (λ (q : ℕ × Bytes). IsNoRefusal q.1) qs) (sym a.queued)
+        (All-cons (λ (q : ℕ × Bytes). IsNoRefusal q.1) (1, reply) [] none (All-nil (λ (q : ℕ × Bytes). IsNoRefusal q.1)))
 
     same_reply : IsAnsweredBy x.store x.says (line x.other) → line x.reply ≡ line x.other
     same_reply other =

@@ -1,12 +1,11 @@
 -- `query` is determined, memory aside.
-use Rattle.std.specs.Prelude.{ℕ, List, [], ◌∷◌, ◌≡◌, ◌≢◌, ◌⊎◌, ◌≤◌, Bool, true, false, Option, None, Some, is_some, Result, Ok, Err, codes, length}
+use Rattle.std.specs.Prelude.{ℕ, [], ◌∷◌, ◌≡◌, ◌≢◌, ◌⊎◌, ◌≤◌, true, Option, None, Some, is_some, Result, Ok, Err, codes, length}
 use Rattle.std.proofs.Common.{refl, sym, ap, ◌∙◌, subst, inl, inr}
 use Rattle.djq_model.specs.declared.query.Query.{Query}
-use Rattle.djq_model.specs.Data.{Bytes}
 use Rattle.djq_model.specs.Known.{texts_in}
 use Rattle.djq_protocol.specs.declared.limits.TheConstants.{TEXTS}
 use Rattle.djq_protocol.specs.declared.answer.Refusal.{Refusal}
-use Rattle.djq_protocol.specs.declared.answer.Refusal.TheVariants.{NoMemory, Limit}
+use Rattle.djq_protocol.specs.declared.answer.Refusal.TheVariants.{NoMemory}
 use Rattle.djq_protocol.specs.declared.rest.QueryOutcome.{QueryOutcome}
 use Rattle.djq_protocol.specs.declared.rest.QueryOutcome.TheVariants.{Registered, Cyclic, NotConnex}
 use Rattle.djq_protocol.specs.Conditions.{Answers}
@@ -15,7 +14,7 @@ use Rattle.djq_protocol.specs.Hypergraph.{edges_of, head_of}
 use Rattle.djq_protocol.specs.Reply.{query_reply, end_memory}
 use Rattle.djq_store_spec.specs.Store.{Store}
 use Rattle.djq_store_spec.specs.Relations.{RefusedByTexts}
-use Rattle.djq_store_spec.specs.Registering.{query_refusal, RegistersAs, RefusedLate, RegistersQuery}
+use Rattle.djq_store_spec.specs.Registering.{query_refusal, RegistersAs, RefusedLate}
 use Rattle.djq_machine.specs.State.{State}
 use Rattle.djq_machine.specs.Effect.{Effect}
 use Rattle.djq_machine.specs.Command.{QueryStep, QueryCutStep}
@@ -72,8 +71,7 @@ late_same old q st st' r t m m' (inl x) (inr y) = absurd (m' y.0)
 late_same old q st st' r t m m' (inl x) (inl y) =
     let limit = texts_late old (texts_in (constants_of q)) st r m x.1 in
     let limit' = texts_late old (texts_in (constants_of q)) st' t m' y.1 in
-    let same = limit ∙ sym limit' in
-    (
+    let same = limit ∙ sym limit' in (
       is_equal (ap (λ w. query_reply (Err w)) same),
       refused_texts old (texts_in (constants_of q)) st st' r m x.1
           (subst (λ w. RefusedByTexts old (texts_in (constants_of q)) st' w) (sym same) y.1),
@@ -102,9 +100,8 @@ module _ (old : State) (s : ℕ) (e e' : Effect) (new new' : State) (told : IsTo
       let is = answered s _ _ e h.effect in
       let is' = answered s _ _ e' k.effect in
       let same = results_same old.store q h.store k.store (query_refusal old.store q) h.result k.result refl
-          (not_err query_reply s h.result e refl is told) (not_err query_reply s k.result e' refl is' told')
-          h.done.stays k.done.stays h.done.answer k.done.answer in
-      (
+      (not_err query_reply s h.result e refl is told) (not_err query_reply s k.result e' refl is' told')
+      h.done.stays k.done.stays h.done.answer k.done.answer in (
         subst (λ qs. SameQueued qs e'.queued) (sym is)
             (subst (λ qs. SameQueued ((s, query_reply h.result) ∷ []) qs) (sym is') (refl, same.0, tt)),
         ap (λ (st : State). st.store) h.state ∙ same.1 ∙ sym (ap (λ (st : State). st.store) k.state),

@@ -1,12 +1,12 @@
 -- Edges have one rest: whatever order the steps are taken in, what no step applies to is the same set of edges.
-use Rattle.std.specs.Prelude.{ℕ, zero, suc, List, [], ◌∷◌, ◌≡◌, ◌≢◌, ◌⊎◌, ◌<◌, ◌≤◌, ◌+◌, ◌-◌, min, Bool, true, false, not, nat_lt, ◌==◌, ◌&&◌, ◌||◌, ◌++◌, cond, All, AllPairs, Contains, length, map, remove, slice_set}
+use Rattle.std.specs.Prelude.{ℕ, zero, suc, List, [], ◌∷◌, ◌≡◌, ◌≢◌, ◌⊎◌, ◌<◌, ◌≤◌, ◌+◌, ◌-◌, true, not, nat_lt, ◌==◌, ◌&&◌, ◌++◌, All, AllPairs, Contains, length, map, remove}
 use Rattle.std.proofs.Common.{refl, sym, ap, ◌∙◌, subst, inl, inr, arith}
 use Rattle.std.proofs.lemmas.Bool.{cases_lt, cases_eq, cases_order}
 use Rattle.std.proofs.lemmas.List.{get_or-set_same, get_or-set_other, length-set}
 use Rattle.std.proofs.lemmas.List.Edits.{get_or-remove_below, get_or-remove_above, length-remove}
 use Rattle.djq_hypergraph.specs.declared.step.Step.{Step}
 use Rattle.djq_hypergraph.specs.declared.step.Step.TheVariants.{Vertex, Edge}
-use Rattle.djq_hypergraph.specs.Hypergraph.{member, one, degree, edge_at, difference, subset}
+use Rattle.djq_hypergraph.specs.Hypergraph.{member, one, degree, edge_at, difference}
 use Rattle.djq_hypergraph.specs.Gyo.{IsStep, reduced, Leads, IsIrreducible, IsRest}
 use Rattle.djq_hypergraph.specs.Hypergraph.{numbers_below, set_below}
 use Rattle.djq_hypergraph.proofs.Sets.{Rising, same_sets, same_one}
@@ -179,7 +179,7 @@ lies_nowhere E i x h k low lies = by (cases_eq k i)
     by : (k ≡ i) ⊎ (k ≢ i) → ⊥
     by (inl same) =
         let here : In x (difference (edge_at E i) (x ∷ [])) =
-            subst (λ e. In x e) (taken_here E i x h.0) (subst (λ n. In x (edge_at (reduced E (Vertex i x)) n)) same lies) in
+        subst (λ e. In x e) (taken_here E i x h.0) (subst (λ n. In x (edge_at (reduced E (Vertex i x)) n)) same lies) in
         omega (arith, here, has_difference x (edge_at E i) (x ∷ []), has_here x x [] refl)
     by (inr apart) =
         let there : In x (edge_at E k) = subst (λ e. In x e) (taken_other E i x k apart) lies in
@@ -291,7 +291,7 @@ module _ (E R : List (List ℕ)) (S : List Step) (leads : Leads E S R) (irreduci
       → In x (edge_at R a) → ⊥
   in_none H from covers i x step a low within lies =
       let other = other_edge x R a low lies
-          (λ single. irreducible (Vertex a x) (low, one_true (member x (edge_at R a)) lies, single)) in
+      (λ single. irreducible (Vertex a x) (low, one_true (member x (edge_at R a)) lies, single)) in
       let p = covers other.at other.low in
       let there : In x (edge_at H p.at) = (let h = other.has.1 in omega (arith, h, p.has x)) in
       let same = same_spot H i x step p.at p.low there in
@@ -299,7 +299,7 @@ module _ (E R : List (List ℕ)) (S : List Step) (leads : Leads E S R) (irreduci
       let top = dominated E S R leads whole.at whole.low in
       let one = alone R irreducible a top.at low top.low (below H i whole top a low within) in
       let two = alone R irreducible other.at top.at other.low top.low
-          (below H i whole top other.at other.low (subst (λ n. Sub (edge_at R other.at) (edge_at H n)) same p.has)) in
+      (below H i whole top other.at other.low (subst (λ n. Sub (edge_at R other.at) (edge_at H n)) same p.has)) in
       other.has.0 (two ∙ sym one)
 
   -- so each step leaves it covered
@@ -345,8 +345,13 @@ module _ (E R : List (List ℕ)) (S : List Step) (leads : Leads E S R) (irreduci
           each within y (inr none) = omega (arith, none)
           each within y (inl here) =
               let apart : y ≢ x = λ is. in_none H from covers i x step a low within (subst (λ n. In n (edge_at R a)) is here) in
-              omega (arith, within y, has_difference y (edge_at H i) (x ∷ []), other_than x y apart,
-              one_le (member y (edge_at R a)))
+              omega (
+                arith,
+                within y,
+                has_difference y (edge_at H i) (x ∷ []),
+                other_than x y apart,
+                one_le (member y (edge_at R a)),
+              )
 
   covers_all : (T : List Step) (H Q : List (List ℕ)) → Leads H T Q
       → ((k : ℕ) → k < length H → Spot E (λ j. Sub (edge_at H k) (edge_at E j))) → Covers R H → Covers R Q
@@ -408,9 +413,9 @@ one_rest E R R' rise h k e there =
     let same = alone R h.irreducible a.at q.at a.low q.low (sub_trans _ _ _ p.has q.has) in
     let back : Sub (edge_at R' p.at) (edge_at R a.at) = subst (λ n. Sub (edge_at R' p.at) (edge_at R n)) (sym same) q.has in
     let equal = same_sets (edge_at R a.at) (edge_at R' p.at) (rise_all E h.steps R h.leads rise a.at a.low)
-        (rise_all E k.steps R' k.leads rise p.at p.low)
-        (λ x. same_one (member x (edge_at R a.at)) (member x (edge_at R' p.at))
-        (let one = p.has x in let two = back x in omega (arith, one, two))) in
+    (rise_all E k.steps R' k.leads rise p.at p.low)
+    (λ x. same_one (member x (edge_at R a.at)) (member x (edge_at R' p.at))
+    (let one = p.has x in let two = back x in omega (arith, one, two))) in
     subst (λ f. Contains R' f) (sym equal ∙ a.has) (stands R' p.at p.low)
 
 -- the edges of a query rise
@@ -471,7 +476,7 @@ one_order [] (f ∷ fs) h k to from = absurd (nothing_there f (from f (first_the
 one_order (e ∷ es) [] h k to from = absurd (nothing_there e (to e (first_there e es e refl)))
 one_order (e ∷ es) (f ∷ fs) h k to from =
     let same = first (first_or_later f fs e (to e (first_there e es e refl)))
-        (first_or_later e es f (from f (first_there f fs f refl))) in
+    (first_or_later e es f (from f (first_there f fs f refl))) in
     ap (λ x. x ∷ es) same
     ∙ ap (λ xs. f ∷ xs) (one_order es fs (pairs_tail (λ a b. is_before a b ≡ true) e es h)
     (pairs_tail (λ a b. is_before a b ≡ true) f fs k)
@@ -502,7 +507,7 @@ pub one_named : (q : Query) (E R R' : List (List ℕ)) (rest rest' : NamedRest) 
     → IsRest E R' → IsNamedRest q R rest → IsNamedRest q R' rest' → rest_line words rest ≡ rest_line words rest'
 one_named q E R R' rest rest' words rise h k named named' =
     let same = one_order rest.edges rest'.edges named.order named'.order
-        (λ e there. (named'.edges e).1 (one_rest E R R' rise h k e ((named.edges e).0 there)))
-        (λ e there. (named.edges e).1 (one_rest E R' R rise k h e ((named'.edges e).0 there))) in
+    (λ e there. (named'.edges e).1 (one_rest E R R' rise h k e ((named.edges e).0 there)))
+    (λ e there. (named.edges e).1 (one_rest E R' R rise k h e ((named'.edges e).0 there))) in
     ap (λ es. line (words ++ edges_text rest.names es)) same
     ∙ ap (λ ns. line (words ++ edges_text ns rest'.edges)) (named.names ∙ sym named'.names)

@@ -1,7 +1,6 @@
 -- What of a step is determined, by its event.
 use Rattle.std.specs.Prelude.{ℕ, List, [], ◌∷◌, ◌≡◌, ◌⊎◌, ◌++◌, ◌<◌, Bool, true, false, Option, None, Some, IsSomeAnd, MatchOption, option_map, length}
 use Rattle.std.proofs.Common.{refl, sym, ap, ◌∙◌, subst, inl, inr}
-use Rattle.std.proofs.lemmas.Bool.{true≢false}
 use Rattle.std.proofs.lemmas.List.Sorted.{IsPermutation-sym, IsPermutation-trans}
 use Rattle.djq_model.specs.declared.relation.Relation.{Relation}
 use Rattle.djq_model.specs.Data.{Bytes}
@@ -258,7 +257,7 @@ acts_same old (stepped s outcome) e e' mid mid' told told' h k = by (session_of 
 
 pub is_determined : StepsAreDetermined
 is_determined old event e e' new new' h k memory memory' =
-    let same = acts_same old event e e' h.mid k.mid memory.told memory'.told h.acts k.acts in
+    let same = acts_same old event e e' h.mid k.mid memory memory' h.acts k.acts in
     let left = ap (λ (st : State). st.store) h.queued ∙ queued_store (with_relations h.mid h.relations) e.queued in
     let left' = ap (λ (st : State). st.store) k.queued ∙ queued_store (with_relations k.mid k.relations) e'.queued in
     let stores : SameStore (record h.mid.store { relations = h.relations }) (record k.mid.store { relations = k.relations }) =

@@ -12,13 +12,16 @@
 //! ```
 //!
 //! What "the same" leaves open is said by `SameText`: the order of the answers on a page and of the changes in a delta,
-//! on a page that isn't the last, which answers come first; and which rest shows that a query isn't free-connex. The rows
-//! of a store may stand in another order.
+//! and, on a page that isn't the last, which answers come first. The rows of a store may stand in another order.
 //!
-//! What this crate is not: it doesn't say that a query that isn't free-connex has one rest alone. And nothing is said of
-//! memory: any command that needs some may be refused.
+//! What this crate is not: nothing is said of when memory is refused. Any command that needs some may be refused at any
+//! time, and any session end.
 //!
 //! What surprises: a `del` may be refused for memory while its line is read, and never once it is read.
+//!
+//! Inside, `proofs/Steps.antt` goes through the events and the commands. What a change of rows tells is followed delta by
+//! delta and session by session in `ChangesSame.antt`. That a query that isn't free-connex has one rest is in
+//! `RestsSame.antt`: what two ways of reducing its edges come to covers each other.
 #![tactic(auto)]
 
 ghost use Rattle.djq_determinacy.specs.Determinacy.{StepsAreDetermined};
