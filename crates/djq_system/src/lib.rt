@@ -5,7 +5,7 @@
 //! [`StdSink`] a reader and a writer of `std::io`, such as [`StandardInput`] and [`StandardOutput`]. Each
 //! is a few lines over std, `mio` or `libc`, and each counts its faults.
 //!
-//! [`StdSink`] and [`TcpHub`] note each call with its answer, in a list that exists in the proofs alone and takes no
+//! [`StdSink`] and [`TcpHub`] note each call with its answer, in a list that exists in the proofs alone and uses no
 //! memory. So what is proved of the bytes that are written, brought and sent holds of them. That they make the calls
 //! that they note has to be read. [`StdSource`] and [`FileDisk`] show no record (it is `None`): it would contain what
 //! no call answers, the bytes that are left to read and what a crash leaves of a file.
