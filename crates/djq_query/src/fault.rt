@@ -9,8 +9,8 @@ use djq_model::Query;
 use djq_protocol::Refusal;
 use djq_protocol::limits::{ATOMS, COMPARISONS, HEAD_VARIABLES};
 
-/// Why a query can't be asked over relations: the first of these that holds, and none where none
-/// does. It takes no memory.
+/// Why a query can't be asked over relations: the first of these that holds, and none if none does. It
+/// needs no memory.
 ///
 /// | refusal | an atom, a term, a comparison or the head |
 /// |---|---|
