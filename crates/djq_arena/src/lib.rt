@@ -9,7 +9,7 @@
 //!
 //! What surprises: the slot of a removed row is used for the next one that is inserted. The hash has no
 //! seed: it spreads rows well, and doesn't resist one who chooses rows that fall into one bucket. Whoever
-//! looks for a row and then inserts it hashes it once: by [`hash_of`], for the calls that take the hash.
+//! looks for a row and then inserts it hashes it once: by [`hash_of`], for the calls that want the hash.
 //!
 //! ```text
 //! push 7 7   slot 0      rows, the oldest first    7 7   8 8   9 9

@@ -76,7 +76,7 @@ fn intern_if(
     Ok(())
 }
 
-/// Makes the constants of the comparisons known that come after so many atoms, and before the next
+/// Makes the constants of the comparisons known that follow so many atoms, and before the next
 /// one.
 fn intern_behind(
     catalog: &mut Catalog,

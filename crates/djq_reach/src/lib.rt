@@ -19,7 +19,7 @@
 //! ```text
 //! place    0   1   2   3         the readers of r: 0, 3
 //! query    q   p   -   s
-//! watched  yes no  -   yes       add r 4 5: inserted into q, and its log says so; into s, and its log
+//! watched  yes no  -   yes       add r 4 5: inserted into q, and its log has it; into s, and its log
 //!                                too; p isn't looked at. If s finds no memory, it is removed from q
 //! ```
 //!
