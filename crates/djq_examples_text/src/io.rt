@@ -52,7 +52,7 @@ fn add(hub: &mut MemHub, rt: &HostRuntime, turn: Incoming) -> Result<(), Fail> {
     Ok(())
 }
 
-/// Takes turns until the hub is over or fails, which is the answer. It greets each session that
+/// Reads turns until the hub is over or fails, which is the answer. It greets each session that
 /// opens, and closes each that ends.
 fn greet<H: Hub>(
     hub: &mut H,

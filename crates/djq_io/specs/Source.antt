@@ -5,29 +5,29 @@ use Rattle.djq_io.specs.Faults.{Counted}
 use Rattle.djq_io.specs.declared.source.Read.{Read}
 use Rattle.djq_io.specs.declared.source.Read.TheVariants.{Got, End, Failed}
 
--- What a source tells: the bytes that are left, and the pieces that it gave so far, in order.
+-- What a source shows: the bytes that are left, and the pieces that it gave so far, in order.
 pub record SourceReading : Type 0 where
   pub left : List ℕ
   pub given : List (List ℕ)
 
--- A read gives this piece: what was left begins with it, and a source that tells still has the
--- rest left and the piece behind those given before. A source may lose its count of the pieces,
--- and tells nothing from then on; one that doesn't tell never does.
+-- A read gives this piece: what was left begins with it, and a source that shows its record still
+-- has the rest left and the piece after those given before. A source may lose its count of the
+-- pieces, and shows nothing from then on; one that shows nothing never does.
 abbrev pub GivesPiece : Option SourceReading → Option SourceReading → List ℕ → Type 0
 GivesPiece old new piece = MatchOption old (new ≡ None) (λ o.
     (rest : List ℕ) × (o.left ≡ piece ++ rest)
     × IfSome new (λ n. n ≡ record { left = rest; given = o.given ++ piece ∷ [] }))
 
--- From one state of a source to a later one it gave these pieces, one a read, where it tells as
--- the later state comes: they come behind those given before, and what was left is their bytes
--- and then what is left still.
+-- From one state of a source to a later one it gave these pieces, one a read, if the later state
+-- shows its record: they follow those given before, and what was left is their bytes and then what
+-- is left still.
 abbrev pub SourceGives : Option SourceReading → Option SourceReading → List (List ℕ) → Type 0
 SourceGives old new pieces = IfSome new (λ n. IsSomeAnd old (λ o.
     (n.given ≡ o.given ++ pieces) × (o.left ≡ concat pieces ++ n.left)))
 
--- What a read answers, from what the source tells before to what it tells after it, with the
--- buffer that it leaves: a piece of at least one byte and at most as many as fit; the end, exactly
--- where no bytes are left; or a failure. The last two give nothing.
+-- What a read answers, from what the source shows before to what it shows after it, with the buffer
+-- that it leaves: a piece of at least one byte and at most as many as fit; the end, if and only if
+-- no bytes are left; or a failure. The last two give nothing.
 abbrev pub SourceReads : Read → Option SourceReading → Option SourceReading → List ℕ → Type 0
 SourceReads (Got n) old new buf = (1 ≤ n) × (n ≤ length buf) × GivesPiece old new (take n buf)
 SourceReads End old new buf = IfSome old (λ o. o.left ≡ []) × (new ≡ old)

@@ -13,7 +13,7 @@
 //! ```text
 //! script of a hub   1 opens     1 brings rel r int    1 ends     nothing left
 //! turn              Opened(1)   Bytes(1, 9)           Ended(1)   Over
-//! past, behind it   the four turns, with the bytes, and each send and close in between
+//! past, after it    the four turns, with the bytes, and each send and close in between
 //! ```
 //!
 //! What this crate is not: it buffers nothing, retries nothing, and reads no lines.

@@ -6,7 +6,7 @@
 //! is a few lines over std, `mio` or `libc`, and each counts its faults.
 //!
 //! [`StdSink`], [`TcpHub`] and [`FileDisk`] note each call with its answer, in a list that exists in the proofs alone and
-//! takes no memory. So what is proved of the bytes that are written, brought, sent and stored holds of them. That they
+//! uses no memory. So what is proved of the bytes that are written, brought, sent and stored holds of them. That they
 //! make the calls that they note has to be read. What a crash leaves of a file no call answers: a disk tells the history
 //! that follows from its calls and an [`Oracle`] of what no answer tells, and nothing if a file with that oracle
 //! wouldn't have answered so. [`StdSource`] shows no record (it is `None`): it would contain the bytes that are left to
