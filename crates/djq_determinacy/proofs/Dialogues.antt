@@ -34,7 +34,7 @@ use Rattle.djq_model.specs.declared.value.Value.TheVariants.{Int}
 use Rattle.djq_model.specs.declared.query.Term.TheVariants.{Variable}
 use Rattle.djq_answer_laws.proofs.Lists.{first_there}
 use Rattle.djq_machine.specs.Step.{stepped, Acts}
-use Rattle.djq_determinacy.specs.Determinacy.{SameText, is_equal, are_pages, are_deltas, SameQueued, IsNoRefusal, HasMemory, SaysSuch, is_no_query}
+use Rattle.djq_determinacy.specs.Determinacy.{SameText, is_equal, are_pages, are_deltas, SameQueued, IsNoRefusal, HasMemory}
 use Rattle.djq_determinacy.specs.Dialogues.{differences, over_one_row, IsAnsweredBy, Exchanged, IsAnsweredSo, AllAnswered, exchanges, holding_line, seven, sevens, one_row}
 use Rattle.djq_determinacy.proofs.Memory.{differs_at, memory_text}
 use Rattle.djq_determinacy.proofs.Prefixes.{step_of}
@@ -81,7 +81,6 @@ ends_otherwise text other front is =
 
 -- the tests of an exchange that a proof computes
 record IsPlain (x : Exchanged) : Type 0 where
-  such : SaysSuch is_no_query (reading_of x.says)
   plain : is_list (line x.reply) ≡ false
   reply_first : IsNoRefusal (line x.reply)
   other_first : IsNoRefusal (line x.other)
@@ -101,7 +100,7 @@ only_so x plain so = λ other. differs (bytes_eq-Decides (line x.reply) (line x.
     same_reply : IsAnsweredBy x.store x.says (line x.other) → line x.reply ≡ line x.other
     same_reply other =
         let same = is_determined (holding_line x.says x.store) (stepped 1 (run x.says)) so.effect other.effect so.new other.new
-        plain.such so.step other.step (memory (line x.reply) so plain.reply_first)
+        so.step other.step (memory (line x.reply) so plain.reply_first)
         (memory (line x.other) other plain.other_first) in
         let parts = subst (λ qs. SameQueued qs ((1, line x.other) ∷ [])) so.queued
         (subst (λ qs. SameQueued so.effect.queued qs) other.queued same.0) in
@@ -132,12 +131,12 @@ runs store l reply e mid acts queued = record {
 }
 
 -- one exchange, by what its line says
-exchange : (x : Exchanged) (r : Reading) (e : Effect) (mid : State) → reading_of x.says ≡ r → SaysSuch is_no_query r
+exchange : (x : Exchanged) (r : Reading) (e : Effect) (mid : State) → reading_of x.says ≡ r
     → front_of (line x.says) ≡ a_line x.says [] → is_blank x.says ≡ false
     → is_list (line x.reply) ≡ false → IsNoRefusal (line x.reply) → IsNoRefusal (line x.other)
     → bytes_eq (line x.reply) (line x.other) ≡ false → differences x.reply x.other ≡ 1
     → ReadStep (holding x.store) 1 (fresh 1) x.says r e mid → e.queued ≡ (1, line x.reply) ∷ [] → IsAnsweredSo x
-exchange x r e mid reads such front blank plain reply_first other_first differ one step queued =
+exchange x r e mid reads front blank plain reply_first other_first differ one step queued =
     let so = runs x.store x.says (line x.reply) e mid (
       refl,
       (
@@ -154,7 +153,6 @@ exchange x r e mid reads such front blank plain reply_first other_first differ o
       so = so;
       one_byte = one;
       not_so = only_so x (record {
-        such = subst (λ k. SaysSuch is_no_query k) (sym reads) such;
         plain = plain;
         reply_first = reply_first;
         other_first = other_first;
@@ -223,42 +221,42 @@ seven_is_answer = record {
 so_made : IsAnsweredSo (record { store = empty_store; says = codes "rel r int"; reply = codes "ok"; other = codes "oh" })
 so_made =
     exchange (record { store = empty_store; says = codes "rel r int"; reply = codes "ok"; other = codes "oh" }) (says_command (Rel (codes "r") (IntColumn ∷ []))) (answers 1 (line (codes "ok")) true)
-    (holding (record empty_store { relations = record { name = codes "r"; types = IntColumn ∷ []; rows = [] } ∷ [] })) reads_rel refl refl refl refl
+    (holding (record empty_store { relations = record { name = codes "r"; types = IntColumn ∷ []; rows = [] } ∷ [] })) reads_rel refl refl refl
     (not_memory_text 0 (line (codes "ok")) refl refl) (not_memory_text 0 (line (codes "oh")) refl refl) refl refl
     (true, record { result = Ok tt; store = _; done = record { answer = refl; stays = tt }; effect = refl; state = refl }) refl
 
 so_taken : IsAnsweredSo (over_one_row (codes "rel r int") (codes "err 2 taken") (codes "err 3 taken"))
 so_taken =
     exchange (over_one_row (codes "rel r int") (codes "err 2 taken") (codes "err 3 taken")) (says_command (Rel (codes "r") (IntColumn ∷ []))) (answers 1 (refusal_line Taken) false)
-    (holding one_row) reads_rel refl refl refl refl
+    (holding one_row) reads_rel refl refl refl
     (not_memory_text 4 (line (codes "err 2 taken")) refl refl) (not_memory_text 4 (line (codes "err 3 taken")) refl refl) refl refl
     (true, record { result = Err Taken; store = one_row; done = record { answer = refl; stays = refl }; effect = refl; state = refl }) refl
 
 so_part : IsAnsweredSo (over_one_row (codes "rel") (codes "err 1 syntax") (codes "err 2 syntax"))
 so_part =
     exchange (over_one_row (codes "rel") (codes "err 1 syntax") (codes "err 2 syntax")) (outside) (says 1 (refusal_line Syntax))
-    (holding one_row) reads_part tt refl refl refl
+    (holding one_row) reads_part refl refl refl
     (not_memory_text 5 (line (codes "err 1 syntax")) refl refl) (not_memory_text 4 (line (codes "err 2 syntax")) refl refl) refl refl
     (refl, refl) refl
 
 so_has : IsAnsweredSo (over_one_row (codes "has q 7") (codes "yes") (codes "yet"))
 so_has =
     exchange (over_one_row (codes "has q 7") (codes "yes") (codes "yet")) (says_command (Has (codes "q") (Int (pos 7) ∷ []))) (record { queued = (1, line (codes "yes")) ∷ []; cost = 1; kept = no_line })
-    (holding one_row) reads_has refl refl refl refl
+    (holding one_row) reads_has refl refl refl
     (not_memory_text 0 (line (codes "yes")) refl refl) (not_memory_text 0 (line (codes "yet")) refl refl) refl refl
     (true, record { result = Ok true; tells = record { answer = seven_is_answer }; effect = refl; state = refl }) refl
 
 so_open : IsAnsweredSo (over_one_row (codes "open c q") (codes "ok open") (codes "ok oven"))
 so_open =
     exchange (over_one_row (codes "open c q") (codes "ok open") (codes "ok oven")) (says_command (Open (codes "c") (codes "q"))) (says 1 (line (codes "ok open")))
-    (with_session (holding one_row) 1 (with_cursor (codes "c") (codes "q"))) reads_open refl refl refl refl
+    (with_session (holding one_row) 1 (with_cursor (codes "c") (codes "q"))) reads_open refl refl refl
     (not_memory_text 0 (line (codes "ok open")) refl refl) (not_memory_text 0 (line (codes "ok oven")) refl refl) refl refl
     (true, record { result = Ok tt; answer = tt; effect = refl; state = refl }) refl
 
 so_close : IsAnsweredSo (over_one_row (codes "close c") (codes "err 5 no cursor") (codes "err 5 no curser"))
 so_close =
     exchange (over_one_row (codes "close c") (codes "err 5 no cursor") (codes "err 5 no curser")) (says_command (Close (codes "c"))) (says 1 (refusal_line NoCursor))
-    (holding one_row) reads_close refl refl refl refl
+    (holding one_row) reads_close refl refl refl
     (not_memory_text 4 (line (codes "err 5 no cursor")) refl refl) (not_memory_text 4 (line (codes "err 5 no curser")) refl refl) refl refl
     (true, (refl, refl)) refl
 
@@ -266,42 +264,42 @@ so_watch : IsAnsweredSo (over_one_row (codes "watch q") (codes "ok watch 1") (co
 unfolding digits
 so_watch =
     exchange (over_one_row (codes "watch q") (codes "ok watch 1") (codes "ok watch 2")) (says_command (Watch (codes "q"))) (says 1 (line (codes "ok watch 1")))
-    (with_session (holding one_row) 1 (with_watch (codes "q"))) reads_watch refl refl refl refl
+    (with_session (holding one_row) 1 (with_watch (codes "q"))) reads_watch refl refl refl
     (not_memory_text 0 (line (codes "ok watch 1")) refl refl) (not_memory_text 0 (line (codes "ok watch 2")) refl refl) refl refl
     (true, record { result = Ok tt; answer = tt; effect = refl; state = refl }) refl
 
 so_unwatch : IsAnsweredSo (over_one_row (codes "unwatch q") (codes "ok") (codes "on"))
 so_unwatch =
     exchange (over_one_row (codes "unwatch q") (codes "ok") (codes "on")) (says_command (Unwatch (codes "q"))) (says 1 (line (codes "ok")))
-    (with_session (holding one_row) 1 (without_watch (codes "q"))) reads_unwatch refl refl refl refl
+    (with_session (holding one_row) 1 (without_watch (codes "q"))) reads_unwatch refl refl refl
     (not_memory_text 0 (line (codes "ok")) refl refl) (not_memory_text 0 (line (codes "on")) refl refl) refl refl
     (true, record { result = Ok tt; answer = tt; effect = refl; state = refl }) refl
 
 so_drop : IsAnsweredSo (over_one_row (codes "drop q") (codes "ok") (codes "ox"))
 so_drop =
     exchange (over_one_row (codes "drop q") (codes "ok") (codes "ox")) (says_command (Drop (codes "q"))) (answers 1 (line (codes "ok")) true)
-    (holding (record one_row { queries = [] })) reads_drop refl refl refl refl
+    (holding (record one_row { queries = [] })) reads_drop refl refl refl
     (not_memory_text 0 (line (codes "ok")) refl refl) (not_memory_text 0 (line (codes "ox")) refl refl) refl refl
     (true, record { result = Ok tt; store = _; done = record { answer = refl; stays = tt }; effect = refl; state = refl }) refl
 
 so_batch : IsAnsweredSo (over_one_row (codes "batch") (codes "ok batch") (codes "ok botch"))
 so_batch =
     exchange (over_one_row (codes "batch") (codes "ok batch") (codes "ok botch")) (says_command Batch) (says 1 (line (codes "ok batch")))
-    (with_session (holding one_row) 1 (with_batch nothing_held)) reads_batch refl refl refl refl
+    (with_session (holding one_row) 1 (with_batch nothing_held)) reads_batch refl refl refl
     (not_memory_text 0 (line (codes "ok batch")) refl refl) (not_memory_text 0 (line (codes "ok botch")) refl refl) refl refl
     (true, record { result = Ok tt; answer = tt; effect = refl; state = refl }) refl
 
 so_done : IsAnsweredSo (over_one_row (codes "done") (codes "err 18 batch") (codes "err 19 batch"))
 so_done =
     exchange (over_one_row (codes "done") (codes "err 18 batch") (codes "err 19 batch")) (says_command (Done None)) (says 1 (refusal_line Misplaced))
-    (holding one_row) reads_done refl refl refl refl
+    (holding one_row) reads_done refl refl refl
     (not_memory_text 5 (line (codes "err 18 batch")) refl refl) (not_memory_text 5 (line (codes "err 19 batch")) refl refl) refl refl
     (refl, refl) refl
 
 so_quit : IsAnsweredSo (over_one_row (codes "quit") (codes "bye") (codes "aye"))
 so_quit =
     exchange (over_one_row (codes "quit") (codes "bye") (codes "aye")) (says_command Quit) (says 1 (line (codes "bye")))
-    (with_session (holding one_row) 1 (ended_by SaidQuit)) reads_quit refl refl refl refl
+    (with_session (holding one_row) 1 (ended_by SaidQuit)) reads_quit refl refl refl
     (not_memory_text 0 (line (codes "bye")) refl refl) (not_memory_text 0 (line (codes "aye")) refl refl) refl refl
     (true, (refl, refl)) refl
 

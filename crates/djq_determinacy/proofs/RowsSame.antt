@@ -168,7 +168,7 @@ learned_parts known [] ys = refl
 learned_parts known (x ∷ xs) ys = learned_parts (learned known x) xs ys
 
 -- a text that finds no place is one too many
-one_too_many : (old texts known : List Bytes) → FindsNoPlace old texts known → length (all_learned old texts) ≤ TEXTS → ⊥
+pub one_too_many : (old texts known : List Bytes) → FindsNoPlace old texts known → length (all_learned old texts) ≤ TEXTS → ⊥
 one_too_many old texts known h few =
     let whole = ap (all_learned old) h.parts ∙ learned_parts old h.first (h.next ∷ h.rest)
     ∙ ap (λ ks. all_learned (learned ks h.next) h.rest) (sym h.learned) in
@@ -211,7 +211,7 @@ one_place old texts a b h k =
     (sym (ap length h.learned) ∙ h.full) (sym (ap length k.learned) ∙ k.full) ∙ sym k.learned
 
 -- a late refusal for texts is for their limit, memory aside
-texts_late : (old : Store) (texts : List Bytes) (new : Store) (r : Refusal) → r ≢ NoMemory → RefusedByTexts old texts new r
+pub texts_late : (old : Store) (texts : List Bytes) (new : Store) (r : Refusal) → r ≢ NoMemory → RefusedByTexts old texts new r
     → r ≡ Limit
 texts_late old texts new Limit h late = refl
 texts_late old texts new NoMemory h late = absurd (h refl)

@@ -1,7 +1,6 @@
 -- What of a step is determined, by its event.
 use Rattle.std.specs.Prelude.{ℕ, List, [], ◌∷◌, ◌≡◌, ◌⊎◌, ◌++◌, ◌<◌, Bool, true, false, Option, None, Some, IsSomeAnd, MatchOption, option_map, length}
 use Rattle.std.proofs.Common.{refl, sym, ap, ◌∙◌, subst, inl, inr}
-use Rattle.std.proofs.lemmas.Bool.{true≢false}
 use Rattle.std.proofs.lemmas.List.Sorted.{IsPermutation-sym, IsPermutation-trans}
 use Rattle.djq_model.specs.declared.relation.Relation.{Relation}
 use Rattle.djq_model.specs.Data.{Bytes}
@@ -27,31 +26,32 @@ use Rattle.djq_machine.specs.Step.{FedStep, TookStep, EndedStep}
 use Rattle.djq_machine.specs.Step.{Event, opened, fed, stepped, took, ended, closed, Acts, SameRelations, with_relations, is_dry}
 use Rattle.djq_run_laws.proofs.Deltas.{queued_store}
 use Rattle.djq_run_laws.proofs.Lists.{session_changed}
-use Rattle.djq_determinacy.specs.Determinacy.{is_equal, SameQueued, SameStore, SaysSuch, IsSuch, is_no_query, IsDetermined}
+use Rattle.djq_determinacy.specs.Determinacy.{is_equal, SameQueued, SameStore, IsDetermined}
 use Rattle.djq_determinacy.proofs.Determinacy.{Same, IsTold, not_refused, said, same_alone, rel_same, drop_same, open_same, watch_same, unwatch_same, batch_same}
 use Rattle.djq_determinacy.proofs.Determinacy.{hold_same, has_same, shape_same, explain_same, refused_same, ends_same, close_same, union_same, next_same}
 use Rattle.djq_determinacy.proofs.DoneSame.{done_same}
 use Rattle.djq_determinacy.proofs.RowsSame.{GoesOn, delete_same, add_same}
+use Rattle.djq_determinacy.proofs.QuerySame.{query_same}
 
 module _ (s : ℕ) (e e' : Effect) (new new' : State) (told : IsTold e) (told' : IsTold e') where
-  command_same : (old : State) (x : Session) (l : Bytes) (c : Command) → is_no_query c ≡ true → GoesOn old s
+  command_same : (old : State) (x : Session) (l : Bytes) (c : Command) → GoesOn old s
       → CommandStep old s x l c e new → CommandStep old s x l c e' new' → Same e new e' new'
-  command_same old x l (Rel name types) such goes h k = rel_same old s e e' new new' told told' name types h k
-  command_same old x l (Union name members) such goes h k = union_same old s e e' new new' told told' name members h k
-  command_same old x l (Drop q) such goes h k = drop_same old s e e' new new' told told' q h k
-  command_same old x l (Open c q) such goes h k = open_same old s e e' new new' told told' x c q h k
-  command_same old x l (Has q row) such goes h k = has_same old s e e' new new' told told' q row h k
-  command_same old x l (Watch q) such goes h k = watch_same old s e e' new new' told told' x q h k
-  command_same old x l (Unwatch q) such goes h k = unwatch_same old s e e' new new' told told' q h k
-  command_same old x l (Shape q) such goes h k = shape_same old s e e' new new' told told' q h k
-  command_same old x l Batch such goes h k = batch_same old s e e' new new' told told' h k
-  command_same old x l Abandon such goes h k = (
+  command_same old x l (Rel name types) goes h k = rel_same old s e e' new new' told told' name types h k
+  command_same old x l (Union name members) goes h k = union_same old s e e' new new' told told' name members h k
+  command_same old x l (Drop q) goes h k = drop_same old s e e' new new' told told' q h k
+  command_same old x l (Open c q) goes h k = open_same old s e e' new new' told told' x c q h k
+  command_same old x l (Has q row) goes h k = has_same old s e e' new new' told told' q row h k
+  command_same old x l (Watch q) goes h k = watch_same old s e e' new new' told told' x q h k
+  command_same old x l (Unwatch q) goes h k = unwatch_same old s e e' new new' told told' q h k
+  command_same old x l (Shape q) goes h k = shape_same old s e e' new new' told told' q h k
+  command_same old x l Batch goes h k = batch_same old s e e' new new' told told' h k
+  command_same old x l Abandon goes h k = (
     same_alone s _ _ e e' (said s _ e h.0) (said s _ e' k.0) refl,
     ap (λ (st : State). st.store) (h.1 ∙ sym k.1),
   )
-  command_same old x l Quit such goes h k = ends_same old s e e' new new' told told' _ SaidQuit old h k
-  command_same old x l Stop such goes h k = ends_same old s e e' new new' told told' _ SaidStop (record old { stopped = true }) h k
-  command_same old x l (Del name row) such goes h k = by x.batch h k
+  command_same old x l Quit goes h k = ends_same old s e e' new new' told told' _ SaidQuit old h k
+  command_same old x l Stop goes h k = ends_same old s e e' new new' told told' _ SaidStop (record old { stopped = true }) h k
+  command_same old x l (Del name row) goes h k = by x.batch h k
     where
       by : (o : Option HeldTransaction)
           → MatchOption o (DeleteStep old s name row e new) (λ held. HoldStep old s held l Deletes name row e new)
@@ -59,7 +59,7 @@ module _ (s : ℕ) (e e' : Effect) (new new' : State) (told : IsTold e) (told' :
           → Same e new e' new'
       by None h k = delete_same old s e e' new new' told told' name row h k
       by (Some held) h k = hold_same old s e e' new new' told told' held l Deletes name row h k
-  command_same old x l (Next c count) such goes h k = by (cursor_of x.cursors c) h k
+  command_same old x l (Next c count) goes h k = by (cursor_of x.cursors c) h k
     where
       by_query : (y : Cursor) (o : Option Listed) → IsSomeAnd o (λ q. NextStepAt old s c q count y.position e new)
           → IsSomeAnd o (λ q. NextStepAt old s c q count y.position e' new') → Same e new e' new'
@@ -73,19 +73,19 @@ module _ (s : ℕ) (e e' : Effect) (new new' : State) (told : IsTold e) (told' :
           (λ q. NextStepAt old s c q count y.position e' new')) → Same e new e' new'
       by None h k = refused_same old s e e' new new' told told' NoCursor h k
       by (Some y) h k = by_query y (listed_of old.store.queries y.query) h k
-  command_same old x l (Close c) such goes h k = by (cursor_of x.cursors c) h k
+  command_same old x l (Close c) goes h k = by (cursor_of x.cursors c) h k
     where
       by : (o : Option Cursor) → MatchOption o (RefusedStep old s NoCursor e new) (λ y. CloseStep old s c e new)
           → MatchOption o (RefusedStep old s NoCursor e' new') (λ y. CloseStep old s c e' new') → Same e new e' new'
       by None h k = refused_same old s e e' new new' told told' NoCursor h k
       by (Some y) h k = close_same old s e e' new new' told told' c h k
-  command_same old x l (Explain q) such goes h k = by (listed_of old.store.queries q) h k
+  command_same old x l (Explain q) goes h k = by (listed_of old.store.queries q) h k
     where
       by : (o : Option Listed) → MatchOption o (RefusedStep old s NoQuery e new) (λ y. ExplainStepOf old s y e new)
           → MatchOption o (RefusedStep old s NoQuery e' new') (λ y. ExplainStepOf old s y e' new') → Same e new e' new'
       by None h k = refused_same old s e e' new new' told told' NoQuery h k
       by (Some y) h k = explain_same old s e e' new new' told told' y h k
-  command_same old x l (Add name row) such goes h k = by x.batch h k
+  command_same old x l (Add name row) goes h k = by x.batch h k
     where
       by : (o : Option HeldTransaction)
           → MatchOption o (AddStep old s name row e new) (λ held. HoldStep old s held l Adds name row e new)
@@ -93,8 +93,8 @@ module _ (s : ℕ) (e e' : Effect) (new new' : State) (told : IsTold e) (told' :
           → Same e new e' new'
       by None h k = add_same old s e e' new new' told told' goes name row h k
       by (Some held) h k = hold_same old s e e' new new' told told' held l Adds name row h k
-  command_same old x l (Register q) such goes h k = absurd (true≢false (sym such))
-  command_same old x l (Done given) such goes h k = by x.batch h k
+  command_same old x l (Register q) goes h k = query_same old s e e' new new' told told' q h k
+  command_same old x l (Done given) goes h k = by x.batch h k
     where
       by : (o : Option HeldTransaction) → MatchOption o ⊥ (λ held. DoneStep old s held given e new)
           → MatchOption o ⊥ (λ held. DoneStep old s held given e' new') → Same e new e' new'
@@ -108,9 +108,9 @@ module _ (s : ℕ) (e e' : Effect) (new new' : State) (told : IsTold e) (told' :
   not_told' : (old : State) → RefusedStep old s NoMemory e' new' → ⊥
   not_told' old h = (not_refused s (refusal_line NoMemory) e'.queued (said s (refusal_line NoMemory) e' h.0) told').0 refl
 
-  said_same : (old : State) (x : Session) (l : Bytes) (c : Command) → is_no_query c ≡ true → GoesOn old s
+  said_same : (old : State) (x : Session) (l : Bytes) (c : Command) → GoesOn old s
       → ReadStep old s x l (says_command c) e new → ReadStep old s x l (says_command c) e' new' → Same e new e' new'
-  said_same old x l c such goes h k = by (is_misplaced x.batch c) h k
+  said_same old x l c goes h k = by (is_misplaced x.batch c) h k
     where
       ReadAs : Effect → State → Bool → Type 0
       ReadAs f st true = CommandStep old s x l c f st
@@ -121,7 +121,7 @@ module _ (s : ℕ) (e e' : Effect) (new new' : State) (told : IsTold e) (told' :
       CarriedOut f st false = (is_read : Bool) × ReadAs f st is_read
 
       read : (a b : Bool) → ReadAs e new a → ReadAs e' new' b → Same e new e' new'
-      read true true h k = command_same old x l c such goes h k
+      read true true h k = command_same old x l c goes h k
       read false b h k = absurd (not_told old h.1)
       read true false h k = absurd (not_told' old k.1)
 
@@ -129,12 +129,12 @@ module _ (s : ℕ) (e e' : Effect) (new new' : State) (told : IsTold e) (told' :
       by true h k = refused_same old s e e' new new' told told' Misplaced h k
       by false h k = read h.0 k.0 h.1 k.1
 
-  read_same : (old : State) (x : Session) (l : Bytes) (r : Reading) → SaysSuch is_no_query r → GoesOn old s
+  read_same : (old : State) (x : Session) (l : Bytes) (r : Reading) → GoesOn old s
       → ReadStep old s x l r e new → ReadStep old s x l r e' new' → Same e new e' new'
-  read_same old x l outside such goes h k = refused_same old s e e' new new' told told' Syntax h k
-  read_same old x l (past_limit c) such goes h k =
+  read_same old x l outside goes h k = refused_same old s e e' new new' told told' Syntax h k
+  read_same old x l (past_limit c) goes h k =
       refused_same old s e e' new new' told told' (past_limit_refusal (is_misplaced x.batch c)) h k
-  read_same old x l (says_command c) such goes h k = said_same old x l c such goes h k
+  read_same old x l (says_command c) goes h k = said_same old x l c goes h k
 
   -- the line in front
   one_rest : (held l rest rest' : Bytes) → front_of held ≡ a_line l rest → front_of held ≡ a_line l rest' → rest ≡ rest'
@@ -150,29 +150,29 @@ module _ (s : ℕ) (e e' : Effect) (new new' : State) (told : IsTold e) (told' :
   nothing_same h k =
       subst (λ (d : Effect). SameQueued d.queued e'.queued) (sym h) (subst (λ (d : Effect). SameQueued [] d.queued) (sym k) tt)
 
-  front_same : (old : State) (x : Session) (outcome : LineOutcome) → IsSuch is_no_query (stepped s outcome)
+  front_same : (old : State) (x : Session) (outcome : LineOutcome)
       → session_of old s ≡ Some x → x.cause ≡ None → FrontStep old s x outcome e new → FrontStep old s x outcome e' new'
       → Same e new e' new'
-  front_same old x long such found goes h k = ends_same old s e e' new new' told told' end_long Long old h.1 k.1
-  front_same old x (blank l) such found goes h k =
+  front_same old x long found goes h k = ends_same old s e e' new new' told told' end_long Long old h.1 k.1
+  front_same old x (blank l) found goes h k =
       let rest = one_rest x.held l h.1.rest k.1.rest h.1.front k.1.front in (
         nothing_same h.1.then.0 k.1.then.0,
         ap (λ (st : State). st.store) (h.1.then.1
             ∙ ap (λ r. with_session old s (behind_line r)) rest ∙ sym k.1.then.1),
       )
-  front_same old x (slow l) such found goes h k =
+  front_same old x (slow l) found goes h k =
       let rest = one_rest x.held l h.2.rest k.2.rest h.2.front k.2.front in
       let mid = with_session old s (behind_line h.2.rest) in
       ends_same old s e e' new new' told told' end_slow Slow mid h.2.then
       (subst (λ r. EndsWith end_slow Slow (with_session old s (behind_line r)) s e' new') (sym rest) k.2.then)
-  front_same old x (no_room l) such found goes h k =
+  front_same old x (no_room l) found goes h k =
       let rest = one_rest x.held l h.2.rest k.2.rest h.2.front k.2.front in
       let mid = with_session old s (behind_line h.2.rest) in
       ends_same old s e e' new new' told told' end_memory Memory mid h.2.then
       (subst (λ r. EndsWith end_memory Memory (with_session old s (behind_line r)) s e' new') (sym rest) k.2.then)
-  front_same old x (run l) such found goes h k =
+  front_same old x (run l) found goes h k =
       let rest = one_rest x.held l h.2.rest k.2.rest h.2.front k.2.front in
-      read_same (with_session old s (behind_line h.2.rest)) (behind_line h.2.rest x) l (reading_of l) such
+      read_same (with_session old s (behind_line h.2.rest)) (behind_line h.2.rest x) l (reading_of l)
       (goes_behind old x h.2.rest found goes) h.2.then
       (subst (λ r. ReadStep (with_session old s (behind_line r)) s (behind_line r x) l (reading_of l) e' new') (sym rest) k.2.then)
 
@@ -201,25 +201,25 @@ equal_same e e' is = subst (λ (d : Effect). SameQueued e.queued d.queued) is (e
 quiet_same : (e e' : Effect) → e ≡ nothing → e' ≡ nothing → SameQueued e.queued e'.queued
 quiet_same e e' h k = equal_same e e' (h ∙ sym k)
 
-acts_same : (old : State) (event : Event) (e e' : Effect) (mid mid' : State) → IsSuch is_no_query event → IsTold e → IsTold e'
+acts_same : (old : State) (event : Event) (e e' : Effect) (mid mid' : State) → IsTold e → IsTold e'
     → Acts old event e mid → Acts old event e' mid' → Same e mid e' mid'
-acts_same old (opened s) e e' mid mid' such told told' h k =
+acts_same old (opened s) e e' mid mid' told told' h k =
     (quiet_same e e' h.0 k.0, stays mid h.2 ∙ sym (stays mid' k.2))
   where
     stays : (st : State) → ((length old.sessions < SESSIONS) × (st ≡ record old { sessions = old.sessions ++ fresh s ∷ [] }))
         ⊎ (st ≡ old) → st.store ≡ old.store
     stays st (inl h) = ap (λ (x : State). x.store) h.1
     stays st (inr h) = ap (λ (x : State). x.store) h
-acts_same old (took s bytes) e e' mid mid' such told told' h k = by (session_of old s) h k
+acts_same old (took s bytes) e e' mid mid' told told' h k = by (session_of old s) h k
   where
     by : (o : Option Session) → IsSomeAnd o (λ x. TookStep old s bytes x e mid)
         → IsSomeAnd o (λ x. TookStep old s bytes x e' mid') → Same e mid e' mid'
     by None h k = absurd h
     by (Some x) h k =
         (quiet_same e e' h.0 k.0, ap (λ (st : State). st.store) h.1.2 ∙ sym (ap (λ (st : State). st.store) k.1.2))
-acts_same old (closed s bytes) e e' mid mid' such told told' h k =
+acts_same old (closed s bytes) e e' mid mid' told told' h k =
     (quiet_same e e' h.0 k.0, ap (λ (st : State). st.store) (h.2 ∙ sym k.2))
-acts_same old (fed s bytes) e e' mid mid' such told told' h k = by (session_of old s) h k
+acts_same old (fed s bytes) e e' mid mid' told told' h k = by (session_of old s) h k
   where
     by_cause : (x : Session) (c : Option EndCause)
         → MatchOption c (((e ≡ nothing) × (mid ≡ with_session old s (λ y. record y { held = y.held ++ bytes })))
@@ -235,7 +235,7 @@ acts_same old (fed s bytes) e e' mid mid' such told told' h k = by (session_of o
         → Same e mid e' mid'
     by None h k = absurd h
     by (Some x) h k = by_cause x x.cause h k
-acts_same old (ended s) e e' mid mid' such told told' h k = by (session_of old s) h k
+acts_same old (ended s) e e' mid mid' told told' h k = by (session_of old s) h k
   where
     by_cause : (x : Session) (c : Option EndCause)
         → MatchOption c ((is_dry x.held ≡ true) × (e ≡ says_any s (cut_line x.held ++ lost_line x.batch))
@@ -249,16 +249,16 @@ acts_same old (ended s) e e' mid mid' such told told' h k = by (session_of old s
         → Same e mid e' mid'
     by None h k = absurd h
     by (Some x) h k = by_cause x x.cause h k
-acts_same old (stepped s outcome) e e' mid mid' such told told' h k = by (session_of old s) refl h k
+acts_same old (stepped s outcome) e e' mid mid' told told' h k = by (session_of old s) refl h k
   where
     by : (o : Option Session) → session_of old s ≡ o → IsSomeAnd o (λ x. (x.cause ≡ None) × FrontStep old s x outcome e mid)
         → IsSomeAnd o (λ x. (x.cause ≡ None) × FrontStep old s x outcome e' mid') → Same e mid e' mid'
     by None found h k = absurd h
-    by (Some x) found h k = front_same s e e' mid mid' told told' old x outcome such found h.0 h.1 k.1
+    by (Some x) found h k = front_same s e e' mid mid' told told' old x outcome found h.0 h.1 k.1
 
-pub is_determined : IsDetermined is_no_query
-is_determined old event e e' new new' such h k memory memory' =
-    let same = acts_same old event e e' h.mid k.mid such memory.told memory'.told h.acts k.acts in
+pub is_determined : IsDetermined
+is_determined old event e e' new new' h k memory memory' =
+    let same = acts_same old event e e' h.mid k.mid memory.told memory'.told h.acts k.acts in
     let left = ap (λ (st : State). st.store) h.queued ∙ queued_store (with_relations h.mid h.relations) e.queued in
     let left' = ap (λ (st : State). st.store) k.queued ∙ queued_store (with_relations k.mid k.relations) e'.queued in
     let stores : SameStore (record h.mid.store { relations = h.relations }) (record k.mid.store { relations = k.relations }) =

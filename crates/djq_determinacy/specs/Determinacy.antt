@@ -1,18 +1,14 @@
 -- What of a step is determined by its state and its event, memory aside.
-use Rattle.std.specs.Prelude.{ℕ, List, [], ◌∷◌, ◌≡◌, ◌≢◌, ◌++◌, ◌<◌, Bool, true, false, All, IsPermutation, length, ⊤}
+use Rattle.std.specs.Prelude.{ℕ, List, [], ◌∷◌, ◌≡◌, ◌≢◌, ◌++◌, ◌<◌, Bool, true, All, IsPermutation, length, ⊤}
 use Rattle.djq_model.specs.Data.{Bytes, Tuple}
 use Rattle.djq_protocol.specs.declared.limits.TheConstants.{SESSIONS}
 use Rattle.djq_protocol.specs.declared.answer.Refusal.TheVariants.{NoMemory}
-use Rattle.djq_protocol.specs.declared.command.Command.{Command}
-use Rattle.djq_protocol.specs.declared.command.Command.TheVariants.{Query}
-use Rattle.djq_protocol.specs.Grammar.{Reading, outside, past_limit, says_command, reading_of}
 use Rattle.djq_protocol.specs.Reply.{refusal_line, end_memory, text_of, listing_lines}
 use Rattle.djq_store_spec.specs.Store.{Store}
 use Rattle.djq_store_spec.specs.Delta.{Change, delta_lines}
 use Rattle.djq_machine.specs.State.{State}
 use Rattle.djq_machine.specs.Effect.{Effect}
-use Rattle.djq_machine.specs.LineStep.{run}
-use Rattle.djq_machine.specs.Step.{Event, opened, stepped, Step, SameRelations}
+use Rattle.djq_machine.specs.Step.{Event, opened, Step, SameRelations}
 use Rattle.djq_machine.specs.Call.{IsOpen}
 
 -- Two texts say the same. They are equal; or they are the page of a listing, as long and as near to its end, and the
@@ -50,25 +46,9 @@ pub record HasMemory (old : State) (event : Event) (e : Effect) (new : State) : 
   pub told : All (λ q. IsNoRefusal q.1) e.queued
   pub opens : OpensIfRoom old event new
 
--- a line of which this holds of the command, if it says one
-abbrev pub SaysSuch : (Command → Bool) → Reading → Type 0
-SaysSuch such outside = ⊤
-SaysSuch such (past_limit c) = ⊤
-SaysSuch such (says_command c) = such c ≡ true
-
-abbrev pub IsSuch : (Command → Bool) → Event → Type 0
-IsSuch such (stepped s (run l)) = SaysSuch such (reading_of l)
-IsSuch such _ = ⊤
-
--- The commands of which it is proved: all but `query`. Of a query that isn't free-connex it isn't shown yet that it has one
--- rest alone.
-abbrev pub is_no_query : Command → Bool
-is_no_query (Query q) = false
-is_no_query c = true
-
 -- **Nothing loose.** Two steps of one event from one state, to neither of which memory is refused, queue the same and
--- leave the same store. Of commands it is said of such ones.
-abbrev pub IsDetermined : (Command → Bool) → Type 0
-IsDetermined such = (old : State) (event : Event) (e e' : Effect) (new new' : State) → IsSuch such event
+-- leave the same store.
+abbrev pub IsDetermined : Type 0
+IsDetermined = (old : State) (event : Event) (e e' : Effect) (new new' : State)
     → Step old event e new → Step old event e' new' → HasMemory old event e new → HasMemory old event e' new'
     → SameQueued e.queued e'.queued × SameStore new.store new'.store

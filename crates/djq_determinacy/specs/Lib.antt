@@ -1,4 +1,5 @@
 pub mod Memory
 pub mod Prefixes
 pub mod Determinacy
+pub mod Reductions
 pub mod Dialogues

@@ -6,6 +6,7 @@
 //! ```text
 //! steps_are_determined         two steps of one event, to neither of which memory is refused, queue the same
 //!                              and leave the same store
+//! rests_agree                  whatever steps a reduction takes, the same edges remain
 //! never_refused_for_memory     del, drop, next, close, has, unwatch, explain, shape, abandon, quit, stop
 //! prefixes_return              a run of serve that is cut off is a first part of one that returns
 //! exchanges_are_answered       has q 7: yes, and not yet
@@ -14,21 +15,26 @@
 //! What "the same" leaves open is said by `SameText`: the order of the answers on a page and of the changes in a delta,
 //! and, on a page that isn't the last, which answers come first. The rows of a store may stand in another order.
 //!
-//! What this crate is not: it isn't said of `query` yet, since of a query that isn't free-connex it isn't shown that it
-//! has one rest alone. And nothing is said of memory: any command that needs some may be refused.
+//! What this crate is not: a promise of memory. Any command that needs some may be refused.
 //!
 //! What surprises: a `del` may be refused for memory while its line is read, and never once it is read.
 #![tactic(auto)]
 
-ghost use Rattle.djq_determinacy.specs.Determinacy.{IsDetermined, is_no_query};
+ghost use Rattle.djq_determinacy.specs.Determinacy.{IsDetermined};
 ghost use Rattle.djq_determinacy.specs.Dialogues.{AllAnswered, exchanges};
 ghost use Rattle.djq_determinacy.specs.Memory.{NeverRefusedForMemory};
 ghost use Rattle.djq_determinacy.specs.Prefixes.{PrefixesReturn};
+ghost use Rattle.djq_determinacy.specs.Reductions.{RestsAgree};
 
 /// Two steps of one event from one state, to neither of which memory is refused, queue the same to each session, up to
-/// the order of a listing, and leave the same store, up to the order of rows. This is so of all commands but `query`.
+/// the order of a listing, and leave the same store, up to the order of rows. This is so of all commands.
 pub fn steps_are_determined()
-    ensures { IsDetermined is_no_query }
+    ensures { IsDetermined }
+{}
+
+/// All rests of a hypergraph have the same edges. So a query that isn't free-connex has one reply.
+pub fn rests_agree()
+    ensures { RestsAgree }
 {}
 
 /// Which commands are never refused for memory: those that take away, ask or end, once they are read.

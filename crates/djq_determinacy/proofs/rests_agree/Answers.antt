@@ -1,0 +1,5 @@
+use Rattle.djq_determinacy.proofs.Rests.{rests_agree}
+use Rattle.djq_determinacy.proofs.rests_agree.Goals as goal
+
+pub returns : goal.returns
+returns c = rests_agree
