@@ -131,7 +131,7 @@ some_input_is_told reads well = (
   told,
   after_read input reads (reads ++ record { answer = End; gave = [] } ∷ []) _ refl
       ∙ ap (option_and_then (reading_answered End []))
-          (ap (λ (bytes : List ℕ). reading_of_reads bytes reads) (sym (append-nil input)) ∙ told []),
+      (ap (λ (bytes : List ℕ). reading_of_reads bytes reads) (sym (append-nil input)) ∙ told []),
 )
   where
     input : List ℕ

@@ -52,8 +52,7 @@ impl<R: io::Read + Drop, O: Oracle> Source for StdSource<R, O> {
 
     ghost faults = { λ s. s.faults };
 
-    #[tactic(auto, using(crate::proofs::SourceReadings::gives_so, crate::proofs::SourceReadings::ends_so,
-        crate::proofs::SourceReadings::fails_so))]
+    #[tactic(auto, using(crate::proofs::SourceReadings::ends_so, crate::proofs::SourceReadings::fails_so))]
     fn read(&mut self, buf: &mut [u8]) -> Read
         requires { 0 < length buf.old }
         ensures notes { self.new.reads
