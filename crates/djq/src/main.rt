@@ -3,8 +3,7 @@
 //! of a generated load, and `djq mirror Q` prints the answers that a session was sent. With `--log PATH` the
 //! second and the third begin with what the lines of that file restore, and log what changes that.
 //!
-//! `main` makes the real source, sink, hub and disk, of which all but the source note their calls for the
-//! proofs, and calls [`run_program`], which is the program over any of them.
+//! `main` makes the real source, sink, hub and disk, which note their calls for the proofs, and calls [`run_program`], which is the program over any of them.
 //!
 //! What surprises: a failed call of the system is reported on standard error, with the system's reason, by the
 //! stream, the hub or the disk that it failed. `main` reports there why the program ends otherwise.
@@ -64,7 +63,7 @@ fn say_why(rt: &HostRuntime, status: Status) {
 }
 
 /// Runs the program on standard input and output, by the words of its command line. What is proved holds whatever the
-/// oracle says of the file: so it holds of what comes true.
+/// oracle says of the file and of the input: so it holds of what comes true.
 fn start<L: Ledgers, O: Oracle>(rt: &HostRuntime, blanks: Blanks) -> Result<Status, AllocError>
     requires listing { blanks.listing.name ≡ L.listing }
     requires update { blanks.update.name ≡ L.update }
@@ -76,7 +75,7 @@ fn start<L: Ledgers, O: Oracle>(rt: &HostRuntime, blanks: Blanks) -> Result<Stat
     Ok(run_program(
         alloc,
         &words,
-        &mut StdSource::new(Telling::new(StandardInput::new(rt.reader()), *rt)),
+        &mut StdSource::<_, O>::new(Telling::new(StandardInput::new(rt.reader()), *rt)),
         &mut StdSink::new(Telling::new(StandardOutput::new(io::writer(rt), *rt), *rt)),
         &mut TcpHub::new(*rt, alloc)?,
         &mut FileDisk::<HostRuntime, O>::new(*rt),

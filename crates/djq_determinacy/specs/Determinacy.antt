@@ -34,7 +34,7 @@ pub record SameStore (a b : Store) : Type 0 where
   pub queries : a.queries ≡ b.queries
   pub seq : a.seq ≡ b.seq
 
--- No memory was refused: no session is told so, and one that may open is open.
+-- No memory was refused: nothing queued says so, and a session that may open is open.
 abbrev pub OpensIfRoom : State → Event → State → Type 0
 OpensIfRoom old (opened s) new = length old.sessions < SESSIONS → IsOpen new s
 OpensIfRoom old _ new = ⊤

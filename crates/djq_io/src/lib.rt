@@ -2,9 +2,9 @@
 //!
 //! A [`Source`] has bytes left and pieces given, a [`Sink`] has its writes with their answers, and
 //! a [`Hub`] has a script of further turns and a past. Contracts name them, if they are shown, as
-//! `Some`: an object in memory shows all, the standard input shows nothing (`None`). So code that
-//! is generic in them is proved once for both, and a claim on bytes is made if they are shown when
-//! the call returns.
+//! `Some`, and one that shows nothing is `None`. So code that is generic in them is proved once for
+//! those in memory and those of the system, and a claim on bytes is made if they are shown when the
+//! call returns.
 //!
 //! Each of the three counts its faults, and a hub also those of each session. A call answers
 //! `Failed` only if its count *rose*: it is greater than at the call's start, or is at the
