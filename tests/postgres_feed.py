@@ -618,6 +618,18 @@ def pieces_are_cut_alike(program, postgres):
             expect(steps[-1].position, Position("s", 1, 850, 0))
 
 
+@test
+def groups_fit_into_a_transaction(program, postgres):
+    """Whole transactions are committed together, as many as one transaction of djq holds."""
+    messages = [KEYED, BARE]
+    for number in range(1, 21):
+        rows = [Insert(2, (str(10 * number + one),)) for one in range(5)]
+        messages += [Begin(100 * number, 0, number), *rows, Commit(100 * number, 100 * number + 50, 0)]
+    with mock.patch("djq.postgres_transactions.ROOM_LINES", 12):
+        steps = steps_from(Position("s", 1, 50, 0), (), messages)
+    expect([(step.position.lsn, len(step.lines)) for step in steps], [(100 * number + 50, 10) for number in range(2, 21, 2)])
+
+
 def states_of(messages):
     """The rows after each transaction, by the place behind it."""
     rows, keyed, states = collections.Counter(), {}, {}
@@ -682,6 +694,37 @@ def a_comparison_is_killed_in_its_middle(program, postgres):
             with contextlib.closing(server.connect()) as session:
                 expect(session.snapshot("q"), set(rows_in(sql, "SELECT * FROM bag")))
             expect_copies(sql, server, "bag")
+
+
+@test
+def nothing_is_confirmed_before_djq_has_it(program, postgres):
+    """A transaction that is on its way to djq isn't confirmed, and comes again if it is lost there."""
+    with database(postgres) as (dsn, sql), Server(program) as server, Gate(server.port) as gate:
+        sql.execute("CREATE TABLE t (a int PRIMARY KEY)")
+        with Feed(dsn, gate.port, "--tables", "t", "--query", "q(a) <- t(a)") as feed:
+            await_place(sql, server)
+            gate.shut_after(1)
+            sql.execute("INSERT INTO t SELECT generate_series(1, 200)")
+            wait_for(gate.is_shut.is_set, "for the first transaction")
+            before = place(sql)
+            sql.execute("INSERT INTO t SELECT generate_series(201, 400)")
+            end = place(sql)
+            wait_for(lambda: sent(sql) >= end, "for the stream")
+            time.sleep(0.5)  # in which nothing is to happen
+            assert confirmed(sql) <= before, (confirmed(sql), before)
+            feed.kill()
+            gate.open()
+            feed.start()
+            feed.await_said("resumes at")
+            await_place(sql, server)
+            with contextlib.closing(server.connect()) as session:
+                expect(session.snapshot("q"), {(a,) for a in range(1, 401)})
+
+
+def sent(sql):
+    """Up to which place PostgreSQL has sent its log to the stream."""
+    sql.execute("SELECT coalesce(min(sent_lsn::text), '0/0') FROM pg_stat_replication")
+    return number_of(sql.fetchone()[0])
 
 
 def free(sql):

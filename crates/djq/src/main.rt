@@ -1,14 +1,12 @@
-//! A join query server, as a program: `djq run` serves one session from standard input to standard
-//! output, `djq serve ADDR` the sessions that come over TCP, `djq replay` those of a schedule, and
-//! `djq gen N SEED` that of a generated load, and `djq mirror Q` tells the answers that a session was
-//! told. With `--log PATH` the second and the third begin with what the lines of that file give, and
-//! keep in it what changes that.
+//! A join query server, as a program: `djq run` serves one session from standard input to standard output, and
+//! `djq serve ADDR` the sessions that connect by TCP, `djq replay` those of a schedule, and `djq gen N SEED` that
+//! of a generated load, and `djq mirror Q` prints the answers that a session was sent. With `--log PATH` the
+//! second and the third begin with what the lines of that file restore, and log what changes that.
 //!
-//! `main` makes the real source, sink, hub and disk, of which all but the source note their calls for the
-//! proofs, and calls [`run_program`], which is the program over any of them.
+//! `main` makes the real source, sink, hub and disk, which note their calls for the proofs, and calls [`run_program`], which is the program over any of them.
 //!
-//! What surprises: a failed call of the system is said on standard error, with the system's reason, by
-//! the stream, the hub or the disk that it failed. Why the program ends otherwise `main` says there.
+//! What surprises: a failed call of the system is reported on standard error, with the system's reason, by the
+//! stream, the hub or the disk that it failed. `main` reports there why the program ends otherwise.
 //!
 //! ```text
 //! djq run < stdin > stdout          one session, status 0 at its end, at `quit` and at `stop`
@@ -33,8 +31,8 @@ fn main(rt: HostRuntime) -> ExitCode {
     ExitCode::from(status.number())
 }
 
-/// Says on standard error why the program ends so. What failed at the hub, at the disk or at a standard stream they
-/// have said themselves, with the system's reason.
+/// Reports on standard error why the program ends so. What failed at the hub, at the disk or at a standard stream
+/// they have reported themselves, with the system's reason.
 fn say_why(rt: &HostRuntime, status: Status) {
     let reason = match status {
         Status::Done
@@ -65,7 +63,7 @@ fn say_why(rt: &HostRuntime, status: Status) {
 }
 
 /// Runs the program on standard input and output, by the words of its command line. What is proved holds whatever the
-/// oracle says of the file: so it holds of what comes true.
+/// oracle says of the file and of the input: so it holds of what comes true.
 fn start<L: Ledgers, O: Oracle>(rt: &HostRuntime, blanks: Blanks) -> Result<Status, AllocError>
     requires listing { blanks.listing.name ≡ L.listing }
     requires update { blanks.update.name ≡ L.update }
@@ -77,7 +75,7 @@ fn start<L: Ledgers, O: Oracle>(rt: &HostRuntime, blanks: Blanks) -> Result<Stat
     Ok(run_program(
         alloc,
         &words,
-        &mut StdSource::new(Telling::new(StandardInput::new(rt.reader()), *rt)),
+        &mut StdSource::<_, O>::new(Telling::new(StandardInput::new(rt.reader()), *rt)),
         &mut StdSink::new(Telling::new(StandardOutput::new(io::writer(rt), *rt), *rt)),
         &mut TcpHub::new(*rt, alloc)?,
         &mut FileDisk::<HostRuntime, O>::new(*rt),
@@ -85,7 +83,7 @@ fn start<L: Ledgers, O: Oracle>(rt: &HostRuntime, blanks: Blanks) -> Result<Stat
     ))
 }
 
-/// The words of the command line; none where one isn't text, since no command has such a word.
+/// The words of the command line; none if one isn't text, since no command has such a word.
 fn texts_of(rt: &HostRuntime) -> Result<Vec<String>, AllocError> {
     match env::args(rt) {
         Ok(texts) => texts.collect(rt.alloc()),

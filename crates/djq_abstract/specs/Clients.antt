@@ -1,4 +1,4 @@
--- The state of the core, what clients say, and what they are sent.
+-- The state of the core, what clients send, and what they are sent.
 use Rattle.std.specs.Prelude.{ℕ, List, [], ◌∷◌, ◌≡◌, ◌==◌, ◌⊎◌, Bool, true, false, if◌then◌else◌}
 use Rattle.std.specs.Prelude.{Option, None, Some, IsSomeAnd, All}
 use Rattle.djq_hypergraph.specs.JoinTree.{IsFreeConnex}
@@ -74,8 +74,8 @@ abbrev pub HaveOwnNames : List Listed → Type 0
 HaveOwnNames [] = Unit {0}
 HaveOwnNames (q ∷ qs) = (listed_of qs (listed_name q) ≡ None) × HaveOwnNames qs
 
--- What a client says: the protocol's commands. `subscribe` is its `watch`; `ask` is any line that neither edits rows
--- nor concerns the other commands: `rel`, `shape`, `explain`, or a line outside the grammar.
+-- What a client sends: the protocol's commands. `subscribe` is its `watch`; `ask` is any line that neither edits
+-- rows nor concerns the other commands: `rel`, `shape`, `explain`, or a line outside the grammar.
 pub data CoreCommand : Type 0 where
   edit : RowEdit → CoreCommand
   batch : CoreCommand
@@ -102,7 +102,7 @@ pub data CoreMessage : Type 0 where
   page : List Tuple → (last : Bool) → CoreMessage
   delta : (query : Bytes) → AnswerDelta → (seq : ℕ) → CoreMessage
 
--- What happens: a client connects, disconnects, or says a command.
+-- What happens: a client connects, disconnects, or sends a command.
 pub data CoreEvent : Type 0 where
   connects : (s : ℕ) → CoreEvent
   disconnects : (s : ℕ) → CoreEvent

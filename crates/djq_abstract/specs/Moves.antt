@@ -50,8 +50,8 @@ use Rattle.djq_abstract.specs.Clients.{
   only_sent,
 }
 
--- A page: further answers, each once, as many as asked for or all that are left. It is the last exactly if none is
--- left.
+-- A page: further answers, each once, as many as asked for or all that are left. It is the last if and only if none
+-- is left.
 pub record IsPage (Answer : Tuple → Type 0) (returned ts : List Tuple) (count : ℕ) (last : Bool) : Type 0 where
   pub answers : All Answer ts
   pub different : AreDifferent (returned ++ ts)
@@ -72,8 +72,8 @@ pub record StaysConnected (old : Core) (affected : Bytes → Bool) (new : Core) 
   pub is_sent : sent ≡ map (λ n. delta n (delta_of n) new.seq)
       (filter (λ n. affected n && (old.client s).subscribed n) (map listed_name old.queries)) ++ reply
 
--- A change of the database, which a client asked for. It is counted if a row came or went. Each client stays
--- connected, or is disconnected since it reads too slowly or memory is out.
+-- A change of the database, which a client asked for. It is counted if a row was inserted or deleted. Each client
+-- stays connected, or is disconnected since it reads too slowly or memory is out.
 pub record ChangesDatabase (old : Core) (s : ℕ) (db : Database) (sent : Sent) (new : Core) : Type 0 where
   pub db_is : new.db ≡ db
   pub queries_stay : new.queries ≡ old.queries

@@ -16,7 +16,7 @@ Database = Bytes → Tuple → ℕ
 abbrev pub is_present : Database → Bytes → Tuple → Bool
 is_present db relation row = nat_lt 0 (db relation row)
 
--- An assignment matches an atom if the atom's terms stand for a row that is present in its relation.
+-- An assignment matches an atom if the values of the atom's terms are a row that is present in its relation.
 pub record Matches (db : Database) (a : Assignment) (atom : Atom) : Type 0 where
   pub row : Tuple
   pub present : is_present db atom.relation row ≡ true
@@ -64,7 +64,7 @@ abbrev pub all_edited : List RowEdit → Database → Option Database
 all_edited [] db = Some db
 all_edited (e ∷ es) db = option_and_then (all_edited es) (edited e db)
 
--- A row comes or goes between two databases.
+-- A row is inserted or deleted between two databases.
 abbrev pub IsRowChanged : (before after : Database) (relation : Bytes) (row : Tuple) → Type 0
 IsRowChanged before after relation row = is_present before relation row ≢ is_present after relation row
 

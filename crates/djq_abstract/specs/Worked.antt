@@ -27,7 +27,7 @@ use Rattle.djq_abstract.specs.Clients.{
 }
 use Rattle.djq_abstract.specs.Moves.{CoreStep}
 
--- A line of a dialogue: what the client says, and what it is sent in that step.
+-- A line of a dialogue: what the client sends, and what it is sent in that step.
 pub record Exchange : Type 0 where
   pub command : CoreCommand
   pub replies : List CoreMessage

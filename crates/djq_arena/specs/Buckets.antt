@@ -1,9 +1,9 @@
--- Chains of single links over slots: for each slot the one behind it.
+-- Chains of single links over slots: for each slot the one after it.
 use Rattle.std.specs.Prelude.{◌≡◌, ◌≢◌, ℕ, ◌<◌, List, [], ◌∷◌, ◌++◌, length, slice_index_or}
 use Rattle.std.specs.Prelude.{slice_set, Option, Some, None}
 use Rattle.djq_arena.specs.Chains.{last_of, IsOut, AreDistinctSlots, AreBelow}
 
--- where the link of a slot, or the head of a bucket, points to
+-- what the link of a slot, or the head of a bucket, points to
 abbrev pub link_at : List (Option ℕ) → ℕ → Option ℕ
 link_at links i = slice_index_or links i None
 
@@ -12,8 +12,8 @@ unfoldable pub Chained : List (Option ℕ) → Option ℕ → List ℕ → Type 
 Chained links at [] = at ≡ None
 Chained links at (x ∷ xs) = (at ≡ Some x) × Chained links (link_at links x) xs
 
--- the chain from a head on has exactly those slots of the list that fall into bucket k, each once, in some
--- order
+-- the chain from a head on has those slots of the list that fall into bucket k, and no others, each once,
+-- in some order
 pub record IsBucket (falls : ℕ → ℕ) (k : ℕ) (links : List (Option ℕ)) (head : Option ℕ) (xs : List ℕ) : Type 0 where
   pub slots : List ℕ
   pub chained : Chained links head slots
@@ -22,11 +22,11 @@ pub record IsBucket (falls : ℕ → ℕ) (k : ℕ) (links : List (Option ℕ)) 
   pub only : (i : ℕ) → IsOut i xs → IsOut i slots
   pub its : (i : ℕ) → falls i ≢ k → IsOut i slots
 
--- each bucket's chain has exactly its slots of the list
+-- each bucket's chain has its slots of the list, and no others
 pub record AreBuckets (falls : ℕ → ℕ) (links heads : List (Option ℕ)) (xs : List ℕ) : Type 0 where
   pub each : (k : ℕ) → k < length heads → IsBucket falls k links (link_at heads k) xs
 
--- slot i stands in the chain from a head on
+-- slot i is in the chain from a head on
 pub record StandsInChain (links : List (Option ℕ)) (head : Option ℕ) (i : ℕ) : Type 0 where
   pub front : List ℕ
   pub back : List ℕ
@@ -35,22 +35,22 @@ pub record StandsInChain (links : List (Option ℕ)) (head : Option ℕ) (i : �
   pub below : AreBelow (length links) (front ++ i ∷ back)
   pub short : length front < length links
 
--- slot i stands there, behind this one, or first
+-- slot i is there, after this one, or first
 pub record IsBehind (links : List (Option ℕ)) (head : Option ℕ) (i : ℕ) (before : Option ℕ) : Type 0 where
   pub place : StandsInChain links head i
   pub is : before ≡ last_of place.front
 
--- the links once a slot that stood behind `before` is passed over
+-- the links without a slot that was after `before`
 abbrev pub relinked : Option ℕ → Option ℕ → List (Option ℕ) → List (Option ℕ)
 relinked None to links = links
 relinked (Some i) to links = slice_set links i to
 
--- the heads then: that of bucket k is another where no slot stood before the one that is passed over
+-- the heads then: that of bucket k is another if no slot was before the removed one
 abbrev pub reheaded : Option ℕ → ℕ → Option ℕ → List (Option ℕ) → List (Option ℕ)
 reheaded None k to heads = slice_set heads k to
 reheaded (Some i) k to heads = heads
 
--- slot i went out of bucket k
+-- slot i was removed from bucket k
 pub record IsUnlisted (links more heads others : List (Option ℕ)) (k i : ℕ) : Type 0 where
   pub before : Option ℕ
   pub behind : IsBehind links (link_at heads k) i before

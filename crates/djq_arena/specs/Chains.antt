@@ -17,11 +17,11 @@ abbrev pub last_from : Option ℕ → List ℕ → Option ℕ
 last_from o [] = o
 last_from o (x ∷ xs) = last_from (Some x) xs
 
--- the first of a list; none where it is empty
+-- the first of a list; none if it is empty
 abbrev pub first_of : List ℕ → Option ℕ
 first_of xs = first_or xs None
 
--- the last of a list; none where it is empty
+-- the last of a list; none if it is empty
 abbrev pub last_of : List ℕ → Option ℕ
 last_of xs = last_from None xs
 
@@ -41,7 +41,7 @@ unfoldable pub IsOut : ℕ → List ℕ → Type 0
 IsOut i [] = ⊤
 IsOut i (x ∷ xs) = (x ≢ i) × IsOut i xs
 
--- none stands twice in the list
+-- none occurs twice in the list
 unfoldable pub AreDistinctSlots : List ℕ → Type 0
 AreDistinctSlots [] = ⊤
 AreDistinctSlots (x ∷ xs) = IsOut x xs × AreDistinctSlots xs
@@ -61,11 +61,11 @@ abbrev pub set_next : Option ℕ → Option ℕ → List Pair → List Pair
 set_next None to links = links
 set_next (Some i) to links = slice_set links i (record { prev = (pair_at links i).prev; next = to })
 
--- slot i comes in behind the last one
+-- slot i is appended after the last one
 unfoldable pub entered : Option ℕ → ℕ → List Pair → List Pair
 entered last i links = slice_set (set_next last (Some i) links) i (record { prev = last; next = None })
 
--- slot i, with these neighbours, goes
+-- slot i, with these neighbours, is removed
 unfoldable pub chain_without : Pair → List Pair → List Pair
 chain_without p links = set_prev p.next p.prev (set_next p.prev p.next links)
 
@@ -94,7 +94,7 @@ unfoldable pub Agree : List Pair → List Pair → List ℕ → Type 0
 Agree ls ms [] = ⊤
 Agree ls ms (x ∷ xs) = (pair_at ms x ≡ pair_at ls x) × Agree ls ms xs
 
--- the slots from one on, n at most, as the chain goes
+-- the slots from one on, n at most, in the order of the chain
 unfoldable pub trail : ℕ → List Pair → Option ℕ → List ℕ
 trail zero links o = []
 trail (suc n) links None = []

@@ -4,11 +4,11 @@ use Rattle.std.proofs.Common.{ap, sym, eqb-true}
 use Rattle.djq_arena.specs.declared.link.Link.TheInside.{Inside}
 use Rattle.djq_arena.specs.declared.link.TheConstants.{SLOTS}
 
--- what a number stands for: the highest one for none
+-- the link of a number: none for the highest one
 abbrev pub link_number : ℕ → Option ℕ
 link_number n = cond (n == SLOTS) None (Some n)
 
--- the number that stands for it
+-- its number
 abbrev pub number : Option ℕ → ℕ
 number None = SLOTS
 number (Some n) = n
@@ -17,6 +17,6 @@ back : (n : ℕ) (b : Bool) → (n == SLOTS) ≡ b → number (cond b None (Some
 back n true h = sym (eqb-true n SLOTS h)
 back n false h = refl
 
--- the number of the slot, or none, that a link stands for is the link's own
+-- the number of a link's slot, or of none, is the link's own
 pub shown_back : (l : Inside) → record { slot = number (link_number l.slot) } ≡ l
 shown_back l = ap (λ (n : ℕ). record { slot = n }) (back l.slot (l.slot == SLOTS) refl)

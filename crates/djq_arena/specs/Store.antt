@@ -1,4 +1,4 @@
--- Slots with the cells of a row each, chained in two ways: the rows in the order in which they came, and
+-- Slots with the cells of a row each, chained in two ways: the rows in order of insertion, and
 -- those of one bucket in any order.
 use Rattle.std.specs.Prelude.{◌≡◌, ℕ, ◌+◌, ◌-◌, ◌*◌, ◌/◌, ◌%◌, ◌^◌, ◌<◌, ◌≤◌, List, [], ◌∷◌, ◌++◌}
 use Rattle.std.specs.Prelude.{map, take, drop, length, fold, bit_and, bit_xor, max, Option, Some}
@@ -15,12 +15,12 @@ use Rattle.djq_arena.specs.declared.link.TheConstants.{SLOTS}
 abbrev pub ends_of : List ℕ → Ends
 ends_of xs = record { first = first_of xs; last = last_of xs }
 
--- the one end where there is no neighbour on its side, else as it was
+-- the one end if there is no neighbour on its side, else as it was
 abbrev pub beside : Option ℕ → Option ℕ → Option ℕ → Option ℕ
 beside None other end = other
 beside (Some x) other end = end
 
--- the ends with another slot behind the last one
+-- the ends with another slot after the last one
 abbrev pub extended : ℕ → Ends → Ends
 extended i e = record { first = beside e.first (Some i) e.first; last = Some i }
 
@@ -124,14 +124,14 @@ pub record IsAlike (old new : Store) : Type 0 where
   pub cells : new.cells.items ≡ old.cells.items
   pub slots : length new.order.items ≡ length old.order.items
 
--- slot i came in behind all
+-- slot i was appended to the rows
 pub record IsAppended (old new : Store) (i : ℕ) : Type 0 where
   pub alike : IsAlike old new
   pub live : live_of new ≡ live_of old ++ i ∷ []
   pub len : new.len ≡ old.len + 1
   pub spare : new.spare ≡ old.spare
 
--- slot i went, and is loose
+-- slot i was removed, and is loose
 pub record IsUnlinked (old new : Store) (i : ℕ) : Type 0 where
   pub alike : IsAlike old new
   pub live : (xs ys : List ℕ) → live_of old ≡ xs ++ i ∷ ys → live_of new ≡ xs ++ ys
@@ -165,7 +165,7 @@ pub record IsPrepared (old new : Store) (i : ℕ) (u : List ℕ) : Type 0 where
   pub fits : i ≤ length old.order.items
   pub alone : IsTidy old → length new.order.items ≡ new.len + new.spare + 1
 
--- a row came, behind all others
+-- a row was appended
 pub record IsPut (old new : Store) (i : ℕ) (u : List ℕ) : Type 0 where
   pub sound : ChainsAreSound new
   pub width : new.width ≡ old.width
@@ -174,7 +174,7 @@ pub record IsPut (old new : Store) (i : ℕ) (u : List ℕ) : Type 0 where
   pub fits : i ≤ length old.order.items
   pub tidy : IsTidy old → IsTidy new
 
--- the row in slot i is behind all others now
+-- the row in slot i is the last now
 pub record IsRenewed (old new : Store) (i : ℕ) : Type 0 where
   pub alike : IsAlike old new
   pub live : (xs ys : List ℕ) → live_of old ≡ xs ++ i ∷ ys → live_of new ≡ (xs ++ ys) ++ i ∷ []

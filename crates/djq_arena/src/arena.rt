@@ -14,7 +14,7 @@ use crate::store::{
 use std::alloc::{AllocError, Global};
 use std::marker::Model;
 
-/// Rows of one width, in the order in which they came. Each lies in a slot, whose number stays the
+/// Rows of one width, in order of insertion. Each lies in a slot, whose number stays the
 /// same until the row is removed, and is then used again.
 #[derive(Drop)]
 pub struct Arena {
@@ -100,7 +100,7 @@ impl Arena {
         self.len() == self.room()
     }
 
-    /// The slot of a row with these cells; none exactly where there is no such row.
+    /// The slot of a row with these cells; none if there is no such row.
     pub fn find(&self, cells: &[u64]) -> Option<u32>
         ensures { MatchOption result (IsAbsent self.now.rows cells.now) (λ slot. IsRow self.now.rows slot cells.now) }
     {
@@ -124,8 +124,8 @@ impl Arena {
         }
     }
 
-    /// Puts in a row behind all others, into a free slot if there is one. It fails only out of memory and
-    /// where no slot is free, and then all stays as it was.
+    /// Appends a row, in a free slot if there is one. It fails only out of memory or without a free slot,
+    /// and changes nothing then.
     pub fn push(&mut self, cells: &[u64]) -> Result<u32, AllocError>
         requires wide { length cells.now ≡ self.old.width }
         requires few { length self.old.rows < SLOTS }
@@ -165,7 +165,7 @@ impl Arena {
         }
     }
 
-    /// Takes the row in a slot out.
+    /// Removes the row in a slot.
     pub fn remove(&mut self, slot: u32)
         requires { IsRowHeld self.old.rows slot }
         ensures removed { (xs : List Row) (r : Row) (ys : List Row) → self.old.rows ≡ xs ++ r ∷ ys
@@ -177,7 +177,7 @@ impl Arena {
         release(&mut self.store, slot);
     }
 
-    /// Puts the row in a slot behind all others. It keeps its slot.
+    /// Moves the row in a slot to the end of the order. Its slot stays the same.
     pub fn renew(&mut self, slot: u32)
         requires { IsRowHeld self.old.rows slot }
         ensures renewed { (xs : List Row) (r : Row) (ys : List Row) → self.old.rows ≡ xs ++ r ∷ ys
@@ -211,7 +211,7 @@ impl Arena {
         self.store.live.last.get()
     }
 
-    /// The slot of the row that came next after the one in a slot.
+    /// The slot of the row inserted next after the one in a slot.
     pub fn next(&self, slot: u32) -> Option<u32>
         requires { IsRowHeld self.now.rows slot }
         ensures { (xs : List Row) (r : Row) (ys : List Row) → self.now.rows ≡ xs ++ r ∷ ys
@@ -220,7 +220,7 @@ impl Arena {
         pair_of(&self.store.order, slot).next.get()
     }
 
-    /// The slot of the row that came before the one in a slot.
+    /// The slot of the row inserted last before the one in a slot.
     pub fn prev(&self, slot: u32) -> Option<u32>
         requires { IsRowHeld self.now.rows slot }
         ensures { (xs : List Row) (r : Row) (ys : List Row) → self.now.rows ≡ xs ++ r ∷ ys

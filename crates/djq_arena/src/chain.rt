@@ -35,7 +35,7 @@ pub fn follow(links: &mut Vec<Pair>, slot: u32, next: Link)
     links[slot as usize].next = next;
 }
 
-/// Chains a slot behind the last one of its chain.
+/// Appends a slot to its chain, after the last one.
 #[tactic(auto, unfolding(crate::specs::Chains::entered))]
 pub fn enter(links: &mut Vec<Pair>, last: Link, slot: u32)
     requires last { IsSlotBelow (length links.old.items) last }
@@ -52,8 +52,8 @@ pub fn enter(links: &mut Vec<Pair>, last: Link, slot: u32)
     };
 }
 
-/// Takes a slot with these neighbours out of its chain, which has these ends. Each neighbour is asked for once: where
-/// there is none, an end changes in its place.
+/// Removes a slot with these neighbours from its chain, which has these ends. Each neighbour is read once: if there
+/// is none, an end changes instead.
 #[tactic(auto, unfolding(crate::specs::Chains::chain_without))]
 pub fn leave(links: &mut Vec<Pair>, ends: &mut Ends, pair: &Pair)
     requires prev { IsSlotBelow (length links.old.items) pair.now.prev }

@@ -2,7 +2,7 @@ ghost use Rattle.std.specs.Prelude.{◌≡◌, ◌<◌, None, Some};
 
 use std::marker::Model;
 
-/// The most slots: the highest number of four bytes is no slot's, and stands for none.
+/// The most slots: the highest number of four bytes is no slot's, and means none.
 pub const SLOTS: usize = 4_294_967_295;
 
 /// A slot's number or none, in four bytes.
@@ -26,7 +26,7 @@ impl Model for Link {
 }
 
 impl Link {
-    /// The highest number isn't a slot's: it stands for none.
+    /// The highest number isn't a slot's: it means none.
     const NONE: u32 = u32::MAX;
 
     /// No slot.

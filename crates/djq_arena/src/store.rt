@@ -114,7 +114,7 @@ fn are_same(cells: &[u64], others: &[u64]) -> bool
     }
 }
 
-/// Where the link of a slot, or the head of a bucket, points to.
+/// What the link of a slot, or the head of a bucket, points to.
 fn link_of(links: &Vec<Link>, at: usize) -> Link
     requires { at < length links.now.items }
     ensures { result ≡ link_at links.now.items at }
@@ -141,7 +141,7 @@ pub fn find_from(store: &Store, head: Link, cells: &[u64]) -> Option<u32>
     None
 }
 
-/// The same for cells of any number. It stands apart, so that a search for one or two cells saves no registers.
+/// The same for cells of any number. It is a function of its own, so that a search for one or two cells saves no registers.
 #[inline(never)]
 pub fn find_any(store: &Store, head: Link, cells: &[u64]) -> Option<u32>
     requires sound { ChainsAreSound store.now }
@@ -164,8 +164,8 @@ fn push_bucket(bucket: &mut Vec<Link>, heads: &mut Vec<Link>, class: usize, slot
     heads[class] = Link::to(slot);
 }
 
-/// The slot that stands before this one in its bucket, if any. A bucket is short, and whoever takes a row
-/// out has mostly just looked it up.
+/// The slot before this one in its bucket, if any. A bucket is short, and whoever removes a row has mostly just
+/// looked it up.
 fn before(bucket: &Vec<Link>, head: Link, slot: u32) -> Link
     requires { StandsInChain bucket.now.items head slot }
     ensures { IsBehind bucket.now.items head slot result }
@@ -187,7 +187,7 @@ fn before(bucket: &Vec<Link>, head: Link, slot: u32) -> Link
     before
 }
 
-/// Takes a slot out of its bucket.
+/// Removes a slot from its bucket.
 fn unlist(bucket: &mut Vec<Link>, heads: &mut Vec<Link>, class: usize, slot: u32)
     requires class { class < length heads.old.items }
     requires stands { StandsInChain bucket.old.items (link_at heads.old.items class) slot }
@@ -200,7 +200,7 @@ fn unlist(bucket: &mut Vec<Link>, heads: &mut Vec<Link>, class: usize, slot: u32
     }
 }
 
-/// Puts a loose slot behind all rows: the cells that lie in it, of this hash, are a row now.
+/// Appends a loose slot to the rows: the cells that lie in it, of this hash, are a row now.
 pub fn link(store: &mut Store, slot: u32, code: u64)
     requires sound { ChainsAreSound store.old }
     requires loose { IsLoose store.old slot }
@@ -214,7 +214,7 @@ pub fn link(store: &mut Store, slot: u32, code: u64)
     store.len += 1;
 }
 
-/// Takes the row in a slot out of its chains: the slot is loose then, and keeps its cells.
+/// Removes the row in a slot from its chains: the slot is loose then, and its cells stay.
 pub fn unlink(store: &mut Store, slot: u32)
     requires sound { ChainsAreSound store.old }
     requires held { HoldsSlot (live_of store.old) slot }
@@ -275,7 +275,7 @@ fn overwrite_all(cells: &mut Vec<u64>, from: usize, new: &[u64])
     }
 }
 
-/// Puts cells behind others, where there is room for them.
+/// Appends cells to others, if there is room for them.
 fn append_all(cells: &mut Vec<u64>, more: &[u64])
     requires { vec_len cells.old + length more.now ≤ vec_capacity cells.old }
     ensures { cells.new.items ≡ cells.old.items ++ more.now }
@@ -285,7 +285,7 @@ fn append_all(cells: &mut Vec<u64>, more: &[u64])
     }
 }
 
-/// Puts cells behind others, where there is room for them. Most rows have one cell or two, and need no loop.
+/// Appends cells to others, if there is room for them. Most rows have one cell or two, and need no loop.
 fn append(cells: &mut Vec<u64>, more: &[u64])
     requires { vec_len cells.old + length more.now ≤ vec_capacity cells.old }
     ensures { cells.new.items ≡ cells.old.items ++ more.now }
@@ -328,7 +328,7 @@ fn cells_among(rows: &[u64], width: usize, slot: usize) -> &[u64]
     &rows[from..from + width]
 }
 
-/// Where the head of a bucket points to, of these.
+/// What the head of a bucket points to, of these.
 fn link_among(links: &[Link], at: usize) -> Link
     requires { at < length links.now }
     ensures { result ≡ link_at links.now at }
@@ -336,8 +336,8 @@ fn link_among(links: &[Link], at: usize) -> Link
     links[at]
 }
 
-/// Puts slots, each of which holds a row of this width, into buckets, which are empty yet. It goes by the slots'
-/// numbers, as they lie in memory, and over slices, so that no step reads where the arrays are.
+/// Puts slots, each of which holds a row of this width, into buckets, which are still empty. They are read by their
+/// numbers, in the order of memory, and as slices, so that no step reads the arrays' addresses.
 fn list_all(bucket: &mut [Link], heads: &mut [Link], cells: &[u64], width: usize)
     requires some { 0 < length heads.old }
     requires empty { heads.old ≡ replicate (length heads.old) None }
@@ -380,7 +380,7 @@ pub fn buckets(alloc: Global, count: usize) -> Result<Vec<Link>, AllocError>
     Ok(heads)
 }
 
-/// Twice as many buckets, where there are no more of them than rows. Where there is no memory, all stays as it was.
+/// Doubles the buckets, if there are no more of them than rows. Out of memory, nothing changes.
 fn grow_full(store: &mut Store, alloc: Global) -> Result<(), AllocError>
     requires sound { ChainsAreSound store.old }
     requires full { length store.old.order.items ≡ store.old.len }
@@ -393,7 +393,7 @@ fn grow_full(store: &mut Store, alloc: Global) -> Result<(), AllocError>
     Ok(())
 }
 
-/// Room for one more slot with so many cells. Where there is no memory, all stays as it was.
+/// Room for one more slot with so many cells. Out of memory, nothing changes.
 fn reserve(store: &mut Store, cells: usize) -> Result<(), AllocError>
     requires sound { ChainsAreSound store.old }
     ensures same { IsSame store.old store.new }
@@ -414,7 +414,7 @@ fn is_roomy(store: &Store, cells: usize) -> bool
         && cells <= store.cells.capacity() - store.cells.len()
 }
 
-/// Puts in a row behind all others, into a new slot for which there is room.
+/// Appends a row, in a new slot for which there is room.
 #[inline(always)]
 fn put_ready(store: &mut Store, cells: &[u64], code: u64) -> u32
     requires sound { ChainsAreSound store.old }
@@ -429,8 +429,8 @@ fn put_ready(store: &mut Store, cells: &[u64], code: u64) -> u32
     slot
 }
 
-/// Puts in a row behind all others, into a new slot, where there may be no room for it yet. Where there is no memory,
-/// all stays as it was. It stands apart, so that a row for which there is room saves no registers.
+/// Appends a row, in a new slot, for which there may be no room yet. Out of memory, nothing changes. It is a function
+/// of its own, so that a row for which there is room saves no registers.
 #[inline(never)]
 fn put_growing(
     store: &mut Store,
@@ -451,8 +451,8 @@ fn put_growing(
     Ok(put_ready(store, cells, code))
 }
 
-/// Puts in a row behind all others, into a new slot, where no slot is free. Where there is no memory, all stays as it
-/// was. It stands apart, so that a row which comes into a free slot saves no registers.
+/// Appends a row, in a new slot, if no slot is free. Out of memory, nothing changes. It is a function of its own, so
+/// that a row in a free slot saves no registers.
 #[inline(never)]
 pub fn put_fresh(
     store: &mut Store,
@@ -475,7 +475,7 @@ pub fn put_fresh(
     }
 }
 
-/// Puts a row behind all others; its slot stays, and so does its bucket, whose order is any.
+/// Moves a row to the end of the order. Its slot stays, and so does its bucket, which has no order.
 pub fn renew(store: &mut Store, slot: u32)
     requires sound { ChainsAreSound store.old }
     requires held { HoldsSlot (live_of store.old) slot }

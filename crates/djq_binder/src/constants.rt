@@ -59,7 +59,7 @@ fn intern_terms(catalog: &mut Catalog, terms: &[Term]) -> Result<(), InternRefus
     Ok(())
 }
 
-/// Makes the text of a comparison's constant known, if the comparison stands here.
+/// Makes the text of a comparison's constant known, if the comparison is here.
 fn intern_if(
     catalog: &mut Catalog,
     comparison: &Comparison,
@@ -76,8 +76,8 @@ fn intern_if(
     Ok(())
 }
 
-/// Makes the constants of the comparisons known that stand behind so many atoms, and before the
-/// next one.
+/// Makes the constants of the comparisons known that follow so many atoms, and before the next
+/// one.
 fn intern_behind(
     catalog: &mut Catalog,
     comparisons: &[Comparison],
@@ -98,7 +98,7 @@ fn intern_behind(
     Ok(())
 }
 
-/// Makes the constants of the comparisons known that stand behind all atoms.
+/// Makes the constants of the comparisons known that follow all atoms.
 fn intern_last(
     catalog: &mut Catalog,
     comparisons: &[Comparison],
@@ -119,7 +119,7 @@ fn intern_last(
     Ok(())
 }
 
-/// Makes the constants of an atom known, behind those of the comparisons before it.
+/// Makes the constants of an atom known, after those of the comparisons before it.
 fn intern_up_to(
     catalog: &mut Catalog,
     comparisons: &[Comparison],
@@ -136,13 +136,13 @@ fn intern_up_to(
     }
 }
 
-/// Makes the constants of a query known, one after another in the order in which they stand in its
-/// body: those of the atoms, and those of the comparisons among them.
+/// Makes the constants of a query known, one after another in the order of its body: those of the
+/// atoms, and those of the comparisons among them.
 ///
 /// # Errors
 ///
-/// `Full` exactly where a text is unknown and as many are known as may be; `NoMem` out of memory.
-/// The texts before it are known then.
+/// `Full` if a text is unknown and as many are known as may be; `NoMem` out of memory. The texts
+/// before it are known then.
 pub fn intern_constants(catalog: &mut Catalog, query: &Query) -> Result<(), InternRefusal>
     ensures interns { InternsConstants catalog.old.texts (constants_of query.now) result
         catalog.new.texts }

@@ -32,7 +32,7 @@ impl<'a> Relations for Shown<'a> {
 }
 
 /// Why a query can't be asked over a catalog's relations: the first fault that it has, and none
-/// where it has none. It takes no memory.
+/// if it has none. It needs no memory.
 pub fn query_fault_of(catalog: &Catalog, query: &Query) -> Option<Refusal>
     ensures { result ≡ query_fault catalog.now.relations query.now }
 {

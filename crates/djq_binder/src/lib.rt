@@ -13,11 +13,11 @@
 //! the plan                     leaf 0 over 0,1; leaf 1 over 1; the head is 0
 //! ```
 //!
-//! It keeps nothing: what it makes is djq_live_query's to keep. What surprises: constants that became known
-//! before one was refused stay so, and none of them changes an answer.
+//! It stores nothing: what it makes is djq_live_query's to store. What surprises: constants that became
+//! known before one was refused stay so, and none of them changes an answer.
 //!
-//! Inside, the faults and the numbers are djq_query's, and the tree is djq_plan's, with the names of
-//! the query's variables put back where it is told. A rest is told with its edges in lexical order.
+//! Inside, the faults and the numbers are djq_query's, and the tree is djq_plan's, with the names of the
+//! query's variables put back when it is printed. A rest is printed with its edges in lexical order.
 #![tactic(auto)]
 
 pub use constants::intern_constants;

@@ -8,7 +8,7 @@ use djq_model::{Name, NoMem, Query};
 use djq_query::Variable;
 use std::alloc::Global;
 
-/// The name of a variable, where it has one.
+/// The name of a variable, if it has one.
 fn label_name(variable: &Option<Name>) -> &[u8]
     ensures { result.now ≡ label_name variable.now }
 {

@@ -82,8 +82,8 @@ fn name_refusal(alloc: Global, variables: &[Variable], refusal: PlanRefusal) -> 
 ///
 /// # Errors
 ///
-/// [`Unplanned::Cyclic`] exactly where its hypergraph has no join tree, [`Unplanned::NotConnex`]
-/// exactly where it has one but none with the head as its root; [`Unplanned::NoMem`] out of memory.
+/// [`Unplanned::Cyclic`] if its hypergraph has no join tree, [`Unplanned::NotConnex`] if it has one
+/// but none with the head as its root; [`Unplanned::NoMem`] out of memory.
 pub fn plan_query(
     alloc: Global,
     catalog: &Catalog,

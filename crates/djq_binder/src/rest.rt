@@ -1,4 +1,4 @@
-//! The rest of a query that isn't free-connex, as it is told.
+//! The rest of a query that isn't free-connex, as it is printed.
 ghost use Rattle.std.specs.Prelude.{◌≡◌, IfOk, OnOk};
 ghost use Rattle.djq_protocol.specs.Rest.{is_before, IsNamedRest};
 ghost use Rattle.djq_protocol.specs.Variables.{variables_of};
@@ -13,7 +13,7 @@ use djq_protocol::NamedRest;
 use djq_query::Variable;
 use std::alloc::Global;
 
-/// Whether an edge comes before another one in lexical order.
+/// Whether an edge precedes another one in lexical order.
 fn is_before(edge: VarSet, other: VarSet) -> bool
     ensures { result ≡ is_before edge other }
 {
@@ -32,7 +32,7 @@ fn is_before(edge: VarSet, other: VarSet) -> bool
     !other.is_empty()
 }
 
-/// The place of the first edge that doesn't come before this one, past the end where none is so.
+/// The place of the first edge that doesn't precede this one, past the end if there is none.
 fn place_for(edges: &[VarSet], edge: VarSet) -> usize
     ensures { IsPlaceFor edges.now edge result }
 {
@@ -44,7 +44,7 @@ fn place_for(edges: &[VarSet], edge: VarSet) -> usize
     edges.len()
 }
 
-/// Puts an edge among edges in lexical order, where it isn't one of them.
+/// Puts an edge among edges in lexical order, if it isn't one of them.
 fn put_edge(edges: &mut Vec<VarSet>, edge: VarSet) -> Result<(), NoMem>
     ensures { OnOk result (edges.new.items ≡ with_edge edge edges.old.items) }
 {

@@ -19,7 +19,7 @@ abbrev pub TextReadsAs : Text → Option ℕ → Type 0
 TextReadsAs text (Some n) = SpellsNumber 64 text n
 TextReadsAs text None = (n : ℕ) → SpellsNumber 64 text n → ⊥
 
--- The number of turns: what the text spells, or the most where there is none.
+-- The number of turns: what the text spells, or the most if there is none.
 abbrev pub TurnsAre : Option Text → ℕ → Type 0
 TurnsAre None n = n ≡ MOST_TURNS
 TurnsAre (Some text) n = SpellsNumber 64 text n
@@ -34,7 +34,7 @@ abbrev pub NumberIsRead : Option Text → Option ℕ → Type 0
 NumberIsRead text (Some n) = IsGiven text n
 NumberIsRead text None = (n : ℕ) → IsGiven text n → ⊥
 
--- the path of a log, where there is one
+-- the path of a log, if there is one
 abbrev pub log_path_of : Option (Bor Text) → Option Text
 log_path_of log = option_map (λ path. path.now) log
 
@@ -49,7 +49,7 @@ SubcommandAsks c (Gen n seed) = (c.0 ≡ codes "gen") × IsGiven (first_of (code
 SubcommandAsks c (Mirror query) = (c.0 ≡ codes "mirror") × (first_of (codes "Q") c.1 ≡ Some query.now)
     × (is_name query.now ≡ true)
 
--- What is asked for, where something is.
+-- What is asked for, if something is.
 abbrev pub AskedBy : Option (Text × List Row) → Option Asked → Type 0
 AskedBy None asked = asked ≡ None
 AskedBy (Some c) (Some a) = SubcommandAsks c a
@@ -67,7 +67,7 @@ GenAsked rows asked = AskedBy (Some (codes "gen", rows)) asked
 abbrev pub MirrorAsked : List Row → Option Asked → Type 0
 MirrorAsked rows asked = AskedBy (Some (codes "mirror", rows)) asked
 
--- `clap` takes the words for the command set, and the command that they name asks for this.
+-- `clap` accepts the words for the command set, and the command that they name asks for this.
 abbrev pub Asks : List Text → Asked → Type 0
 Asks words a = (fault_of djq_app words ≡ [])
     × IsSomeAnd (subcommand_of djq_app words) (λ c. SubcommandAsks c a)

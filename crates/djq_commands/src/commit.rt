@@ -15,10 +15,10 @@ use djq_transaction::Transaction;
 use std::alloc::Global;
 use std::marker::Model;
 
-/// A commit is full where its lines have so many bytes.
+/// A commit is full if its lines have so many bytes.
 const COMMIT_BYTES: usize = 1_048_576;
 
-/// And where more bytes than these were queued for one session since it began.
+/// And if more bytes than these were queued for one session since it began.
 const QUEUED_BYTES: u64 = 65_536;
 
 /// The bytes of `batch` and of `done`.
@@ -38,9 +38,9 @@ const ENTRIES: usize = 1_025;
 pub enum Entry {
     /// A line: the bytes of the buffer from `start` to `end`.
     Line {
-        /// Where it begins.
+        /// Its first byte.
         start: usize,
-        /// Where it ends.
+        /// Its end.
         end: usize,
     },
     /// A batch, by what it held: its lines aren't copied.
@@ -117,7 +117,7 @@ impl Commit {
         self.bytes.extend_reserved(line);
     }
 
-    /// Appends the line that was copied last, where it is to be logged. It asks for no memory.
+    /// Appends the line that was copied last, if it is to be logged. It asks for no memory.
     pub fn log_line(&mut self, logged: bool)
         requires room { HasRoom self.old }
         ensures { self.new.lines ≡ self.old.lines ++ line_where logged self.old.line }
@@ -153,7 +153,7 @@ impl Commit {
         }
     }
 
-    /// Appends a batch that was done, by what it held: `batch`, its lines, and `done`. It takes no memory.
+    /// Appends a batch that was done, by what it held: `batch`, its lines, and `done`. It needs no memory.
     fn log_batch(&mut self, held: Transaction)
         requires room { HasRoom self.old }
         ensures { self.new.lines ≡ self.old.lines ++ log_lines held }
@@ -215,7 +215,7 @@ impl Commit {
     }
 }
 
-/// Makes sure of memory for a line and an entry more, where the commit is open; and whether there is.
+/// Makes sure of memory for a line and an entry more, if the commit is open; and whether there is.
 fn reserve(
     open: bool,
     lines: u128,
@@ -249,7 +249,7 @@ fn clear_bytes(alloc: Global, bytes: &mut BytesMut)
     }
 }
 
-/// Gives a large buffer back that is empty. It stands apart so that the way of a small commit is free of it.
+/// Gives a large buffer back that is empty. It is a function of its own so that the path of a small commit is free of it.
 #[cold]
 #[inline(never)]
 fn shrink_bytes(alloc: Global, bytes: &mut BytesMut)
@@ -302,7 +302,7 @@ fn line_of<'a>(entry: &'a Entry, bytes: &'a [u8], nth: usize) -> Option<&'a [u8]
 }
 
 /// Which entry has the line with this number, if one does, by the numbers of their first lines: the last one of
-/// which the first line has no higher number. Where each entry before it has one line, that is the entry at the
+/// which the first line has no higher number. If each entry before it has one line, that is the entry at the
 /// number itself.
 fn place_of(firsts: &[u128], i: u128) -> usize
     requires { Rises firsts.now }

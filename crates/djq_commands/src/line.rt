@@ -241,8 +241,8 @@ fn step_line<L: Ledgers>(
     }
 }
 
-/// Runs the line in front of a session that hasn't ended and holds one, or ends it where its front is too long for a line,
-/// and returns what is left to do. The line is copied to the commit before, since the session lets go of it.
+/// Runs the line in front of a session that hasn't ended and holds one, or ends it if its front is too long for a line,
+/// and returns what is left to do. The line is copied to the commit before, since the session removes it.
 fn step_front<L: Ledgers>(
     alloc: Global,
     engine: &mut Store,

@@ -5,7 +5,7 @@ use djq_session::Session;
 use djq_store::CursorId;
 
 /// The most bytes that were queued for one session since the open commit began. No contract speaks of the number:
-/// it only says when a commit is full.
+/// it only decides when a commit is full.
 #[derive(Clone, Copy, Debug)]
 pub struct Queued {
     // the number of the commit, modulo 2^64

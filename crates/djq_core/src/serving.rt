@@ -25,14 +25,14 @@ mod load;
 ///
 /// ```text
 /// sessions: s1, s4, s5               by rising id, each with its bytes and its cursors by name
-/// engine:   the store: relations, queries, unions, and the cursors that the names stand for
+/// engine:   the store: relations, queries, unions, and the cursors of the names
 /// ```
 #[derive(Drop)]
 pub struct Core {
     engine: Store,
     sessions: Sessions,
     stopped: bool,
-    // where a delta is printed once for all who watch
+    // a delta is printed here once for all who watch
     text: BytesMut,
     // the lines that steps logged since the commit was cleared, and what was queued for one session since then
     commit: Commit,
@@ -104,7 +104,7 @@ impl Core {
         self.engine.row_total()
     }
 
-    /// The number of rows of a relation, 0 where there is none of the name.
+    /// The number of rows of a relation, 0 if there is none of the name.
     pub fn rows(&self, name: &Name) -> u64
         ensures { result ≡ length (rows_of self.now.state.store.relations name.now) }
     {

@@ -21,8 +21,8 @@ use std::marker::Model;
 ///
 /// ```text
 /// ids:  [ 1, 4, 5 ]          rising; a session is found by binary search
-/// keys: [ 0, 2, 1 ]          of each, where it lies
-/// slab: [ s1, s5, s4 ]       a session stays where it was put, whichever others close
+/// keys: [ 0, 2, 1 ]          of each, its place in the slab
+/// slab: [ s1, s5, s4 ]       a session stays at its place, whichever others close
 /// ```
 #[derive(Drop)]
 pub(crate) struct Sessions {
@@ -83,7 +83,7 @@ impl Sessions {
         self.ids.as_slice()
     }
 
-    /// At which place the session of an id stands.
+    /// The place of the session of an id.
     #[inline]
     pub(crate) fn find(&self, id: u64) -> usize
         requires { Contains (ids_of self.now) id }
@@ -129,12 +129,12 @@ impl Sessions {
         self.keys.push_reserved(key);
     }
 
-    /// Takes the session at a place out.
+    /// Removes the session at a place.
     pub(crate) fn remove(&mut self, at: usize)
         requires { at < length self.old }
         ensures { self.new ≡ remove self.old at }
     {
-        // The places behind it move down by one.
+        // The places after it move down by one.
         self.ready_from = self.ready_from.saturating_sub(1);
         let _id = self.ids.remove(at);
         let key = self.keys.remove(at);
@@ -203,7 +203,7 @@ fn include(from: &mut usize, to: &mut usize, at: usize)
 }
 
 /// At which place the ids of at least this begin. Ids are given one after the other. So a session is most often as many
-/// places behind the first as its id is above the first's, and is looked for there before it is searched.
+/// places after the first as its id is above the first's, and is looked for there before it is searched.
 #[inline]
 fn place_from(ids: &[u64], id: u64) -> usize
     requires { Rises ids.now }
@@ -222,7 +222,7 @@ fn place_from(ids: &[u64], id: u64) -> usize
     search_from(ids, id)
 }
 
-/// The same by a search. It stands apart so that the way of an id that is where it is guessed is free of it.
+/// The same by a search. It is a function of its own so that the path of an id that is at the guessed place is free of it.
 #[cold]
 #[inline(never)]
 fn search_from(ids: &[u64], id: u64) -> usize

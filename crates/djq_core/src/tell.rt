@@ -106,9 +106,9 @@ fn tell_watcher(
     queued.count(session);
 }
 
-/// A delta is sent to all sessions that watch its query. It is printed once. The query is looked for at
-/// a place of what a session watches first, and the answer is the one behind that where it stood last:
-/// queries are published in order of registration, in which most are watched too.
+/// A delta is sent to all sessions that watch its query. It is printed once. In what a session watches the
+/// query is looked for at the place `near` first, and the place after its last one is returned: queries are
+/// published in order of registration, in which most are watched too.
 fn tell_query(
     engine: &mut Store,
     sessions: &mut Sessions,
@@ -152,8 +152,8 @@ fn some_watched(engine: &Store) -> bool
     false
 }
 
-/// The deltas of the queries that a change affected are published, in order of registration. It stands apart
-/// from the way of a change that nobody watches.
+/// The deltas of the queries that a change affected are published, in order of registration. It is a function
+/// of its own, apart from the path of a change that nobody watches.
 #[inline(never)]
 fn tell_affected(
     engine: &mut Store,
@@ -172,7 +172,7 @@ fn tell_affected(
     }
 }
 
-/// So they are, where somebody watches one.
+/// Publishes them, if somebody watches one.
 fn tell_watched(
     engine: &mut Store,
     sessions: &mut Sessions,
@@ -209,7 +209,7 @@ fn answer_last(engine: &mut Store, session: &mut Session<CursorId, Name>, outcom
     }
 }
 
-/// Tells a change to all who watch, where it was accepted, and answers it.
+/// Publishes a change to all who watch, if it was accepted, and replies to it.
 pub(crate) fn tell_change(
     engine: &mut Store,
     sessions: &mut Sessions,

@@ -1,4 +1,4 @@
--- What cursors end as, where the progress of one is lent.
+-- What cursors are once the loan of the progress of one ends.
 use Rattle.std.specs.Prelude.{ℕ, List, Option, Some, slice_set}
 use Rattle.std.specs.Borrow.{Fml, Lends, MutBor, RattleType}
 use Rattle.djq_cursors.specs.contracts.cursors.Cursors.{the_row as cursors_row}

@@ -22,7 +22,7 @@ use Rattle.djq_cursors.specs.declared.progress.Progress.{Progress}
 use Rattle.djq_cursors.specs.declared.progress.Progress.TheVariants.{Open, Stale}
 
 module _ {C : Type 0} where
-  -- the cursor in a slot, where there is one
+  -- the cursor in a slot, if there is one
   abbrev pub slot_at : List (Option (Progress C)) → ℕ → Option (Progress C)
   slot_at slots k = slice_index_or slots k None
 
@@ -49,14 +49,14 @@ module _ {C : Type 0} where
     pub there : slot_at new k ≡ slot
     pub others : (j : ℕ) → j ≢ k → slot_at new j ≡ slot_at old j
 
-  -- A cursor stands in a slot where none was, and all others are as before.
+  -- A cursor is in a slot that was empty, and all others are as before.
   pub record OpensSlot (old : List (Option (Progress C))) (k : ℕ) (cursor : C)
       (new : List (Option (Progress C))) : Type 0 where
     pub free : slot_at old k ≡ None
     pub sets : SetsSlot old k (Some (Open cursor false)) new
 
-  -- An open cursor becomes stale by a change of this number; a stale one keeps the change that made
-  -- it so.
+  -- An open cursor becomes stale by a change of this number; a stale one has still the change that
+  -- made it so.
   abbrev pub outdated_progress : Bytes → ℕ → Progress C → Progress C
   outdated_progress relation n (Open cursor ended) = Stale relation n
   outdated_progress relation n (Stale r m) = Stale r m

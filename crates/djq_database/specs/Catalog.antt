@@ -30,7 +30,7 @@ pub record Catalog : Type 0 where
   -- a text's number is its place
   pub texts : List Bytes
 
--- what stands for a relation past the last one
+-- a relation in place of one past the last
 abbrev pub no_relation : Relation
 no_relation = record { name = []; types = []; rows = [] }
 
@@ -46,11 +46,11 @@ counted_at relations at = (relation_at relations at).rows
 abbrev pub rows_at : List Relation → ℕ → List Tuple
 rows_at relations at = tuples_in (relation_at relations at)
 
--- the cells stand for the row, in the columns of the relation at a place
+-- the cells represent the row, in the columns of the relation at a place
 abbrev pub StandForRow : Catalog → ℕ → List ℕ → Tuple → Type 0
 StandForRow c at cells row = StandFor c.texts (relation_at c.relations at).types cells row
 
--- they stand for some row
+-- they represent some row
 abbrev pub AreCellsOf : Catalog → ℕ → List ℕ → Type 0
 AreCellsOf c at cells = AreCells c.texts (relation_at c.relations at).types cells
 

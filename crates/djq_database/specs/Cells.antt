@@ -1,5 +1,5 @@
--- The cells of a row: of an integer its 64 bits, of a text its number, the place where it stands
--- among the known texts.
+-- The cells of a row: of an integer its 64 bits, of a text its number, its place among the known
+-- texts.
 use Rattle.std.specs.Prelude.{
   ◌≡◌,
   ℕ,
@@ -22,7 +22,7 @@ use Rattle.djq_model.specs.Data.{Bytes, Tuple, bytes_eq}
 use Rattle.djq_model.specs.Typed.{is_of, fits}
 use Rattle.djq_model.specs.Known.{knows}
 
--- the place of a text among the known ones; past their end where it isn't known
+-- the place of a text among the known ones; past their end if it isn't known
 abbrev pub text_place : List Bytes → Bytes → ℕ
 text_place [] text = zero
 text_place (t ∷ ts) text = if bytes_eq t text then zero else suc (text_place ts text)
@@ -36,7 +36,7 @@ cell_for texts (Text t) = text_place texts t
 abbrev pub cells_of : List Bytes → Tuple → List ℕ
 cells_of texts row = map (cell_for texts) row
 
--- A value has a cell where it is an integer of 64 bits, or a known text.
+-- A value has a cell if it is an integer of 64 bits, or a known text.
 abbrev pub HasCell : List Bytes → Value → Type 0
 HasCell texts (Int i) = FitsSigned w64 i
 HasCell texts (Text t) = knows texts t ≡ true
@@ -46,26 +46,26 @@ abbrev pub HaveCells : List Bytes → Tuple → Type 0
 HaveCells texts [] = ⊤
 HaveCells texts (v ∷ vs) = HasCell texts v × HaveCells texts vs
 
--- in a column of this type, the cell stands for the value
+-- in a column of this type, the cell represents the value
 pub record CellStandsFor (texts : List Bytes) (column : ColumnType) (cell : ℕ) (value : Value) : Type 0
   where
     pub of : is_of column value ≡ true
     pub has : HasCell texts value
     pub is : cell ≡ cell_for texts value
 
--- in a column of this type, the cell stands for some value
+-- in a column of this type, the cell represents some value
 pub record IsCell (texts : List Bytes) (column : ColumnType) (cell : ℕ) : Type 0 where
   pub value : Value
   pub stands : CellStandsFor texts column cell value
 
--- in columns of these types, the cells stand for the row
+-- in columns of these types, the cells represent the row
 pub record StandFor (texts : List Bytes) (types : List ColumnType) (cells : List ℕ) (row : Tuple) :
     Type 0 where
   pub of : fits types row ≡ true
   pub have : HaveCells texts row
   pub are : cells ≡ cells_of texts row
 
--- in columns of these types, the cells stand for some row
+-- in columns of these types, the cells represent some row
 pub record AreCells (texts : List Bytes) (types : List ColumnType) (cells : List ℕ) : Type 0 where
   pub row : Tuple
   pub stand : StandFor texts types cells row

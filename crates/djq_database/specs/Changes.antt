@@ -53,7 +53,7 @@ use Rattle.djq_database.specs.declared.relation_id.RelationId.{RelationId}
 use Rattle.djq_database.specs.Cells.{HasCell, HaveCells, cell_for, cells_of}
 use Rattle.djq_database.specs.Catalog.{relation_at, counted_at, rows_at, with_rows_at}
 
--- A relation without rows comes behind the others; or its name is taken, or, where it isn't, there
+-- A relation without rows is appended to the others; or its name is in use, or, if it isn't, there
 -- are as many as there may be, or no memory, and nothing changes.
 abbrev pub MakesRelationAt : List Relation → Bytes → List ColumnType → Result RelationId RowsRefusal →
     List Relation → Type 0
@@ -74,8 +74,8 @@ pub record HasNoPlace (relations : List Relation) (at : ℕ) (row : Tuple) : Typ
       → COPIES ≤ copies_among (counted_at relations at) row
   pub rows : has_row (rows_at relations at) row ≡ false → ROWS ≤ length (rows_at relations at)
 
--- A row that isn't there comes behind the others of its relation, with one copy; one that is has a
--- copy more, and nothing else changes. It is refused where there is no place; else only a new one,
+-- A row that isn't there is appended to the others of its relation, with one copy; one that is has
+-- a copy more, and nothing else changes. It is refused if there is no place; else only a new one,
 -- for want of memory.
 abbrev pub AddsRowAt : List Relation → ℕ → Tuple → Result AddOutcome RowsRefusal → List Relation →
     Type 0
@@ -90,8 +90,8 @@ AddsRowAt old at row (Err Full) new = HasNoPlace old at row × (new ≡ old)
 AddsRowAt old at row (Err NoMem) new =
     (has_row (rows_at old at) row ≡ false) × (length (rows_at old at) < ROWS) × (new ≡ old)
 
--- A row with one copy goes; one with several has a copy less, and nothing else changes; one that
--- isn't there changes nothing.
+-- A row with one copy is deleted; one with several has a copy less, and nothing else changes; one
+-- that isn't there changes nothing.
 abbrev pub DeletesRowAt : List Relation → ℕ → Tuple → DeleteOutcome → List Relation → Type 0
 DeletesRowAt old at row Last new =
     (has_row (rows_at old at) row ≡ true) × (copies_among (counted_at old at) row ≡ 1)
@@ -119,9 +119,8 @@ pub record FindsNoPlaceFor (old : List Bytes) (texts : List Bytes) (new : List B
   pub unknown : knows new next ≡ false
   pub full : length new ≡ MOST_TEXTS
 
--- A value's text becomes known, and its cell is told; or there are as many texts as there may be,
--- or no
--- memory, and nothing changes.
+-- A value's text becomes known, and its cell is returned; or there are as many texts as there may
+-- be, or no memory, and nothing changes.
 abbrev pub InternsValue : List Bytes → Value → Result ℕ InternRefusal → List Bytes → Type 0
 InternsValue old value (Ok cell) new = (new ≡ all_learned old (texts_of value))
     × HasCell new value × (cell ≡ cell_for new value)
@@ -130,9 +129,8 @@ InternsValue old value (Err TextsFull) new =
 InternsValue old value (Err NoMemForTexts) new = (knows_all old (texts_of value) ≡ false) × (new ≡
     old)
 
--- The texts of a row become known, in order, and its cells are told. Where they would be more than
--- there
--- may be, or for want of memory, only the first of them do.
+-- The texts of a row become known, in order, and its cells are returned. If they would be more than
+-- there may be, or for want of memory, only the first of them do.
 abbrev pub InternsRow : List Bytes → Tuple → Result (List ℕ) InternRefusal → List Bytes → Type 0
 InternsRow old row (Ok cells) new = (new ≡ all_learned old (texts_in row))
     × HaveCells new row × (cells ≡ cells_of new row)
@@ -140,27 +138,27 @@ InternsRow old row (Err TextsFull) new =
     (MOST_TEXTS < length (all_learned old (texts_in row))) × FindsNoPlaceFor old (texts_in row) new
 InternsRow old row (Err NoMemForTexts) new = LearnsSome old (texts_in row) new
 
--- The cell of a value that isn't an unknown text is told, and none of one that is.
+-- The cell of a value that isn't an unknown text is returned, and none of one that is.
 abbrev pub TellsCell : List Bytes → Value → Option ℕ → Type 0
 TellsCell texts value None = knows_all texts (texts_of value) ≡ false
 TellsCell texts value (Some cell) = HasCell texts value × (cell ≡ cell_for texts value)
 
--- The cells of a row whose texts are all known are told, and none where they aren't.
+-- The cells of a row whose texts are all known are returned, and none if they aren't.
 abbrev pub TellsRowCells : List Bytes → Tuple → Option (List ℕ) → Type 0
 TellsRowCells texts row None = knows_all texts (texts_in row) ≡ false
 TellsRowCells texts row (Some cells) = HaveCells texts row × (cells ≡ cells_of texts row)
 
--- Cells that were written are told, where the call says so.
+-- Cells that were written are returned, if the call reports so.
 abbrev pub told_cells : Bool → List ℕ → Option (List ℕ)
 told_cells true cells = Some cells
 told_cells false cells = None
 
--- Cells that were written are the result, where there is no error.
+-- Cells that were written are the result, if there is no error.
 abbrev pub given_cells : {E : Type 0} → Result Unit E → List ℕ → Result (List ℕ) E
 given_cells (Ok u) cells = Ok cells
 given_cells (Err e) cells = Err e
 
--- The relation of a name is told, and none where no relation has it.
+-- The relation of a name is returned, and none if no relation has it.
 abbrev pub FindsRelation : List Relation → Bytes → Option RelationId → Type 0
 FindsRelation relations name None = relation_of relations name ≡ None
 FindsRelation relations name (Some id) = (id.at < length relations)

@@ -20,12 +20,12 @@ abbrev pub CellsStay : Type 0
 CellsStay = (texts more : List Bytes) (row : Tuple) → HaveCells texts row
     → HaveCells (texts ++ more) row × (cells_of (texts ++ more) row ≡ cells_of texts row)
 
--- what is learned comes behind what was known
+-- what is learned is appended to what was known
 abbrev pub TextsStay : Type 0
 TextsStay = (texts learned : List Bytes) → (more : List Bytes) × (all_learned texts learned ≡ texts
     ++ more)
 
--- where names differ, other rows for a name are other rows at its place
+-- if names differ, other rows for a name are other rows at its place
 abbrev pub NamesTell : Type 0
 NamesTell = (relations : List Relation) (at : ℕ) (rows : List CountedRow) → AllPairs (λ r s. r.name ≢
     s.name) relations → at < length relations

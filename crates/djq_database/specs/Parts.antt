@@ -34,12 +34,12 @@ use Rattle.djq_database.specs.declared.kept.Kept.{Kept}
 use Rattle.djq_database.specs.declared.catalog.Catalog.TheInside.{Inside}
 use Rattle.djq_database.specs.Catalog.{Catalog}
 
--- the value that a cell of a column stands for
+-- the value of a cell of a column
 abbrev pub value_of : List Bytes → ColumnType → ℕ → Value
 value_of texts IntColumn cell = Int (cast_signed w64 cell)
 value_of texts TextColumn cell = Text (slice_index_or texts cell [])
 
--- the row that cells stand for
+-- the row of cells
 unfoldable pub row_of : List Bytes → List ColumnType → List ℕ → Tuple
 row_of texts [] cells = []
 row_of texts (t ∷ ts) [] = []
@@ -53,7 +53,7 @@ tuples_of es = map (λ e. e.tuple) es
 unfoldable pub counted_row : List Bytes → List ColumnType → Entry → CountedRow
 counted_row texts types e = record { row = row_of texts types e.tuple; copies = e.supports }
 
--- the relation that is kept so
+-- the relation that is stored so
 unfoldable pub relation_in : List Bytes → Kept → Relation
 relation_in texts k = record {
   name = k.name;
@@ -62,15 +62,15 @@ relation_in texts k = record {
       k.rows.entries;
 }
 
--- the relations that are kept so
+-- the relations that are stored so
 abbrev pub relations_of : List Bytes → List Kept → List Relation
 relations_of texts ks = map (relation_in texts) ks
 
--- what stands for a relation past the last one
+-- a stored relation in place of one past the last
 abbrev pub no_kept : Kept
 no_kept = record { name = []; types = []; rows = record { width = 0; entries = [] } }
 
--- the relation that is kept at a place
+-- the relation that is stored at a place
 abbrev pub kept_at : List Kept → ℕ → Kept
 kept_at ks at = slice_index_or ks at no_kept
 
@@ -78,12 +78,12 @@ kept_at ks at = slice_index_or ks at no_kept
 abbrev pub catalog_of : Inside → Catalog
 catalog_of p = record { relations = relations_of p.texts p.kept.items; texts = p.texts }
 
--- a cell that can stand in a column
+-- a cell that may be in a column
 abbrev pub CellFits : List Bytes → ColumnType → ℕ → Type 0
 CellFits texts IntColumn cell = cell < 2 ^ 64
 CellFits texts TextColumn cell = cell < length texts
 
--- cells that can stand in columns of these types
+-- cells that may be in columns of these types
 unfoldable pub AreWithin : List Bytes → List ColumnType → List ℕ → Type 0
 AreWithin texts [] [] = ⊤
 AreWithin texts (t ∷ ts) (c ∷ cs) = CellFits texts t c × AreWithin texts ts cs
@@ -94,7 +94,7 @@ AreWithin texts (t ∷ ts) [] = ⊥
 abbrev pub IsCopied : Entry → Type 0
 IsCopied e = (1 ≤ e.supports) × (e.supports ≤ COPIES)
 
--- what holds of each relation that is kept
+-- what holds of each relation that is stored
 pub record RelationIsSound (texts : List Bytes) (k : Kept) : Type 0 where
   pub some : 0 < length k.types
   pub narrow : length k.types ≤ COLUMNS

@@ -38,7 +38,7 @@ abbrev pub row_place_of : Option ℕ → Option Place
 row_place_of None = None
 row_place_of (Some slot) = Some (row_place slot)
 
--- each slot has copies, and no row stands twice
+-- each slot has copies, and no row occurs twice
 pub record CopiesAreKept (slots : SlotRows) (copies : List ℕ) : Type 0 where
   pub rows : AreRows slots
   pub copied : slots.room ≤ length copies

@@ -29,14 +29,14 @@ use Rattle.djq_database.specs.Rows.{Rows}
 use Rattle.djq_database.specs.declared.refusal.RowsRefusal.{RowsRefusal}
 use Rattle.djq_database.specs.declared.refusal.RowsRefusal.TheVariants.{NameTaken, Full, NoMem}
 
--- an entry with this tuple and one support came behind the others
+-- an entry with this tuple and one support was appended to the others
 pub record Appended (old new : List Entry) (u : List ℕ) : Type 0 where
   pub entry : Entry
   pub tuple : entry.tuple ≡ u
   pub single : entry.supports ≡ 1
   pub is : new ≡ old ++ entry ∷ []
 
--- the entry with this tuple went
+-- the entry with this tuple was removed
 pub record Dropped (old new : List Entry) (u : List ℕ) : Type 0 where
   pub front : List Entry
   pub back : List Entry
@@ -45,7 +45,7 @@ pub record Dropped (old new : List Entry) (u : List ℕ) : Type 0 where
   pub was : old ≡ front ++ entry ∷ back
   pub is : new ≡ front ++ back
 
--- the rows keep their width, and none stands twice
+-- the rows have the same width, and none occurs twice
 pub record StayApart (old new : Rows) : Type 0 where
   pub width : new.width ≡ old.width
   pub apart : TuplesDiffer new.entries
@@ -73,7 +73,7 @@ AddsTupleAs old u (Err Full) new = LacksPlace old.entries u × (new.entries ≡ 
 AddsTupleAs old u (Err NoMem) new =
     (count_of old.entries u ≡ 0) × (length old.entries < ROWS) × (new.entries ≡ old.entries)
 
--- a tuple is added so, and the rows keep their width, and none stands twice
+-- a tuple is added so, the rows have the same width, and none occurs twice
 pub record AddsTuple (old : Rows) (u : List ℕ) (result : Result AddOutcome RowsRefusal) (new :
     Rows) : Type 0 where
   pub stay : StayApart old new
@@ -87,7 +87,7 @@ DeletesTupleAs old u (Left n) new =
     × Supported old.entries new.entries u (supports_of old.entries u) n
 DeletesTupleAs old u Absent new = (count_of old.entries u ≡ 0) × (new.entries ≡ old.entries)
 
--- a tuple is deleted so, and the rows keep their width, and none stands twice
+-- a tuple is deleted so, the rows have the same width, and none occurs twice
 pub record DeletesTuple (old : Rows) (u : List ℕ) (result : DeleteOutcome) (new : Rows) : Type 0
   where
     pub stay : StayApart old new

@@ -13,12 +13,12 @@ entries_left r left = drop (length r.entries - left) r.entries
 abbrev pub tuples_left : Rows → ℕ → List (List ℕ)
 tuples_left r left = tuples_of (entries_left r left)
 
--- a walk stands at the first entry that is left
+-- a walk is at the first entry that is left
 pub record IsWalk (r : Rows) (next : Option ℕ) (left : ℕ) : Type 0 where
   pub within : left ≤ length r.entries
   pub at : row_place_of next ≡ head_at (entries_left r left)
 
--- The first of the rows that are left is told; none where none is left.
+-- The first of the rows that are left is returned; none if none is left.
 abbrev pub TellsRow : List (List ℕ) → Option (Bor (List ℕ)) → List (List ℕ) → Type 0
 TellsRow old None new = (old ≡ []) × (new ≡ [])
 TellsRow old (Some cells) new = old ≡ cells.now ∷ new

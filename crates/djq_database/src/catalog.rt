@@ -104,7 +104,7 @@ impl Catalog {
         self.kept.len()
     }
 
-    /// The relation of a name; none exactly where no relation has it. No other is looked at.
+    /// The relation of a name; none if no relation has it. No other is looked at.
     pub fn id(&self, name: &Name) -> Option<RelationId>
         ensures { FindsRelation self.now.relations name.now result }
     {
@@ -116,13 +116,13 @@ impl Catalog {
         }
     }
 
-    /// Makes a relation of one column at least, without rows, behind the others.
+    /// Makes a relation of one column at least, without rows, after the others.
     ///
     /// # Errors
     ///
-    /// [`RowsRefusal::NameTaken`] exactly where a relation has the name; else [`RowsRefusal::Full`]
-    /// exactly at [`RELATIONS`](djq_protocol::limits::RELATIONS) relations; [`RowsRefusal::NoMem`] for
-    /// want of memory. Nothing has changed.
+    /// [`RowsRefusal::NameTaken`] if a relation has the name; else [`RowsRefusal::Full`] at
+    /// [`RELATIONS`](djq_protocol::limits::RELATIONS) relations; [`RowsRefusal::NoMem`] for want of
+    /// memory. Nothing has changed.
     pub fn relation(&mut self, name: Name, types: Types) -> Result<RelationId, RowsRefusal>
         requires some { 0 < length types }
         requires narrow { length types ≤ COLUMNS }
@@ -185,8 +185,7 @@ impl Catalog {
         self.kept[id.at].rows.len()
     }
 
-    /// A walk over its rows, in the order in which they came. It takes no memory, and counts one
-    /// lookup.
+    /// A walk over its rows, in order of insertion. It needs no memory, and counts one lookup.
     pub fn rows<L: Ledger>(&self, id: RelationId, tally: &mut Tally<L>) -> Walk<'_>
         requires { id.at < length self.now.relations }
         ensures rest { result ≡ map (cells_of self.now.texts) (rows_at self.now.relations id.at) }
@@ -195,7 +194,7 @@ impl Catalog {
         Walk::new(&self.kept[id.at].rows, tally)
     }
 
-    /// The cell of a value; none exactly where it is a text that isn't known. It takes no memory.
+    /// The cell of a value; none if it is a text that isn't known. It needs no memory.
     pub fn cell(&self, value: &Value) -> Option<u64>
         ensures { TellsCell self.now.texts value.now result }
     {
@@ -208,8 +207,8 @@ impl Catalog {
         }
     }
 
-    /// The cells of a row; none exactly where a text of it isn't known, and then the row is in no
-    /// relation. It takes no memory.
+    /// The cells of a row; none if a text of it isn't known, and then the row is in no relation. It needs
+    /// no memory.
     pub fn cells(&self, row: &[Value]) -> Option<Cells>
         requires { length row.now ≤ CELLS }
         ensures tells { TellsRowCells self.now.texts row.now result }
@@ -224,8 +223,8 @@ impl Catalog {
         }
     }
 
-    /// Writes the cells of a row, and tells whether they are: false exactly where a text of it isn't
-    /// known, and then the row is in no relation. It takes no memory.
+    /// Writes the cells of a row, and returns true; false if a text of it isn't known, and then the row
+    /// is in no relation. It needs no memory.
     pub fn write_cells(&self, row: &[Value], cells: &mut Cells) -> bool
         requires { length row.now ≤ CELLS }
         ensures tells { TellsRowCells self.now.texts row.now (told_cells result cells.new) }
@@ -248,7 +247,7 @@ impl Catalog {
     ///
     /// # Errors
     ///
-    /// [`InternRefusal::Full`] exactly where it is an unknown text and
+    /// [`InternRefusal::Full`] if it is an unknown text and
     /// [`MOST_TEXTS`](djq_dictionary::MOST_TEXTS) are known; [`InternRefusal::NoMem`] for want of memory,
     /// and then too it is an unknown text. Nothing has changed.
     pub fn intern(&mut self, value: &Value) -> Result<u64, InternRefusal>
@@ -271,7 +270,7 @@ impl Catalog {
     ///
     /// # Errors
     ///
-    /// [`InternRefusal::Full`] exactly where there would be more texts than
+    /// [`InternRefusal::Full`] if there would be more texts than
     /// [`MOST_TEXTS`](djq_dictionary::MOST_TEXTS); [`InternRefusal::NoMem`] for want of memory. The texts
     /// before the one that was refused are known. Since a text of it wasn't, the row is in no
     /// relation.
@@ -294,7 +293,7 @@ impl Catalog {
         Ok(())
     }
 
-    /// Whether the row that cells stand for is there. It counts one lookup.
+    /// Whether the row of these cells is there. It counts one lookup.
     pub fn has_row<L: Ledger>(&self, id: RelationId, cells: &[u64], tally: &mut Tally<L>) -> bool
         requires { id.at < length self.now.relations }
         ensures has { (row : Tuple) → StandForRow self.now id.at cells.now row
@@ -304,8 +303,8 @@ impl Catalog {
         self.kept[id.at].rows.find(cells, tally).is_some()
     }
 
-    /// How many copies of the row that cells stand for are there; 0 exactly where the row isn't. It
-    /// takes no memory, and counts one lookup.
+    /// How many copies of the row of these cells are there; 0 if there is no such row. It needs no
+    /// memory, and counts one lookup.
     pub fn copies<L: Ledger>(&self, id: RelationId, cells: &[u64], tally: &mut Tally<L>) -> u32
         requires { id.at < length self.now.relations }
         ensures copies { (row : Tuple) → StandForRow self.now id.at cells.now row
@@ -317,12 +316,12 @@ impl Catalog {
         self.kept[id.at].copies(cells, tally)
     }
 
-    /// Adds the row that cells stand for, or a copy of it where it is there, which takes no memory.
-    /// It counts two at most.
+    /// Adds the row of these cells, or a copy of it if it is there, which needs no memory. It counts two
+    /// at most.
     ///
     /// # Errors
     ///
-    /// [`RowsRefusal::Full`] exactly where the row isn't there and the relation has
+    /// [`RowsRefusal::Full`] if the row isn't there and the relation has
     /// [`ROWS`](djq_protocol::limits::ROWS) rows, or it is there with
     /// [`COPIES`](djq_protocol::limits::COPIES) copies; [`RowsRefusal::NoMem`] for want of memory, and
     /// then the row isn't there. Nothing has changed.
@@ -342,8 +341,8 @@ impl Catalog {
         self.kept[id.at].add(cells, tally)
     }
 
-    /// Deletes a copy of the row that cells stand for, where it is there, and the row with its last
-    /// copy. It takes no memory, and counts two at most.
+    /// Deletes a copy of the row of these cells, if it is there, and the row with its last copy. It needs
+    /// no memory, and counts two at most.
     pub fn delete_row<L: Ledger>(
         &mut self,
         id: RelationId,
@@ -360,7 +359,7 @@ impl Catalog {
         self.kept[id.at].delete(cells, tally)
     }
 
-    /// The value that a cell of a column stands for. Its text is lent, so it takes no memory.
+    /// The value that a cell of a column represents. Its text is lent, so it needs no memory.
     pub fn value(&self, column: ColumnType, cell: u64) -> ValueRef<'_>
         requires { IsCell self.now.texts column cell }
         ensures { (value : Datum) → CellStandsFor self.now.texts column cell value

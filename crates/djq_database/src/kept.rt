@@ -13,7 +13,7 @@ use djq_protocol::limits::{COPIES, ROWS};
 use djq_protocol::{AddOutcome, DeleteOutcome};
 use std::sync::ledger::Ledger;
 
-/// A relation as it is kept, with its rows in cells.
+/// A relation as it is stored, with its rows in cells.
 #[derive(Drop)]
 pub struct Kept {
     pub name: Name,
@@ -22,7 +22,7 @@ pub struct Kept {
 }
 
 impl Kept {
-    /// How many copies of a row of these cells are there; 0 exactly where none is.
+    /// How many copies of a row of these cells are there; 0 if none is.
     pub fn copies<L: Ledger>(&self, cells: &[u64], tally: &mut Tally<L>) -> u32
         ensures copies { result ≡ supports_of self.now.rows.entries cells.now }
         ensures counted { tally.new ≡ tally.old + 1 }

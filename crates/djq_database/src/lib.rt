@@ -1,18 +1,17 @@
 //! The catalog: relations with their rows, and the texts that are known.
 //!
-//! A [`Catalog`] keeps each relation's rows in an arena of `djq_arena`, as cells: of an integer its
-//! 64 bits, of a text its number in the dictionary. Contracts see neither slots nor numbers, but
-//! the relations with lists of values as their rows, each with its copies, and the list of known
-//! texts: what the definitions of a query's answers speak of.
+//! A [`Catalog`] stores each relation's rows in an arena of `djq_arena`, as cells: of an integer its
+//! 64 bits, of a text its number in the dictionary. Contracts see neither slots nor numbers, but the
+//! relations with lists of values as their rows, each with its copies, and the list of known texts:
+//! what the definitions of a query's answers speak of.
 //!
-//! It evaluates no query, and it checks no more of a row than [`Catalog::suits`] tells. It has no
-//! order of rows but the one in which they came, and no relation is ever dropped.
+//! It evaluates no query, and it checks no more of a row than [`Catalog::suits`] does. It has no
+//! order of rows but that of insertion, and no relation is ever dropped.
 //!
 //! What surprises: a row is added and deleted by its cells, which [`Catalog::intern_cells`] gives and
-//! [`Catalog::cells`] finds. So a row's texts become known before it is added, and stay known where
-//! it isn't. The cells of a row stay the same however many texts become known later
-//! ([`cells_stay`]), and different rows have different cells ([`cells_differ`]): who holds cells
-//! holds the row.
+//! [`Catalog::cells`] finds. So a row's texts become known before it is added, and stay known if it
+//! isn't. The cells of a row stay the same however many texts become known later ([`cells_stay`]),
+//! and different rows have different cells ([`cells_differ`]): who holds cells holds the row.
 //!
 //! ```text
 //! r int text               texts       0 "a"   1 "b"
@@ -20,10 +19,9 @@
 //!   2 "b"   cells 2 1      relations   0 r, its rows (1, 0) and (2, 1)
 //! ```
 //!
-//! Inside, the relations stand in a list in the order in which they were made. A second dictionary
-//! has their names, so that a name's number is the relation's place, and no name is looked for one
-//! by one. The copies of each row stand beside it, by its slot: a further copy takes no
-//! memory.
+//! Inside, the relations are a list in the order in which they were made. A second dictionary has
+//! their names, so that a name's number is the relation's place, and no name is looked for one by
+//! one. The copies of each row are an array by its slot: a further copy needs no memory.
 #![tactic(auto)]
 
 mod catalog;

@@ -2,7 +2,7 @@ use djq_model::NoMem;
 use std::alloc::AllocError;
 use thiserror::Error;
 
-/// Why a catalog doesn't take a relation or a row.
+/// Why a catalog doesn't accept a relation or a row.
 #[derive(Clone, Copy, Debug, PartialEq, Eq, Error)]
 pub enum RowsRefusal {
     /// A relation has the name.

@@ -32,8 +32,8 @@ use std::alloc::{AllocError, Global};
 use std::marker::Model;
 use std::sync::ledger::Ledger;
 
-/// Different rows of one width, in cells and in the order in which they came, each with its copies. A
-/// row lies in a slot, whose number stays the same until the row goes.
+/// Different rows of one width, in cells and in order of insertion, each with its copies. A
+/// row lies in a slot, whose number stays the same until the row is removed.
 ///
 /// Contracts see them as entries of `djq_index`, whose supports are the copies.
 #[derive(Drop)]
@@ -67,7 +67,7 @@ impl Rows {
         })
     }
 
-    /// The law that no row stands twice. It does nothing.
+    /// The law that no row occurs twice. It does nothing.
     pub fn laws(&self)
         ensures { TuplesDiffer self.now.entries }
     {
@@ -81,7 +81,7 @@ impl Rows {
         self.arena.len()
     }
 
-    /// The slot of a row; none exactly where it is absent. It counts one lookup.
+    /// The slot of a row; none if it is absent. It counts one lookup.
     pub fn find<L: Ledger>(&self, cells: &[u64], tally: &mut Tally<L>) -> Option<u32>
         ensures found { MatchOption result (count_of self.now.entries cells.now ≡ 0)
             (λ slot. IsAt self.now.entries (row_place slot) cells.now) }
@@ -116,7 +116,7 @@ impl Rows {
         self.arena.first()
     }
 
-    /// The slot of the row that came next after the one in a slot. It counts one link.
+    /// The slot of the row inserted next after the one in a slot. It counts one link.
     pub fn next<L: Ledger>(&self, slot: u32, tally: &mut Tally<L>) -> Option<u32>
         requires { IsOccupied self.now.entries (row_place slot) }
         ensures next { (xs : List Entry) (e : Entry) (ys : List Entry) → self.now.entries ≡ xs ++ e ∷ ys
@@ -143,8 +143,8 @@ impl Rows {
         self.copies[slot as usize]
     }
 
-    /// Puts in a row that isn't there, with this hash, behind all others and with one copy. Where there is
-    /// no memory, all stays as it was. It counts one edit, as both calls below do.
+    /// Appends a row that isn't there, with this hash and one copy. Out of memory, nothing changes. It counts one
+    /// edit, as both calls below do.
     pub fn push<L: Ledger>(
         &mut self,
         cells: &[u64],
@@ -169,7 +169,7 @@ impl Rows {
         Ok(())
     }
 
-    /// Takes the row in a slot out. Other slots stay.
+    /// Removes the row in a slot. Other slots stay.
     pub fn remove<L: Ledger>(&mut self, slot: u32, tally: &mut Tally<L>)
         requires { IsOccupied self.old.entries (row_place slot) }
         ensures went { (u : List ℕ) → IsAt self.old.entries (row_place slot) u
@@ -197,7 +197,7 @@ impl Rows {
     }
 }
 
-/// Makes room for the copies of one more slot, where no slot is free.
+/// Makes room for the copies of one more slot, if no slot is free.
 fn make_room(copies: &mut Vec<u32>, full: bool) -> Result<(), AllocError>
     ensures room { IfOk result (λ _. full ≡ true → vec_len copies.new < vec_capacity copies.new) }
     ensures same { copies.new.items ≡ copies.old.items }
@@ -209,7 +209,8 @@ fn make_room(copies: &mut Vec<u32>, full: bool) -> Result<(), AllocError>
     }
 }
 
-/// Room for the copies of one more slot. It stands apart, so that a row for which there is room saves fewer registers.
+/// Room for the copies of one more slot. It is a function of its own, so that a row for which there is room saves fewer
+/// registers.
 #[inline(never)]
 fn grow(copies: &mut Vec<u32>) -> Result<(), AllocError>
     ensures room { IfOk result (λ _. vec_len copies.new < vec_capacity copies.new) }
@@ -218,7 +219,7 @@ fn grow(copies: &mut Vec<u32>) -> Result<(), AllocError>
     copies.reserve(1)
 }
 
-/// Gives a slot one copy. There is room for one more slot where it is a new one.
+/// Gives a slot one copy. There is room for one more slot if it is a new one.
 fn count_one(copies: &mut Vec<u32>, slot: u32)
     requires slot { slot ≤ length copies.old.items }
     requires room { slot < length copies.old.items ⊎ vec_len copies.old < vec_capacity copies.old }

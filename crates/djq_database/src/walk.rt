@@ -48,7 +48,7 @@ impl<'a> Walk<'a> {
         self.left
     }
 
-    /// The cells of the next row; none exactly where no row is left. It takes no memory, and counts
+    /// The cells of the next row; none if no row is left. It needs no memory, and counts
     /// one link for each row.
     pub fn next<L: Ledger>(&mut self, tally: &mut Tally<L>) -> Option<&'a [u64]>
         ensures tells { TellsRow self.old result self.new }

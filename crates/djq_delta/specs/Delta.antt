@@ -10,7 +10,7 @@ pub record DeltaSeen : Type 0 where
   pub width : ℕ
   pub lines : List SignedLine
   pub status : DeltaStatus
-  -- the lines that it took since it was last cleared
+  -- the lines appended since it was last cleared
   pub pushed : ℕ
   -- the words that it has memory for
   pub capacity : ℕ

@@ -1,7 +1,7 @@
 -- Lines with a sign, and which of them stay once those that cancel out are dropped.
 use Rattle.std.specs.Prelude.{ℕ, List, Bool, true, false, not, ◌≡◌, ◌≤◌, ◌++◌, ◌↔◌, ◌⊎◌, All, AllPairs, Contains, map, length}
 
--- A line: whether an answer came or went, and the answer's cells.
+-- A line: whether an answer was added or removed, and the answer's cells.
 pub record SignedLine : Type 0 where
   pub came : Bool
   pub cells : List ℕ
@@ -10,11 +10,11 @@ pub record SignedLine : Type 0 where
 abbrev pub reversed : SignedLine → SignedLine
 reversed l = record { came = not l.came; cells = l.cells }
 
--- No line is there twice: no answer came twice, and none went twice.
+-- No line occurs twice: no answer was added twice, and none was removed twice.
 abbrev pub AreDistinctLines : List SignedLine → Type 0
 AreDistinctLines ls = AllPairs (λ k l. k ≡ l → ⊥) ls
 
--- All of them came, or all of them went.
+-- All of them were added, or all of them were removed.
 abbrev pub HaveOneSign : List SignedLine → Type 0
 HaveOneSign ls = All (λ l. l.came ≡ true) ls ⊎ All (λ l. l.came ≡ false) ls
 
@@ -25,16 +25,16 @@ pub record SettlesTo (old new : List SignedLine) : Type 0 where
   pub alone : (l : SignedLine) → Contains new l → Contains old (reversed l) → ⊥
   pub complete : (l : SignedLine) → Contains old l → (Contains old (reversed l) → ⊥) → Contains new l
 
--- an answer that came
+-- an answer that was added
 abbrev pub came_line : List ℕ → SignedLine
 came_line cells = record { came = true; cells = cells }
 
--- an answer that went
+-- an answer that was removed
 abbrev pub went_line : List ℕ → SignedLine
 went_line cells = record { came = false; cells = cells }
 
--- Answers come, and then answers go. Settled, exactly those came that came and didn't go, and exactly
--- those went that went and hadn't come.
+-- Answers are added, and then answers are removed. Settled, those are added that were added and not
+-- removed, and those are removed that were removed and not added before; no others.
 abbrev pub SettlingIsNet : Type 0
 SettlingIsNet = (come gone : List (List ℕ)) (new : List SignedLine)
     → SettlesTo (map came_line come ++ map went_line gone) new → (cells : List ℕ)

@@ -1,4 +1,4 @@
--- What the deltas of a union's members come to.
+-- The delta of a union, from those of its members.
 use Rattle.std.specs.Prelude.{ℕ, List, Bool, false, ◌≡◌, ◌<◌, ◌⊎◌, Any, Contains, length, slice_index_or}
 use Rattle.djq_delta.specs.Lines.{SignedLine, reversed}
 use Rattle.djq_delta.specs.Delta.{DeltaSeen}

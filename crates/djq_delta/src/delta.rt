@@ -66,7 +66,7 @@ impl Model for Delta {
         × ((d.status ≡ Whole → ⊥) → d.places.items ≡ []) };
 }
 
-/// Takes all items out of a list, and gives its memory back if it is more than half of what a
+/// Clears a list, and gives its memory back if it is more than half of what a
 /// delta retains.
 fn give_back<T: Drop>(list: &mut Vec<T>)
     ensures items { list.new.items ≡ [] }
@@ -78,7 +78,7 @@ fn give_back<T: Drop>(list: &mut Vec<T>)
     }
 }
 
-/// Takes all lines out.
+/// Removes all lines.
 fn drop_lines(cells: &mut Vec<u64>, places: &mut Vec<Place>)
     ensures cells { cells.new.items ≡ [] }
     ensures places { places.new.items ≡ [] }

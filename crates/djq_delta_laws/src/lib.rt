@@ -1,7 +1,7 @@
 //! That the settled lines of a query's delta are the net delta of its answers.
 //!
 //! The definitions of changes speak of tuples, and a delta has lines of cells. The contract of each function here is a
-//! law of any reading of cells as tuples that tells the answers at hand apart.
+//! law of any reading of cells as tuples that distinguishes the answers at hand.
 //!
 //! ```text
 //! lines        + (4, 7)   + (4, 9)   - (4, 7)         settled    + (4, 9)

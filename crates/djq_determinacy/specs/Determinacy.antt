@@ -32,10 +32,11 @@ pub record SameStore (a b : Store) : Type 0 where
   pub queries : a.queries ≡ b.queries
   pub seq : a.seq ≡ b.seq
 
--- memory wasn't refused: no session is told so
+-- the text doesn't say that memory was refused
 abbrev pub IsNoRefusal : Bytes → Type 0
 IsNoRefusal text = (text ≢ refusal_line NoMemory) × ((front : Bytes) → text ≢ front ++ end_memory)
 
+-- No memory was refused: nothing queued says so.
 abbrev pub HasMemory : Effect → Type 0
 HasMemory e = All (λ q. IsNoRefusal q.1) e.queued
 

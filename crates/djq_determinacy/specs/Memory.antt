@@ -29,7 +29,7 @@ needs_none batch Quit = true
 needs_none batch Stop = true
 needs_none batch _ = false
 
--- no session is told that a command is refused for memory
+-- nothing is queued that refuses a command for memory
 abbrev pub RefusesNone : Effect → Type 0
 RefusesNone e = (s : ℕ) → Contains e.queued (s, refusal_line NoMemory) → ⊥
 

@@ -1,4 +1,4 @@
--- How texts stand in one buffer.
+-- The layout of texts in one buffer.
 use Rattle.std.specs.Prelude.{◌≡◌, ℕ, ◌≤◌, List, [], ◌∷◌, slice_range}
 
 -- what contracts see of texts in a buffer

@@ -7,7 +7,7 @@ use Rattle.djq_dictionary.specs.declared.chain.Link.{Link}
 abbrev pub hashes_of : List Link → List ℕ
 hashes_of links = map (λ k. k.hash) links
 
--- where their chains go on, by number
+-- the next number of each one's chain
 abbrev pub nexts_of : List Link → List ℕ
 nexts_of links = map (λ k. k.next) links
 
@@ -28,7 +28,7 @@ pub record IsChainHead (buckets : ℕ) (hashes : List ℕ) (bucket n chain : ℕ
 
 -- the texts below n are in chains
 pub record IsLinkedBelow (buckets : ℕ) (hashes nexts : List ℕ) (n : ℕ) : Type 0 where
-  -- each goes on with the last one before it in the same bucket
+  -- the next of each is the last one before it in the same bucket
   pub each : (i : ℕ) → i < n → IsChainHead buckets hashes (bucket_at buckets hashes i) i (slice_index nexts i)
 
 -- all texts are
@@ -40,7 +40,7 @@ pub record IsChained (hashes nexts heads : List ℕ) (n : ℕ) : Type 0 where
   pub headed : (b : ℕ) → b < length heads → IsChainHead (length heads) hashes b n (slice_index heads b)
   pub linked : IsLinkedBelow (length heads) hashes nexts n
 
--- every chain goes on with lower numbers alone
+-- every chain is of falling numbers
 abbrev pub IsFalling : List ℕ → Type 0
 IsFalling nexts = (i : ℕ) → i < length nexts → slice_index nexts i ≤ i
 

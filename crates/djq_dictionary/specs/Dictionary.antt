@@ -1,4 +1,4 @@
--- What a dictionary keeps.
+-- The parts of a dictionary.
 use Rattle.std.specs.Prelude.{◌≡◌, ℕ, ◌≤◌, List, length, map}
 use Rattle.djq_dictionary.specs.Hash.{hash_of}
 use Rattle.djq_dictionary.specs.Known.{AllDifferent}

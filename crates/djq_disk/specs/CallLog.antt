@@ -14,7 +14,7 @@ use Rattle.djq_disk.specs.declared.call_log.DiskCall.TheVariants.{BeginningNext,
 abbrev pub untouched : List ℕ → History
 untouched bytes = record { paths = []; past = []; file = settled bytes; next = settled [] }
 
--- the history after a write of a disk in memory, which leaves its part as it was where it fails
+-- the history after a write of a disk in memory, which leaves its part as it was if it fails
 abbrev pub after_write : History → ℕ → List ℕ → DiskDid → History
 after_write h at piece Done = moved_to
     (with_written (record { at = at; size = length piece }) (piece_put at piece h.file.bytes) h.file) h
@@ -42,7 +42,7 @@ abbrev pub after_sync_next : History → DiskDid → History
 after_sync_next h Done = with_next (settled h.next.bytes) h
 after_sync_next h Failed = h
 
--- the history after the next file was to take the place of the file, which stays as it was if that fails
+-- the history after the next file was to replace the file, which stays as it was if that fails
 abbrev pub after_replace : History → DiskDid → History
 after_replace h Done = replaced h
 after_replace h Failed = h
@@ -70,11 +70,11 @@ pub record Calls : Type 0 where
   pub first : List ℕ
   pub calls : Option (List DiskCall)
 
--- the history that it tells, where it has its calls
+-- the history that it shows, if it has its calls
 abbrev pub told_by : Calls → Option History
 told_by log = option_map (after_calls (untouched log.first)) log.calls
 
--- From some calls of a disk to later ones this one came, where they are told.
+-- From some calls of a disk to later ones this one was added, if they are shown.
 pub record GainsCall (call : DiskCall) (old new : Calls) : Type 0 where
   pub first : new.first ≡ old.first
   pub calls : Gains old.calls new.calls (call ∷ [])

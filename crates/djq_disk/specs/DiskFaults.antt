@@ -12,7 +12,7 @@ use Rattle.djq_disk.specs.declared.disk.DiskDid.TheVariants.{Done, Failed}
 use Rattle.djq_disk.specs.declared.filling.Filled.{Filled}
 use Rattle.djq_disk.specs.declared.filling.Filled.TheVariants.{Whole, Short, Failed as Unfilled}
 
--- A disk's count of faults rises where an open fails, and stays elsewhere;
+-- A disk's count of faults rises if an open fails, and else stays;
 abbrev pub CountsOpen : DiskOpen → ℕ → ℕ → Type 0
 CountsOpen Ready old new = new ≡ old
 CountsOpen Unopened old new = Counted old new
@@ -33,7 +33,7 @@ abbrev pub CountsDid : DiskDid → ℕ → ℕ → Type 0
 CountsDid Done old new = new ≡ old
 CountsDid Failed old new = Counted old new
 
--- and where a buffer is filled.
+-- and when a buffer is filled.
 abbrev pub CountsFill : Filled → ℕ → ℕ → Type 0
 CountsFill Whole old new = new ≡ old
 CountsFill Short old new = new ≡ old

@@ -19,7 +19,7 @@ pub record File : Type 0 where
   pub synced : ℕ
   pub written : List Span
 
--- A stop may leave these bytes of a file. Each byte that stood there at the last sync and is in no
+-- A crash may leave these bytes of a file. Each byte that was there at the last sync and is in no
 -- part that was written since is as it was; any other may be any, and so may the length from the
 -- synced one on.
 pub record IsImage (file : File) (image : List ℕ) : Type 0 where
@@ -39,11 +39,11 @@ IsSettled file = file ≡ settled file.bytes
 abbrev pub with_written : Span → List ℕ → File → File
 with_written span bytes file = record { bytes = bytes; synced = file.synced; written = file.written ++ span ∷ [] }
 
--- the bytes with a piece written at a place: what was before it, or zeros where nothing was
+-- the bytes with a piece written at a place: what was before it, or zeros if nothing was
 abbrev pub piece_put : ℕ → List ℕ → List ℕ → List ℕ
 piece_put at piece bytes = take at bytes ++ replicate (at - length bytes) 0 ++ piece ++ drop (at + length piece) bytes
 
--- From some bytes to others nothing is gone, and each outside a part is as it was.
+-- From some bytes to others nothing is lost, and each outside a part is as it was.
 pub record KeepsOutside (span : Span) (old new : List ℕ) : Type 0 where
   pub longer : length old ≤ length new
   pub same : (i : ℕ) → i < length old → IsOutsideSpan i span → slice_index_or new i 0 ≡ slice_index_or old i 0

@@ -11,7 +11,7 @@ FillsBuffer Whole at buf old new = (buf ≡ take (length buf) (drop at old.file.
 FillsBuffer Short at buf old new = (length old.file.bytes < at + length buf) × (new ≡ old)
 FillsBuffer Failed at buf old new = new ≡ old
 
--- a buffer that was filled ends at a place that a number names, told or not
+-- a buffer that was filled ends at a place that a number names, shown or not
 abbrev pub FillsWithin : Filled → ℕ → List ℕ → Type 0
 FillsWithin Whole at buf = at + length buf ≤ 18446744073709551615
 FillsWithin Short at buf = Unit {0}

@@ -1,4 +1,4 @@
--- What a disk went through, and what each of its calls does to that.
+-- The history of a disk, and what each of its calls does to it.
 use Rattle.std.specs.Prelude.{◌≡◌, ℕ, ◌+◌, ◌≤◌, ◌⊎◌, List, [], ◌∷◌, ◌++◌, length, take, drop, Option, IfSome, IsSomeAnd}
 use Rattle.std.specs.Prelude.{Bool, true}
 use Rattle.djq_disk.specs.File.{File, settled, with_written, piece_put, Torn}
@@ -11,23 +11,22 @@ use Rattle.djq_disk.specs.declared.disk.DiskRead.TheVariants.{Got, End, Failed a
 use Rattle.djq_disk.specs.declared.disk.DiskDid.{DiskDid}
 use Rattle.djq_disk.specs.declared.disk.DiskDid.TheVariants.{Done, Failed}
 
--- What a disk went through: the paths that were opened, the file as it was at each earlier moment,
--- the file as it is, and the next file, which is written beside it. Nothing of the next file counts
--- until it takes the place of the file.
+-- The history of a disk: the paths that were opened, the file as it was at each earlier moment, the
+-- file as it is, and the next file, which is written beside it. Nothing of the next file counts until
+-- it replaces the file.
 --
--- A moment comes with each write, and with each sync that was done. Within a call there is no
--- further one, and none is wanting: a write marks its part as written, so that what a stop leaves in
--- its middle is among the images behind it, and what one leaves in the middle of a sync is among
--- those before it. So it is when the next file takes the place of the file: what a crash leaves in the
--- middle is an image of one of both.
+-- Each write adds a moment, and each sync that was done. Within a call there is no further one, and
+-- none is wanting: a write marks its part as written, so that what a crash leaves in its middle is
+-- among the images after it, and what one leaves in the middle of a sync is among those before it. So
+-- it is when the next file replaces the file: what a crash leaves in the middle is an image of one of
+-- both.
 pub record History : Type 0 where
   pub paths : List (List ℕ)
   pub past : List File
   pub file : File
   pub next : File
 
--- where a history is told as the later state comes, it was told in the earlier one, and this holds
--- of both
+-- if the later state shows a history, the earlier one showed it, and this holds of both
 abbrev pub WhereHistoryTold : Option History → Option History → (History → History → Type 0) → Type 0
 WhereHistoryTold old new P = IfSome new (λ n. IsSomeAnd old (λ o. P o n))
 
@@ -39,7 +38,7 @@ moved_to file h = record { paths = h.paths; past = h.past ++ h.file ∷ []; file
 abbrev pub with_next : File → History → History
 with_next file h = record { paths = h.paths; past = h.past; file = h.file; next = file }
 
--- the history a moment later, once the next file has taken the place of the file
+-- the history a moment later, once the next file has replaced the file
 abbrev pub replaced : History → History
 replaced h = with_next (settled []) (moved_to h.next h)
 
@@ -47,7 +46,7 @@ replaced h = with_next (settled []) (moved_to h.next h)
 abbrev pub OpensPath : List ℕ → History → History → Type 0
 OpensPath path old new = new ≡ record old { paths = old.paths ++ path ∷ [] }
 
--- The file is open behind an open that was ready. One that failed leaves it open or not, as it was.
+-- The file is open after an open that was ready. One that failed leaves it open or not, as it was.
 abbrev pub Opens : DiskOpen → Bool → Bool → Type 0
 Opens Ready old new = new ≡ true
 Opens Unopened old new = new ≡ old
@@ -57,8 +56,8 @@ abbrev pub Sizes : DiskLen → History → History → Type 0
 Sizes (Len n) old new = (n ≡ length old.file.bytes) × (new ≡ old)
 Sizes Unmeasured old new = new ≡ old
 
--- A read at a place of a file of these bytes gives those that stand there, or the end exactly where
--- none do.
+-- A read at a place of a file of these bytes gives those that are there, or the end if and only if
+-- none are.
 abbrev pub IsPart : DiskRead → ℕ → List ℕ → List ℕ → Type 0
 IsPart (Got n) at buf bytes = (at + n ≤ length bytes) × (take n buf ≡ take n (drop at bytes))
 IsPart End at buf bytes = length bytes ≤ at
@@ -68,7 +67,7 @@ IsPart Unread at buf bytes = Unit {0}
 abbrev pub DiskReads : DiskRead → ℕ → List ℕ → History → History → Type 0
 DiskReads answer at buf old new = IsPart answer at buf old.file.bytes × (new ≡ old)
 
--- What a read may give, told or not: at least one byte, at most as many as the buffer has room for,
+-- What a read may give, shown or not: at least one byte, at most as many as the buffer has room for,
 -- and none past the last place that a number names.
 abbrev pub FitsRead : DiskRead → ℕ → List ℕ → Type 0
 FitsRead (Got n) at buf = (1 ≤ n) × (n ≤ length buf) × (at + n ≤ 18446744073709551615)
@@ -109,7 +108,7 @@ abbrev pub SyncsNext : DiskDid → History → History → Type 0
 SyncsNext Done old new = new ≡ with_next (settled old.next.bytes) old
 SyncsNext Failed old new = new ≡ old
 
--- The next file takes the place of the file. After a call that failed either of both may have it.
+-- The next file replaces the file. After a call that failed either of both may have its place.
 abbrev pub Replaces : DiskDid → History → History → Type 0
 Replaces Done old new = new ≡ replaced old
 Replaces Failed old new = (new ≡ old) ⊎ (new ≡ replaced old)

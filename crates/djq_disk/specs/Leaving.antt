@@ -12,9 +12,8 @@ use Rattle.djq_disk.specs.declared.disk.DiskDid.{DiskDid}
 abbrev pub LeavesOnly : (List ℕ → Type 0) → File → Type 0
 LeavesOnly P file = (image : List ℕ) → IsImage file image → P image
 
--- At each moment from an earlier history to a later one, the later one's file among them, a stop
--- leaves only what has P. The moment of the earlier one is among them where anything was written
--- or synced since.
+-- At each moment from an earlier history to a later one, the later one's file among them, a crash leaves only
+-- what has P. The moment of the earlier one is among them if anything was written or synced since.
 pub record LeavesSince (P : List ℕ → Type 0) (old new : History) : Type 0 where
   pub more : List File
   pub past : new.past ≡ old.past ++ more
@@ -30,7 +29,7 @@ ReadsAsImage file = IsImage file file.bytes
 abbrev pub StayImages : History → History → Type 0
 StayImages old new = (ReadsAsImage old.file → ReadsAsImage new.file) × (ReadsAsImage old.next → ReadsAsImage new.next)
 
--- So it is in each call of a disk, whatever it answers. If the next file takes the place of the file, its images
+-- So it is in each call of a disk, whatever it answers. If the next file replaces the file, its images
 -- are those of the file from then on, so both have to read as theirs before.
 pub record StaysAnImage : Type 0 where
   pub opening : (path : List ℕ) (old new : History) → OpensPath path old new → StayImages old new

@@ -6,7 +6,7 @@ use Rattle.djq_disk.specs.CallLog.{Calls}
 use Rattle.djq_disk.specs.declared.disk.DiskDid.{DiskDid}
 use Rattle.djq_disk.specs.declared.disk.DiskDid.TheVariants.{Done, Failed}
 
--- A disk in memory: its calls, and those to come that are to fail.
+-- A disk in memory: its calls, and the later ones that are to fail.
 pub record MemDiskInside : Type 0 where
   pub log : Calls
   pub to_fail : List ℕ

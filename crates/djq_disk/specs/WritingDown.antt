@@ -6,9 +6,9 @@ use Rattle.djq_disk.specs.Leaving.{LeavesSince}
 use Rattle.djq_disk.specs.declared.disk.DiskDid.{DiskDid}
 use Rattle.djq_disk.specs.declared.disk.DiskDid.TheVariants.{Done}
 
--- A piece is written at a place and synced. Where all was synced before, at each moment a stop
--- leaves everything outside the piece's part, whatever the write and the sync answer; and once
--- both were done, the file has the piece and all is synced. The next file is as it was.
+-- A piece is written at a place and synced. If all was synced before, at each moment a crash leaves
+-- everything outside the piece's part, whatever the write and the sync answer; and once both were
+-- done, the file has the piece and all is synced. The next file is as it was.
 pub record WritesDown (did : DiskDid) (at : ℕ) (piece : List ℕ) (old new : History) : Type 0 where
   pub paths : new.paths ≡ old.paths
   pub next : new.next ≡ old.next

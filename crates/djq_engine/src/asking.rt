@@ -18,7 +18,7 @@ use djq_tree::Lines;
 
 impl Engine {
     /// A registered query. Its tables are those of its tree over the rows as they are: they determine which
-    /// tuples are its answers. Its cursors stand where those of the engine do.
+    /// tuples are its answers. Its cursors are as far as those of the engine.
     pub fn live(&self, id: QueryId) -> &LiveQuery
         requires { IsRegistered self.now id }
         ensures { LendsQuery self.now id result.now }
@@ -29,12 +29,12 @@ impl Engine {
         }
     }
 
-    /// Whether a tuple is an answer of a query. It takes no memory, and counts at most one lookup
+    /// Whether a tuple is an answer of a query. It needs no memory, and counts at most one lookup
     /// for each atom.
     ///
     /// # Errors
     ///
-    /// `NoQuery` where none has the name; `Arity` and `WrongType` where the tuple doesn't suit the
+    /// `NoQuery` if none has the name; `Arity` and `WrongType` if the tuple doesn't suit the
     /// query's answers.
     pub fn has<L: Ledgers>(
         &self,
@@ -62,7 +62,7 @@ impl Engine {
     ///
     /// # Errors
     ///
-    /// `NoQuery` where none has the name; `NoMemory` out of memory.
+    /// `NoQuery` if none has the name; `NoMemory` out of memory.
     pub fn explain(&self, query: &Name) -> Result<Lines, Refusal>
         ensures { QueryExplainGives self.now.store query.now result }
     {
@@ -78,12 +78,12 @@ impl Engine {
         }
     }
 
-    /// What bounds an update of a query: `Flat` exactly where the query is flat, and then it is the
-    /// same whatever the rows.
+    /// What bounds an update of a query: `Flat` if and only if the query is flat, and then it is the same
+    /// whatever the rows.
     ///
     /// # Errors
     ///
-    /// `NoQuery` where none has the name. It takes no memory.
+    /// `NoQuery` if none has the name. It needs no memory.
     pub fn shape(&self, query: &Name) -> Result<Shape, Refusal>
         ensures { TellsShape self.now.store query.now result }
     {

@@ -163,8 +163,8 @@ fn change_queries<L: Ledgers>(
     )
 }
 
-/// Inserts the rows of a judged net that come and deletes those that go, in the catalog and in the queries that read
-/// their relations; the other rows that lines name get the copies that these leave of them.
+/// Inserts the new rows of a judged net and deletes the others, in the catalog and in the queries that read their
+/// relations; the other rows that lines name get the copies that these leave of them.
 ///
 /// # Errors
 ///
@@ -210,7 +210,7 @@ fn change_rows<L: Ledgers>(
     Ok(())
 }
 
-/// Carries out the lines of a transaction that have passed: all memory that this takes but that of the queries is there
+/// Carries out the lines of a transaction that have passed: all memory that this needs but that of the queries is there
 /// before any row changes.
 ///
 /// # Errors

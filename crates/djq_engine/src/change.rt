@@ -41,12 +41,12 @@ fn for_text(refusal: InternRefusal) -> AddRefusal
     }
 }
 
-/// Adds a row by its cells, or a copy of it where it is there. The queries that read the relation take
-/// in a row that came.
+/// Adds a row by its cells, or a copy of it if it is there. A new row is inserted into the queries
+/// that read the relation.
 ///
 /// # Errors
 ///
-/// `Full` where there is no place for one more; `NoMem` out of memory, and no row has changed.
+/// `Full` if there is no place for one more; `NoMem` out of memory, and no row has changed.
 fn put_cells<L: Ledgers>(
     parts: &mut Parts,
     id: RelationId,
@@ -114,13 +114,13 @@ fn put_cells<L: Ledgers>(
     }
 }
 
-/// Adds a row that suits a relation, or a copy of it where it is there. Where it isn't, its texts
-/// become known.
+/// Adds a row that suits a relation, or a copy of it if it is there. If it isn't, its texts become
+/// known.
 ///
 /// # Errors
 ///
-/// `Full` where the row has as many copies as there may be, or where a text is unknown and as many are
-/// known as may be; `NoMem` out of memory, and then cursors over the relation are to be outdated.
+/// `Full` if the row has as many copies as there may be, or if a text is unknown and as many are known
+/// as may be; `NoMem` out of memory, and then cursors over the relation are to be outdated.
 pub fn put_row<L: Ledgers>(
     parts: &mut Parts,
     id: RelationId,
@@ -168,8 +168,8 @@ pub fn put_row<L: Ledgers>(
     put_cells(parts, id, cells.as_slice(), steps)
 }
 
-/// Deletes a copy of a row by its cells, and the row with its last one. The queries that read the
-/// relation let out a row that went. It takes no memory but the logs'.
+/// Deletes a copy of a row by its cells, and the row with its last one. Then it is deleted from the
+/// queries that read the relation. It needs no memory but the logs'.
 pub fn drop_cells<L: Ledgers>(
     parts: &mut Parts,
     id: RelationId,

@@ -70,7 +70,7 @@ impl Engine {
         self.parts.seq
     }
 
-    /// The number of rows of a relation, 0 where there is none of the name.
+    /// The number of rows of a relation, 0 if there is none of the name.
     pub fn rows(&self, name: &Name) -> u64
         ensures { result ≡ length (rows_of self.now.store.relations name.now) }
     {
@@ -94,8 +94,7 @@ impl Engine {
         row_total(&self.parts.catalog)
     }
 
-    /// The queries in their places: that of an id stands in its place, and a place without one is
-    /// vacant.
+    /// The queries in their places, each at the place of its id; a place without one is vacant.
     pub fn places(&self) -> &[Option<LiveQuery>]
         ensures { result.now ≡ self.now.places }
     {

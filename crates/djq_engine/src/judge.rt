@@ -15,7 +15,7 @@ use djq_protocol::Refusal;
 use djq_protocol::limits::{LAST_SEQ, ROWS};
 use std::sync::ledger::Ledger;
 
-/// The relation of a name, where a row suits its columns.
+/// The relation of a name, if a row suits its columns.
 ///
 /// # Errors
 ///
@@ -59,8 +59,8 @@ fn is_there<L: Ledger>(
     }
 }
 
-/// The relation to which a row may be added, unless it has as many copies as there may be. Where no
-/// row may come, a further copy of one may.
+/// The relation to which a row may be added, unless it has as many copies as there may be. If no row
+/// may be added, a further copy of one may.
 ///
 /// # Errors
 ///
@@ -86,8 +86,8 @@ pub fn check_add<L: Ledger>(
     Ok(id)
 }
 
-/// The relation of a row of which a copy may be deleted, where it is there, and its cells, which are
-/// written; none where a text of it isn't known, so that it isn't.
+/// The relation of a row of which a copy may be deleted, if it is there, and its cells, which are
+/// written; none if a text of it isn't known, so that it isn't.
 ///
 /// # Errors
 ///

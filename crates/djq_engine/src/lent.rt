@@ -7,7 +7,7 @@ use djq_model::{Answered, ValueRef};
 use djq_reduct::Answer;
 use std::marker::Model;
 
-/// An answer that is lent as its values, in the head's order, or one that went. Contracts see the tuple of them.
+/// An answer that is lent as its values, in the head's order, or one that was removed. Contracts see the tuple of them.
 #[derive(Drop)]
 pub struct LentAnswer<'a> {
     catalog: &'a Catalog,
@@ -29,7 +29,7 @@ impl<'a> Model for LentAnswer<'a> {
 }
 
 impl<'a> LentAnswer<'a> {
-    /// An answer of a query that is kept over a catalog, or one that went.
+    /// An answer of a query that is live over a catalog, or one that was removed.
     pub(crate) fn new(
         catalog: &'a Catalog,
         query: &'a LiveQuery,

@@ -1,4 +1,4 @@
-//! Queries that read relations of held lines: their logs and their cursors, where these rows change
+//! Queries that read relations of held lines: their logs and their cursors, if these rows change
 //! something or memory lacks for them.
 ghost use Rattle.std.specs.Prelude.{◌≡◌, ◌<◌, ◌≤◌, ℕ, List, Option, true, All, IsSome};
 ghost use Rattle.std.specs.Prelude.{length, filter, vec_capacity};
@@ -138,7 +138,7 @@ fn is_reached(readers: &Vec<QueryPlaces>, groups: &[Group], place: usize) -> boo
     false
 }
 
-/// The queries that read a relation of the groups that come or of those that go are the affected ones
+/// The queries that read a relation of the groups that are inserted or deleted are the affected ones
 /// from now on, in this order.
 pub fn affect_reached(
     affected: &mut Vec<usize>,
@@ -162,8 +162,8 @@ pub fn affect_reached(
     }
 }
 
-/// Memory lacks for these rows: of the queries that read a relation of them nothing is told, and their
-/// open cursors become stale, by a change of the present number.
+/// Memory lacks for these rows: the logs of the queries that read a relation of them are empty, and
+/// their open cursors become stale, by a change of the present number.
 pub fn give_up(parts: &mut Parts, held: &Transaction)
     requires readers { AreReaders parts.old.catalog.relations parts.old.readers.items
         parts.old.queries.items }

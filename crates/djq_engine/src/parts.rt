@@ -4,7 +4,7 @@ use djq_live_query::LiveQuery;
 use djq_reach::QueryPlaces;
 use std::alloc::Global;
 
-/// What an engine keeps.
+/// The parts of an engine.
 #[derive(Drop)]
 pub struct Parts {
     pub alloc: Global,
@@ -12,7 +12,7 @@ pub struct Parts {
     pub catalog: Catalog,
     /// For each relation the places of the queries that read it, in order of registration.
     pub readers: Vec<QueryPlaces>,
-    /// A place keeps its query until that is dropped, and is vacant then.
+    /// A place has its query until that is dropped, and is vacant then.
     pub queries: Vec<Option<LiveQuery>>,
     /// For each place how many sessions watch its query.
     pub watchers: Vec<u32>,

@@ -27,7 +27,7 @@ pub fn find_query(queries: &[Option<LiveQuery>], name: &Name) -> Option<usize>
     queries.iter().position(|place| is_named(place, name))
 }
 
-/// A place where no query is registered, which is made where there is none, unwatched and with an
+/// A place without a query, which is made if there is none, unwatched and with an
 /// empty log.
 ///
 /// # Errors
@@ -63,14 +63,14 @@ pub fn vacant_place(
     Ok(at)
 }
 
-/// Where a place stands in a list of places.
+/// The index of a place in a list of places.
 fn find_place(places: &[usize], at: usize) -> Option<usize>
     ensures { result ≡ position (λ i. i == at) places.now }
 {
     places.iter().position(|place| *place == at)
 }
 
-/// Takes a place out of a list of different places.
+/// Removes a place from a list of different places.
 pub fn leave_out(places: &mut QueryPlaces, at: usize)
     requires { AreOnce places.old }
     ensures { places.new ≡ places_without at places.old }
@@ -80,7 +80,7 @@ pub fn leave_out(places: &mut QueryPlaces, at: usize)
     }
 }
 
-/// Takes a place out of a list of affected ones.
+/// Removes a place from a list of affected ones.
 pub fn unaffect(places: &mut Vec<usize>, at: usize)
     ensures items { places.new.items ≡ places_without at places.old.items }
     ensures room { vec_capacity places.new ≡ vec_capacity places.old }
@@ -88,7 +88,7 @@ pub fn unaffect(places: &mut Vec<usize>, at: usize)
     places.retain(|place| *place != at);
 }
 
-/// Takes a place out of all of these lists of different places.
+/// Removes a place from all of these lists of different places.
 pub fn leave_all(lists: &mut Vec<QueryPlaces>, at: usize)
     requires { AllOnce lists.old.items }
     ensures { LeavesAll at lists.old.items lists.new.items }

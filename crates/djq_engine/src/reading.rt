@@ -56,7 +56,7 @@ fn next_at<L: Ledgers>(
     }
 }
 
-/// Tells whether an answer is left for one.
+/// Whether an answer is left for one.
 fn more_at<L: Ledgers>(
     queries: &mut Vec<Option<LiveQuery>>,
     at: usize,
@@ -78,7 +78,7 @@ impl Engine {
     ///
     /// # Errors
     ///
-    /// `NoQuery` where none has the name; `NoMemory` out of memory. Nothing has changed.
+    /// `NoQuery` if none has the name; `NoMemory` out of memory. Nothing has changed.
     pub fn open(&mut self, query: &Name) -> Result<CursorId, Refusal>
         ensures gives { CursorOpenGives self.old query.now result self.new }
         ensures places { KeepsTables self.old self.new }
@@ -95,7 +95,7 @@ impl Engine {
         })
     }
 
-    /// Gives up an open cursor. Its id may come again from [`open`](Engine::open).
+    /// Closes an open cursor. Its id may be used again by [`open`](Engine::open).
     pub fn close(&mut self, id: CursorId)
         requires { IsHeld self.old id }
         ensures closes { ClosesCursor self.old id self.new }
@@ -105,7 +105,7 @@ impl Engine {
     }
 
     /// Reads an open cursor: gives a further answer, or reports that none is left, or what made it
-    /// stale. It takes no memory.
+    /// stale. It needs no memory.
     pub fn next<L: Ledgers>(
         &mut self,
         id: CursorId,
@@ -125,8 +125,8 @@ impl Engine {
         )
     }
 
-    /// Whether a further answer is left for a cursor that isn't stale; where none is, it stands at
-    /// its end. It takes no memory.
+    /// Whether a further answer is left for a cursor that isn't stale; if none is, it is at its
+    /// end. It needs no memory.
     pub fn more<L: Ledgers>(&mut self, id: CursorId, listing: &mut Tally<Listing<L>>) -> bool
         requires { IsFresh self.old id }
         ensures gives { MoreGives self.old id result self.new listing.old listing.new }

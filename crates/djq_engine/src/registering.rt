@@ -35,7 +35,7 @@ fn reads(query: &Query, relation: &Name) -> bool
         .any(|atom| atom.relation == *relation)
 }
 
-/// A place comes last in a list, or it doesn't.
+/// Appends a place to a list if it is to be there.
 fn join(list: &mut QueryPlaces, joins: bool, at: usize) -> Result<(), NoMem>
     ensures ok { OnOk result (list.new ≡ (if joins then list.old ++ at ∷ [] else list.old)) }
     ensures err { OnErr result (list.new ≡ list.old) }
@@ -46,7 +46,7 @@ fn join(list: &mut QueryPlaces, joins: bool, at: usize) -> Result<(), NoMem>
     Ok(())
 }
 
-/// A place comes last among the readers of each relation that a query reads.
+/// Appends a place to the readers of each relation that a query reads.
 fn join_readers(
     lists: &mut Vec<QueryPlaces>,
     catalog: &Catalog,
@@ -68,8 +68,8 @@ fn join_readers(
     Ok(())
 }
 
-/// Puts a query in a vacant place, behind the others in order and behind the readers of its
-/// relations; or changes nothing that is seen, out of memory.
+/// Puts a query in a vacant place, after the others in order and after the readers of its relations;
+/// or changes nothing that is seen, out of memory.
 fn register(parts: &mut Parts, query: LiveQuery) -> Result<(), NoMem>
     requires whole { EngineIsWhole parts.old }
     requires tended { IsTended parts.old }
@@ -132,23 +132,23 @@ fn is_idle(queries: &[Option<LiveQuery>], at: usize) -> bool
 }
 
 impl Engine {
-    /// Why a query isn't registered, whatever its hypergraph is: its name is taken, it has a fault, or
-    /// there are as many queries as may be.
+    /// Why a query isn't registered, whatever its hypergraph is: its name is in use, it has a fault,
+    /// or there are as many queries as may be.
     pub fn query_fault(&self, query: &Query) -> Option<Refusal>
         ensures { result ≡ query_refusal self.now.store query.now }
     {
         judge_query(&self.parts, query)
     }
 
-    /// Registers a free-connex query, and tells how many lookups and links one of its answers takes
-    /// at most; or tells a rest that shows why the query isn't free-connex.
+    /// Registers a free-connex query, and returns how many lookups and links one of its answers costs
+    /// at most; or returns a rest that shows why the query isn't free-connex.
     ///
     /// # Errors
     ///
-    /// `Taken` where a query has the name; the first fault that the query has; `Limit` at
-    /// [`QUERIES`](djq_protocol::limits::QUERIES) queries, or where a text of a free-connex query is
-    /// unknown and as many are known as may be; `NoMemory` out of memory. Texts that became known
-    /// stay so, and nothing else has changed.
+    /// `Taken` if a query has the name; the first fault that the query has; `Limit` at
+    /// [`QUERIES`](djq_protocol::limits::QUERIES) queries, or if a text of a free-connex query is
+    /// unknown and as many are known as may be; `NoMemory` out of memory. Texts that became known stay
+    /// so, and nothing else has changed.
     pub fn query<L: Ledgers>(
         &mut self,
         query: Query,
@@ -195,11 +195,11 @@ impl Engine {
     }
 
     /// Drops a query: it is registered no more. The ids of other queries and of their cursors stay.
-    /// It takes no memory.
+    /// It needs no memory.
     ///
     /// # Errors
     ///
-    /// `NoQuery` where none has the name; `InUse` where a cursor is over it, stale or not, or a
+    /// `NoQuery` if none has the name; `InUse` if a cursor is over it, stale or not, or a
     /// session watches it. Nothing has changed.
     pub fn drop_query(&mut self, query: &Name) -> Result<(), Refusal>
         ensures gives { DropGives self.old query.now result self.new }

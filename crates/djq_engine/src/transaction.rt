@@ -59,7 +59,7 @@ fn refuse(parts: &mut Parts, held: &Transaction, refusal: DoneRefusal)
 }
 
 impl Engine {
-    /// Whether a row suits a relation, and so a line that inserts or deletes it may be held. It takes no memory.
+    /// Whether a row suits a relation, and so a line that inserts or deletes it may be held. It needs no memory.
     ///
     /// # Errors
     ///
@@ -82,8 +82,8 @@ impl Engine {
     ///
     /// # Errors
     ///
-    /// `OtherNumber` exactly if `done` names another number than that of the lines; else `Line` with the first line that
-    /// has a refusal; else `LastChange` exactly if rows would be inserted or deleted at the last number of changes. Out
+    /// `OtherNumber` if `done` names another number than that of the lines; else `Line` with the first line that
+    /// has a refusal; else `LastChange` if rows would be inserted or deleted at the last number of changes. Out
     /// of memory `Line` with `NoMemory`, or `NoMemory` once all lines have passed: cursors over a query are then stale by
     /// the first relation that lines name and the query reads, and it has no delta. A refused transaction changes no
     /// row; the texts of lines that passed stay known.

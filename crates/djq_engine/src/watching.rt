@@ -16,7 +16,7 @@ use djq_model::Name;
 use djq_protocol::Sign;
 use djq_reduct::Cells;
 
-/// Whether an answer came or went.
+/// Whether an answer was added or removed.
 pub fn sign_of(came: bool) -> Sign
     ensures { result ≡ sign_of came }
 {
@@ -35,7 +35,7 @@ fn line_at(log: &DeltaLog, nth: usize) -> &Line
 pub const WATCHERS: u32 = 4_294_967_295;
 
 impl Engine {
-    /// The id of a query. `None` exactly where no query has the name.
+    /// The id of a query. `None` if no query has the name.
     pub fn query_id(&self, name: &Name) -> Option<QueryId>
         ensures { result ≡ option_map (λ r. r.id) (registered_of self.now.registered name.now) }
     {
@@ -63,8 +63,8 @@ impl Engine {
         let _parts = &self.parts;
     }
 
-    /// One more watches a query: a session, or a union for those that watch it. Its changes are told
-    /// from now on. It takes no memory.
+    /// One more watches a query: a session, or a union for those that watch it. Its changes are
+    /// listed from now on. It needs no memory.
     pub fn watch(&mut self, id: QueryId)
         requires registered { IsRegistered self.old id }
         requires few { IsSomeAnd (registered_at self.old.registered id)
@@ -76,7 +76,7 @@ impl Engine {
         self.parts.watchers[id.at] += 1;
     }
 
-    /// One that watched a query does so no more. It takes no memory.
+    /// One that watched a query does so no more. It needs no memory.
     pub fn unwatch(&mut self, id: QueryId)
         requires { IsSomeAnd (registered_at self.old.registered id) (λ r. 0 < r.watchers) }
         ensures { self.new ≡ record self.old {
@@ -111,9 +111,9 @@ impl Engine {
         }
     }
 
-    /// How many answers of a query came or went with the last change of a relation that it reads,
-    /// while it was watched; 0 once a row was refused there for want of memory. `None` where that
-    /// was lost for want of memory.
+    /// How many answers of a query were added or removed by the last change of a relation that it
+    /// reads, while it was watched; 0 once a row was refused there for want of memory. `None` if
+    /// that was lost for want of memory.
     pub fn delta_len(&self, id: QueryId) -> Option<usize>
         requires { IsRegistered self.now id }
         ensures { result ≡ option_map (λ changes. length changes) (told_at self.now id) }
@@ -125,7 +125,7 @@ impl Engine {
         Some(log.lines().len())
     }
 
-    /// One of them: whether it came or went, and the answer, lent.
+    /// One of them: whether it was added or removed, and the answer, lent.
     pub fn delta_line(&self, id: QueryId, nth: usize) -> (Sign, LentAnswer<'_>)
         requires registered { IsRegistered self.now id }
         requires within { IsSomeAnd (told_at self.now id) (λ changes. nth < length changes) }
@@ -142,7 +142,7 @@ impl Engine {
         }
     }
 
-    /// One of them, as cells in the order of the query's head: whether it came.
+    /// One of them, as cells in the order of the query's head: whether it was added.
     pub fn delta_cells(&self, id: QueryId, nth: usize, cells: &mut Cells) -> bool
         requires registered { IsRegistered self.now id }
         requires within { IsSomeAnd (told_at self.now id) (λ changes. nth < length changes) }

@@ -11,7 +11,7 @@ use Rattle.djq_reduct.specs.Answers.{IsAnswerOf, on_node}
 abbrev pub IsMarkedAt : List Table → ℕ → List ℕ → Type 0
 IsMarkedAt ts j u = 0 < count_of (marks (entries_at ts j)) u
 
--- where the path from the leaf a enters `out`
+-- the node at which the path from the leaf a enters `out`
 abbrev pub entry_node : Reducts → ℕ → ℕ
 entry_node r a = path_at r.tree.nodes a r.tree.second_stage
 

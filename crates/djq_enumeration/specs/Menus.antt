@@ -7,7 +7,7 @@ abbrev pub has_tuple : List (List ℕ) → List ℕ → Bool
 has_tuple [] u = false
 has_tuple (x ∷ xs) u = same x u || has_tuple xs u
 
--- no tuple stands twice
+-- no tuple occurs twice
 abbrev pub TuplesOnce : List (List ℕ) → Type 0
 TuplesOnce [] = ⊤
 TuplesOnce (x ∷ xs) = (has_tuple xs x ≡ false) × TuplesOnce xs
@@ -17,7 +17,7 @@ abbrev pub tuples_ahead : List (List ℕ) → List ℕ → List (List ℕ)
 tuples_ahead [] u = []
 tuples_ahead (x ∷ xs) u = cond (same x u) [] (x ∷ tuples_ahead xs u)
 
--- the tuples behind one; none where it isn't there
+-- the tuples after one; none if it isn't there
 abbrev pub tuples_behind : List (List ℕ) → List ℕ → List (List ℕ)
 tuples_behind [] u = []
 tuples_behind (x ∷ xs) u = cond (same x u) xs (tuples_behind xs u)

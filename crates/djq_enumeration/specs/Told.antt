@@ -36,12 +36,12 @@ changed_at r k w =
     let g = group_of (key_at r.tables (source r.tree k)) (entries_at r.tables (source r.tree k)) w in
     map (λ e. e.tuple) (reverse (marked_or (marks g) g))
 
--- the tuple before a marked one is kept only if it is marked, too
+-- the tuple before a marked one stays only if it is marked, too
 abbrev pub kept : Option Place → Bool → Bool → Option Place
 kept None here before = None
 kept (Some q) here before = cond (here && not before) None (Some q)
 
--- whether there is any answer to tell: the root's empty tuple is marked
+-- whether there is any answer to list: the root's empty tuple is marked
 unfoldable pub root_marked : Reducts → Bool
 root_marked r = nat_lt 0 (count_of (marks (entries_at r.tables (length r.tree.nodes - 1))) [])
 

@@ -1,4 +1,4 @@
--- A listing goes through the levels of a tree from the highest one down. At each level it chooses a
+-- A listing walks the levels of a tree from the highest one down. At each level it chooses a
 -- tuple from a menu, which is known by the level and by the cells of its label, and these were
 -- chosen above.
 use Rattle.std.specs.Prelude.{
@@ -33,7 +33,7 @@ use Rattle.djq_enumeration.specs.Levels.{IsLevel, IsNextLevel, source, tuple_at,
 abbrev pub Menu : Type 0
 Menu = ℕ → List ℕ → List (List ℕ)
 
--- the menu of a level, where the answer is known so far
+-- the menu of a level, if the answer is known so far
 abbrev pub menu_at : Tree → Menu → ℕ → List ℕ → List (List ℕ)
 menu_at t menu k s = menu k (on_node t k s)
 
@@ -64,7 +64,7 @@ abbrev pub reached_level : ℕ → List Choice → ℕ
 reached_level n [] = n
 reached_level n (c ∷ cs) = reached_level c.level cs
 
--- these choices go through the levels below n: each is a live place, whose tuple is on the menu
+-- these choices are of the levels below n: each is a live place, whose tuple is on the menu
 abbrev pub GoesThrough : Reducts → Menu → ℕ → List ℕ → List Choice → Type 0
 GoesThrough r menu n s [] = ⊤
 GoesThrough r menu n s (c ∷ cs) =
@@ -95,11 +95,11 @@ ahead_of r menu cs = answers_ahead r menu (blank r.tree) cs
 abbrev pub menu_answers : Tree → Menu → List (List ℕ)
 menu_answers t menu = leaves t menu (levels t) (blank t)
 
--- the choices go down from the root, as far as they come
+-- the choices are of the levels from the root down, as far as they reach
 abbrev pub Descends : Reducts → Menu → List Choice → Type 0
 Descends r menu cs = GoesThrough r menu (length r.tree.nodes) (blank r.tree) cs
 
--- the choices come to the end: no level is left below them
+-- the choices reach the end: no level is left below them
 abbrev pub IsComplete : Reducts → List Choice → Type 0
 IsComplete r cs = levels_below r.tree (reached_level (length r.tree.nodes) cs) ≡ []
 
@@ -118,8 +118,8 @@ pub record ProjectAlike (t : Tree) (k : ℕ) (s a : List ℕ) : Type 0 where
   pub below : (i j : ℕ) → k ≤ i → has_child (node_at t.nodes i) j ≡ true
       → on_node t j s ≡ on_node t j a
 
--- the choices go down from the root, and the answer is what they make as far as they come; whatever
--- cells it has elsewhere
+-- the choices are of the levels from the root down, and the answer is what they make as far as they
+-- reach; whatever cells it has elsewhere
 pub record ChoicesStand (r : Reducts) (menu : Menu) (cs : List Choice) (a : List ℕ) : Type 0 where
   pub follows : Descends r menu cs
   pub wide : length a ≡ length r.tree.head
@@ -130,8 +130,8 @@ abbrev pub AreGroupMenus : Reducts → Menu → Type 0
 AreGroupMenus r menu = (k : ℕ) (w u : List ℕ) → has_tuple (menu k w) u ≡ true
     → has_tuple (group_at r k w) u ≡ true
 
--- what is known of menus: they are parts of groups, none has a tuple twice, and where the listing
--- may be entered none is empty
+-- what is known of menus: they are parts of groups, none has a tuple twice, and if the listing may
+-- be entered none is empty
 pub record IsClear (r : Reducts) (menu : Menu) (entered : Bool) : Type 0 where
   pub group : AreGroupMenus r menu
   pub once : (k : ℕ) (w : List ℕ) → TuplesOnce (menu k w)
@@ -141,7 +141,7 @@ pub record IsClear (r : Reducts) (menu : Menu) (entered : Bool) : Type 0 where
 abbrev pub all_given : Reducts → Menu → Bool → List (List ℕ)
 all_given r menu entered = cond entered (menu_answers r.tree menu) []
 
--- behind these answers there is a next one
+-- after these answers there is a next one
 pub record HasNext (given all : List (List ℕ)) : Type 0 where
   pub next : List ℕ
   pub rest : List (List ℕ)

@@ -26,7 +26,7 @@ pub trait Choices {
         ensures entered { result ≡ entered self.now reducts.now }
         ensures counted { listing.new ≡ listing.old + 1 };
 
-    /// The first tuple to choose at a level; none exactly where there is none. It counts one
+    /// The first tuple to choose at a level; none if there is none. It counts one
     /// lookup.
     fn first<L: Ledger>(
         &self,
@@ -42,7 +42,7 @@ pub trait Choices {
         ensures none { IfNone result (menu self.now reducts.now level key.now ≡ []) }
         ensures counted { listing.new ≡ listing.old + 1 };
 
-    /// The tuple behind a chosen one; none exactly where it is the last. It counts one link.
+    /// The tuple after a chosen one; none if it is the last. It counts one link.
     fn next<L: Ledger>(
         &self,
         reducts: &Reducts,

@@ -13,7 +13,7 @@ use djq_counters::Tally;
 use djq_reduct::{Answer, Reducts};
 use std::sync::ledger::Ledger;
 
-/// How far a cursor has come.
+/// The state of a cursor.
 #[derive(Clone, Copy, PartialEq, Eq, Debug)]
 pub enum State {
     /// Nothing was given.
@@ -24,9 +24,9 @@ pub enum State {
     End,
 }
 
-/// A listing of the answers that reducts have, on its way. It takes no memory but its own.
+/// A listing in progress of the answers that reducts have. It needs no memory but its own.
 ///
-/// A cursor goes with reducts only as long as nothing changes them. It doesn't notice a change: a
+/// A cursor fits reducts only as long as nothing changes them. It doesn't notice a change: a
 /// caller starts anew.
 #[derive(Debug, Drop)]
 pub struct Cursor {
@@ -49,9 +49,9 @@ impl Cursor {
         }
     }
 
-    /// Goes on to one answer that is left, which the cursor holds then, and says so; false exactly
-    /// where none is. Each call counts at most two lookups and links for each variable of the head,
-    /// and one.
+    /// Moves to one answer that is left, which the cursor holds then, and returns true; false if
+    /// none is. Each call counts at most two lookups and links for each variable of the head, and
+    /// one.
     pub fn step<L: Ledger>(&mut self, reducts: &Reducts, listing: &mut Tally<L>) -> bool
         requires { Fits reducts.now self.old }
         ensures fits { Fits reducts.now self.new }
@@ -67,7 +67,7 @@ impl Cursor {
         advance_by(&Whole, reducts, self, listing)
     }
 
-    /// Gives one answer that is left, and says so; false exactly where none is. It is a
+    /// Gives one answer that is left, and returns true; false if none is. It is a
     /// [`step`](Cursor::step) and a copy of the answer.
     pub fn advance<L: Ledger>(
         &mut self,
@@ -92,7 +92,7 @@ impl Cursor {
         true
     }
 
-    /// Whether an answer is left. The cursor doesn't move. Where it has given nothing a call counts
+    /// Whether an answer is left. The cursor doesn't move. If it has given nothing a call counts
     /// one lookup, and later at most one link for each variable of the head.
     pub fn is_left<L: Ledger>(&self, reducts: &Reducts, listing: &mut Tally<L>) -> bool
         requires { Fits reducts.now self.now }

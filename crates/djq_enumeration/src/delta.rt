@@ -13,10 +13,10 @@ use djq_counters::Tally;
 use djq_reduct::{Answer, Reducts};
 use std::sync::ledger::Ledger;
 
-/// A listing of the answers that an update of one leaf changes, on its way. It takes no memory but
+/// A listing in progress of the answers that an update of one leaf changes. It needs no memory but
 /// its own.
 ///
-/// It goes with reducts and their marks only as long as nothing changes them.
+/// It fits reducts and their marks only as long as nothing changes them.
 #[derive(Debug, Drop)]
 pub struct DeltaCursor {
     /// The leaf of the update.
@@ -25,7 +25,7 @@ pub struct DeltaCursor {
 }
 
 impl DeltaCursor {
-    /// A cursor that has told nothing, which fits any reducts.
+    /// A cursor that has given nothing, which fits any reducts.
     pub fn start(leaf: usize) -> DeltaCursor
         ensures leaf { result.leaf ≡ leaf }
         ensures fits { (r : spec.Reducts) → DeltaFits r result }
@@ -41,9 +41,9 @@ impl DeltaCursor {
         }
     }
 
-    /// Goes on to one changed answer that is left, which the cursor holds then, and says so; false
-    /// exactly where none is. Each call counts at most two lookups and links for each variable of
-    /// the head, and one.
+    /// Moves to one changed answer that is left, which the cursor holds then, and returns true;
+    /// false if none is. Each call counts at most two lookups and links for each variable of the
+    /// head, and one.
     pub fn step<L: Ledger>(&mut self, reducts: &Reducts, listing: &mut Tally<L>) -> bool
         requires leaf { self.old.leaf < reducts.now.tree.leaves }
         requires marks { AreMarks reducts.now.tree reducts.now.tables self.old.leaf }
@@ -64,7 +64,7 @@ impl DeltaCursor {
         advance_by(&Marked, reducts, &mut self.cursor, listing)
     }
 
-    /// Gives one changed answer that is left, and says so; false exactly where none is. It is a
+    /// Gives one changed answer that is left, and returns true; false if none is. It is a
     /// [`step`](DeltaCursor::step) and a copy of the answer.
     pub fn advance<L: Ledger>(
         &mut self,
@@ -95,7 +95,7 @@ impl DeltaCursor {
 }
 
 /// What the changed answers are: those that the reducts have with the marked tuples of the leaf, and
-/// don't have without them. So they are what an insertion brought, or what a removal will take. It
+/// don't have without them. So they are what an insertion added, or what a removal will remove. It
 /// does nothing.
 pub fn changes_are(reducts: &Reducts, leaf: usize)
     requires leaf { leaf < reducts.now.tree.leaves }

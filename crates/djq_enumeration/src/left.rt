@@ -24,7 +24,7 @@ use djq_counters::Tally;
 use djq_reduct::Reducts;
 use std::sync::ledger::Ledger;
 
-/// Whether some choice has a next tuple, asked from the last one up: then the answers go on behind
+/// Whether some choice has a next tuple, asked from the last one up: then there are answers after
 /// the one that the choices make.
 fn has_next<C: Choices, L: Ledger>(
     choices: &C,

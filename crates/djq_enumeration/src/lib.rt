@@ -3,16 +3,16 @@
 //!
 //! A [`Cursor`] gives one answer a call. Each call, the first and the last too, counts at most two
 //! lookups and links for each variable of the head, and one, however many answers there are and
-//! however many tuples lead nowhere: in reducts none does. [`has`] tells whether a tuple is an
+//! however many tuples lead nowhere: in reducts none does. [`has`] returns whether a tuple is an
 //! answer, by one lookup an atom at most, and [`Cursor::is_left`] whether a cursor has an answer left,
-//! without moving it. None takes memory.
+//! without moving it. None allocates.
 //!
 //! It is no snapshot: a cursor fits reducts only until they change, and doesn't notice a change. It
-//! has no order of answers to offer, but the order in which tables keep their groups.
+//! has no order of answers to offer, but the order of tables' groups.
 //!
 //! What surprises: an answer's cells are in rising order of the head's variables, in whatever order
 //! the query's head has them. What a cursor has given is no memory of it, but a definition over its
-//! places (`specs/Given.antt`), so contracts speak of lists of answers, and nothing is kept.
+//! places (`specs/Given.antt`), so contracts speak of lists of answers, and nothing is stored.
 //!
 //! ```text
 //! q(x,y) <- r(x,y), s(y)      the levels, from the root down     r (1,5) (2,7) (3,5)    s (5) (9)
@@ -27,18 +27,18 @@
 //! ```
 //!
 //! A [`DeltaCursor`] lists the answers that an update of one leaf changes, read off the marks that it
-//! leaves: those that an insertion brought, or that a removal will take once it is finished. In both
+//! leaves: those that an insertion added, or that a removal will remove once it is finished. In both
 //! cases the marks and the tables are those of the moment at which the tuple at work is there. It
-//! marks nothing, tells no insertion from a removal, and never looks at the path from the leaf: off
-//! the path there are no marks, and on it each group that the walk meets has some, which are its
-//! last tuples. So it goes through a group from its end, and leaves it before the first unmarked
+//! marks nothing, doesn't distinguish an insertion from a removal, and never looks at the path from
+//! the leaf: off the path there are no marks, and on it each group that the walk meets has some, which
+//! are its last tuples. So it walks a group from its end, and leaves it before the first unmarked
 //! tuple if it began at a marked one.
 //!
 //! Inside, a listing is a walk down the second stage's trims. At each of them a tuple of the trim's
-//! child is chosen from a menu, the group that agrees with what was chosen above. To go on, the
-//! last choice that has a next tuple takes it, and every later one starts again. What a menu is, is
-//! left to [`Choices`], so that the change of an update is listed by the same walk, from menus of
-//! the tuples that changed.
+//! child is chosen from a menu, the group that agrees with what was chosen above. For the next answer,
+//! the last choice that has a next tuple moves to it, and every later one starts again. What a menu
+//! is, is left to [`Choices`], so that the change of an update is listed by the same walk, from menus
+//! of the tuples that changed.
 #![tactic(auto)]
 
 mod choices;

@@ -11,7 +11,7 @@ use djq_reduct::Answer;
 use std::alloc::Global;
 use std::marker::Model;
 
-/// A line of a log: an answer, and whether it came or went.
+/// A line of a log: an answer, and whether it was added or removed.
 #[derive(Debug, Drop)]
 pub struct Line {
     pub came: bool,
@@ -19,7 +19,7 @@ pub struct Line {
 }
 
 impl Line {
-    /// Takes an answer in place of what it had.
+    /// Replaces the line by one with this answer.
     fn write(&mut self, came: bool, answer: &Answer)
         ensures { self.new ≡ record { came = came; answer = answer.now } }
     {
@@ -28,7 +28,7 @@ impl Line {
     }
 }
 
-/// Puts a line behind the others, and says so; false where there is no memory for it.
+/// Appends a line, and returns true; false if there is no memory for it.
 #[inline(never)]
 fn push_line(lines: &mut Vec<Line>, came: bool, answer: &Answer) -> bool
     ensures put { OnTrue result (lines.new.items
@@ -116,10 +116,10 @@ fn settle_first(lines: &mut [Line], len: usize) -> usize
 ///
 /// A lost log has no line, and stays lost until it is cleared.
 ///
-/// Lines that were taken out are written over by later ones, so that a line is moved nowhere.
+/// Lines that were removed are overwritten by later ones, so that a line is moved nowhere.
 #[derive(Drop)]
 pub struct DeltaLog {
-    // so many lines, and behind them some that were taken out
+    // so many lines, and after them some that were removed
     lines: Vec<Line>,
     len: usize,
     lost: bool,
@@ -165,8 +165,7 @@ impl DeltaLog {
         self.lost
     }
 
-    /// Puts in a line behind the others. Where there is no memory for it, all lines are lost; a
-    /// lost log takes none.
+    /// Appends a line. If there is no memory for it, all lines are lost; a lost log accepts none.
     pub fn push(&mut self, came: bool, answer: &Answer)
         ensures kept { self.new.lost ≡ false
             → self.new.lines ≡ self.old.lines ++ record { came = came; answer = answer.now } ∷ [] }
@@ -184,7 +183,7 @@ impl DeltaLog {
         self.len += 1;
     }
 
-    /// Loses all lines: whoever puts them in can't go on.
+    /// Loses all lines, if whoever appends them can't continue.
     pub fn lose(&mut self)
         ensures { self.new.lost ≡ true }
     {
@@ -208,7 +207,7 @@ impl DeltaLog {
         }
     }
 
-    /// Takes all lines out, to begin anew.
+    /// Removes all lines, to begin anew.
     pub fn clear(&mut self)
         ensures lines { self.new.lines ≡ [] }
         ensures kept { self.new.lost ≡ false }

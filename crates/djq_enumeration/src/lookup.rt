@@ -11,7 +11,7 @@ use djq_reduct::{Answer, Cells, Reducts};
 use std::sync::ledger::Ledger;
 
 /// Whether a node isn't in `out`, or its table has the projection of the answer. It counts a
-/// lookup only where the node is in `out`.
+/// lookup only if the node is in `out`.
 fn allows<L: Ledger>(
     reducts: &Reducts,
     node: usize,

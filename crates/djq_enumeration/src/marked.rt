@@ -10,8 +10,8 @@ use std::sync::ledger::Ledger;
 /// The choices that list the changed answers: the marked tuples of a group if there are any, else
 /// all of it.
 ///
-/// The marked ones are the last of their group, so it is gone through from its end. No look at the
-/// path is needed: where a chosen tuple is marked, the one before it must be, too.
+/// The marked ones are the last of their group, so it is walked from its end. No look at the path
+/// is needed: if a chosen tuple is marked, the one before it must be, too.
 #[derive(Clone, Copy, Debug)]
 pub(crate) struct Marked;
 
@@ -62,7 +62,7 @@ impl Choices for Marked {
     }
 }
 
-/// The place before a chosen one; none where only the chosen one is marked.
+/// The place before a chosen one; none if only the chosen one is marked.
 fn keep(before: Place, here_marked: bool, before_marked: bool) -> Option<Place>
     ensures { result ≡ kept (Some before) here_marked before_marked }
 {

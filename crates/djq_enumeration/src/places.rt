@@ -4,7 +4,7 @@ use djq_index::Place;
 use djq_reduct::CELLS;
 use std::marker::Model;
 
-/// A choice of a listing: at which level, and where its tuple lies in the level's table.
+/// A choice of a listing: its level, and the place of its tuple in the level's table.
 #[derive(Clone, Copy, Debug, Default)]
 pub struct Choice {
     /// The number of the level's trim.
@@ -12,8 +12,8 @@ pub struct Choice {
     pub place: Place,
 }
 
-/// The choices of a listing, from the highest level on. They stand inline, so that they take no
-/// memory.
+/// The choices of a listing, from the highest level on. They are inline, so that they need no
+/// allocation.
 #[derive(Debug, Drop)]
 pub struct Places {
     choices: [Choice; CELLS],
@@ -59,7 +59,7 @@ impl Places {
         &self.choices[..self.len]
     }
 
-    /// Puts a choice behind the others.
+    /// Appends a choice.
     pub fn push(&mut self, choice: Choice)
         requires { length self.old < CELLS }
         ensures { self.new ≡ self.old ++ choice ∷ [] }
@@ -68,7 +68,7 @@ impl Places {
         self.len += 1;
     }
 
-    /// Takes the last choice away; none exactly where there is none.
+    /// Removes the last choice; none if there is none.
     pub fn pop(&mut self) -> Option<Choice>
         ensures taken { self.old ≡ self.new ++ option_to_list result }
         ensures none { IfNone result (self.old ≡ []) }

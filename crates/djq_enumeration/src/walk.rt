@@ -31,7 +31,7 @@ use djq_index::Place;
 use djq_reduct::{Answer, Cells, Reducts};
 use std::sync::ledger::Ledger;
 
-/// The cell of an answer that is a level's key, where that has one column.
+/// The cell of an answer that is a level's key, if that has one column.
 fn cell_at(reducts: &Reducts, level: usize, answer: &Answer) -> u64
     requires level { IsLevel reducts.now.tree level }
     requires wide { length answer.now ≡ length reducts.now.tree.head }
@@ -42,8 +42,7 @@ fn cell_at(reducts: &Reducts, level: usize, answer: &Answer) -> u64
     answer.as_slice()[reducts.columns(level)[0]]
 }
 
-/// The first tuple to choose at a level below those that an answer has; none exactly where there is
-/// none.
+/// The first tuple to choose at a level below those that an answer has; none if there is none.
 #[inline(always)]
 fn first_at<C: Choices, L: Ledger>(
     choices: &C,
@@ -133,7 +132,7 @@ fn fill<C: Choices, L: Ledger>(
     }
 }
 
-/// Goes on to the next answer: the last choice that has a next tuple takes it, and every later one
+/// Moves to the next answer: the last choice that has a next tuple moves to it, and every later one
 /// starts again. What earlier choices wrote into the answer stays.
 fn go_on<C: Choices, L: Ledger>(
     choices: &C,
@@ -216,8 +215,7 @@ fn begin<C: Choices, L: Ledger>(
 }
 
 /// Makes one answer more of a listing: true with one that is left, which the cursor holds then, false
-/// exactly where none is. It counts at most two lookups and links for each variable of the head, and
-/// one.
+/// if none is. It counts at most two lookups and links for each variable of the head, and one.
 pub fn advance_by<C: Choices, L: Ledger>(
     choices: &C,
     reducts: &Reducts,

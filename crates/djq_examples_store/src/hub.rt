@@ -7,11 +7,11 @@ use djq_program::Status;
 use djq_schedule::{schedule_hub, sent_text};
 use std::test::Fail;
 
-/// Two sessions, whose lines come in two rounds: the end of a session's input ends a round.
+/// Two sessions, whose lines are run in two rounds: the end of a session's input ends a round.
 pub(crate) const ROUNDS: &[u8] =
     b"open 1\nopen 2\nsay 1 rel r int\nsay 1 add r 1\nsay 1 add r 2\nsay 2 add r 3\nsay 2 add r 4\nend 1\nsay 2 add r 5\nend 2";
 
-/// What is sent in the first round. The lines were run by turns, as the numbers of the changes tell.
+/// What is sent in the first round. The lines were run by turns, as the numbers of the changes show.
 pub(crate) const FIRST_ROUND: &[u8] =
     b"1< ok\n1< ok added 2 1\n1< ok added 4 1\n2< ok added 1 1\n2< ok added 3 1\n";
 
@@ -52,7 +52,7 @@ fn the_lines_of_a_round_are_run_by_turns(rt: HostRuntime) -> Result<(), Fail> {
     Ok(())
 }
 
-/// A failed listen ends the server before a session comes.
+/// A failed listen ends the server before a session opens.
 #[test]
 fn a_failed_listen_ends_the_server(rt: HostRuntime) -> Result<(), Fail> {
     let mut hub = schedule_hub(rt.alloc(), ROUNDS).or(Err("the schedule is refused"))?;
@@ -85,7 +85,7 @@ fn a_failed_turn_leaves_what_was_sent(rt: HostRuntime) -> Result<(), Fail> {
     Ok(())
 }
 
-/// A send that finds its session gone ends that session alone.
+/// A send that finds its session closed ends that session alone.
 #[test]
 fn a_failed_send_ends_its_session(rt: HostRuntime) -> Result<(), Fail> {
     let mut hub = schedule_hub(rt.alloc(), ROUNDS).or(Err("the schedule is refused"))?;

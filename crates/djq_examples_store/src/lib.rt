@@ -1,7 +1,7 @@
-//! Examples of each public call of the store and of what stands on it: unions, live queries, live
+//! Examples of each public call of the store and of what uses it: unions, live queries, live
 //! unions, the join machine, and the program over hubs and disks in memory.
 //!
-//! The tests of these libraries stand here, one module for each library, so that no library is proved
+//! The tests of these libraries are here, one module for each library, so that no library is proved
 //! a second time for its tests. They use what any crate above may use, and nothing else.
 //!
 //! ```text

@@ -113,7 +113,7 @@ fn digits(live: &LiveQuery, catalog: &Catalog, answer: &Answer) -> i64
         .wrapping_add(third)
 }
 
-/// The digits of the answer of a line, behind a one where it went.
+/// The digits of the answer of a line, after a one if it was removed.
 fn line_digits(live: &LiveQuery, catalog: &Catalog, line: &Line) -> i64
     requires kept { IsKeptSomewhere live.now }
     requires showable { IsShowable catalog.now.texts live.now line.now.answer }
@@ -126,7 +126,7 @@ fn line_digits(live: &LiveQuery, catalog: &Catalog, line: &Line) -> i64
     digits.wrapping_add(1000)
 }
 
-/// What a log tells, in rising order, and a zero.
+/// The lines of a log, in rising order, and a zero.
 fn told(
     alloc: Global,
     live: &LiveQuery,
@@ -167,7 +167,7 @@ fn cells(catalog: &Catalog, id: RelationId, row: &[Value]) -> Result<Cells, Fail
     }
 }
 
-/// Takes a row that came into the query over its relation, and tells of it.
+/// Inserts a new row of a relation into the query over it, and returns its delta.
 fn come<L: Ledgers>(
     alloc: Global,
     catalog: &Catalog,
@@ -188,7 +188,7 @@ fn come<L: Ledgers>(
     told(alloc, live, catalog, &log)
 }
 
-/// Puts a row into a relation and into the query over it, and tells what came.
+/// Inserts a row into a relation and into the query over it, and returns its delta.
 fn put<L: Ledgers>(
     alloc: Global,
     catalog: &mut Catalog,
@@ -213,7 +213,7 @@ fn put<L: Ledgers>(
     }
 }
 
-/// Takes a row that went out of the query over its relation, and tells of it.
+/// Deletes a row that its relation lost from the query over it, and returns its delta.
 fn go<L: Ledgers>(
     alloc: Global,
     catalog: &Catalog,
@@ -234,7 +234,7 @@ fn go<L: Ledgers>(
     told(alloc, live, catalog, &log)
 }
 
-/// Takes a row out of a relation and out of the query over it, and tells what went.
+/// Deletes a row from a relation and from the query over it, and returns its delta.
 fn take<L: Ledgers>(
     alloc: Global,
     catalog: &mut Catalog,
@@ -260,7 +260,7 @@ fn take<L: Ledgers>(
     }
 }
 
-/// Puts a row in, or takes it out, and tells of it.
+/// Inserts a row, or deletes it, and returns the delta.
 fn change<L: Ledgers>(
     alloc: Global,
     catalog: &mut Catalog,
@@ -292,7 +292,7 @@ fn listed_digits(live: &LiveQuery, catalog: &Catalog, answer: &Answer) -> Option
     Some(digits(live, catalog, answer))
 }
 
-/// Reads a cursor: the digits of a further answer, where there is one.
+/// Reads a cursor: the digits of a further answer, if there is one.
 fn next_digits<L: Ledgers>(
     live: &mut LiveQuery,
     catalog: &Catalog,
@@ -340,7 +340,7 @@ fn holds<L: Ledgers>(
     }
 }
 
-/// What is seen of the paths: what was told of each change, whether 1 2 2 and 1 2 3 are answers, the tree's lines, what
+/// What is seen of the paths: the delta of each change, whether 1 2 2 and 1 2 3 are answers, the tree's lines, what
 /// a cursor lists, and whether a fresh one has an answer left.
 #[derive(Drop)]
 struct Seen {
@@ -377,7 +377,7 @@ fn look<L: Ledgers>(
     })
 }
 
-/// Takes rows of two digits in, or out where the sign is minus, and looks at the paths then.
+/// Inserts rows of two digits, or deletes them if the sign is minus, and looks at the paths then.
 fn walk<L: Ledgers>(
     alloc: Global,
     catalog: &mut Catalog,
@@ -397,7 +397,7 @@ fn walk<L: Ledgers>(
     look(alloc, &mut live, catalog, trace, &mut steps.listing)
 }
 
-/// What is seen of the paths behind such rows.
+/// What is seen of the paths after such rows.
 fn see<L: Ledgers>(rt: &HostRuntime, moves: &[i64], blanks: Blanks) -> Result<Seen, Fail>
     requires listing { blanks.listing.name ≡ L.listing }
     requires update { blanks.update.name ≡ L.update }

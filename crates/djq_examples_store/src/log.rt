@@ -16,7 +16,7 @@ const ROW: &[u8] = b"open 1\nsay 1 rel r int\nsay 1 add r 7\nsay 1 add r 7\nsay 
 /// What they are answered.
 const ROW_LINES: &[u8] = b"1< ok\n1< ok added 1 1\n1< ok added 1 2\n1< ok absent 1\n";
 
-/// Lines whose answers tell how many lines of the row were found.
+/// Lines whose answers show how many lines of the row were found.
 const PROBE: &[u8] = b"open 1\nsay 1 del r 7\nsay 1 del r 7\nsay 1 del r 7\n";
 
 /// The file of a log of the first format, with one line.
@@ -42,10 +42,10 @@ const TRANSACTION_LINES: &[u8] =
 const TRANSACTION_FILE: &[u8] =
     b"DJQLOG2\n\xff\0\0\0\0\0\0\x0b\x0b\x0d\x9d\xc8k\xd0\x8e\x7fn\0\x09rel r int\xff\0\0\0\0\0\0\x09\x09W\x19\xfa\xf5\xab\xdf\xbfg\0\x07add r 7\xff\0\0\0\0\0\0\x1f\x1fG}\xcb\xe8.\xdcp\x1a\0\x05batch\0\x07del r 7\0\x07add r 8\0\x04done\0";
 
-/// Where the record of the transaction begins, with its gate.
+/// The place of the record of the transaction, with its gate.
 const TRANSACTION_PLACE: usize = 62;
 
-/// Lines whose answers say which of them were found: none, the first, the first two, or all.
+/// Lines whose answers show which of them were found: none, the first, the first two, or all.
 const TRANSACTION_PROBE: &[u8] = b"open 1\nsay 1 del r 7\nsay 1 del r 8\n";
 
 /// These answers.
@@ -250,7 +250,7 @@ fn nothing_of_a_failed_commit_is_sent(rt: HostRuntime) -> Result<(), Fail> {
     Ok(())
 }
 
-/// A log of the first format is read, and goes on as it is.
+/// A log of the first format is read, and continues as it is.
 #[test]
 fn a_log_of_the_first_format_goes_on(rt: HostRuntime) -> Result<(), Fail> {
     let mut disk = MemDisk::of(rt.alloc(), FIRST_FORMAT)?;

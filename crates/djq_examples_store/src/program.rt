@@ -100,8 +100,8 @@ fn answers_line_by_line_however_the_input_is_cut(rt: HostRuntime) -> Result<(), 
     Ok(())
 }
 
-/// Runs the session over a sink whose write of this number fails, and gives how many bytes it took;
-/// or, where the status isn't that of a failed write, a number that is never right.
+/// Runs the session over a sink whose write of this number fails, and returns how many bytes it accepted; or, if
+/// the status isn't that of a failed write, a number that is never right.
 fn written_before(rt: &HostRuntime, write: u64) -> Result<usize, Fail>
     requires { 0 < write }
 {
@@ -117,7 +117,7 @@ fn written_before(rt: &HostRuntime, write: u64) -> Result<usize, Fail>
     })
 }
 
-/// How many bytes of the replies are written where the first write fails, the second, and so on.
+/// How many bytes of the replies are written if the first write fails, the second, and so on.
 const WRITTEN: [usize; 10] = [0, 3, 16, 29, 42, 57, 68, 76, 86, 90];
 
 /// The replies to the commands before the failed write are written, and nothing else: each command's are one write.

@@ -24,15 +24,15 @@ pub enum Move {
     Closes,
     /// It sends something, and all its lines are run, each in a commit of its own.
     Says(&'static [u8]),
-    /// It says something, and one line is run.
+    /// It sends something, and one line is run.
     Steps(&'static [u8]),
     /// It sends something, and all its lines are run in one commit.
     Commits(&'static [u8]),
-    /// It is told this, which it takes.
+    /// It is sent this, which it reads.
     IsTold(&'static [u8]),
-    /// One of these is pending for it, and it takes it: the lines of a delta come in any order.
+    /// One of these is pending for it, and it reads it: the lines of a delta may have any order.
     TakesEither(&'static [u8], &'static [u8]),
-    /// It is told this last.
+    /// It is sent this last.
     IsLast(&'static [u8]),
     /// More bytes than these are pending for it.
     HasMore(usize),
@@ -40,9 +40,9 @@ pub enum Move {
     Ended(EndCause),
     /// The commit has these lines.
     Keeps(&'static [&'static [u8]]),
-    /// A line is loaded, and comes to this.
+    /// A line is loaded, with this result.
     Loads(&'static [u8], Loaded),
-    /// So many changes there were, and so many rows of `r` and sessions there are; and whether a session said `stop`.
+    /// So many changes there were, and so many rows of `r` and sessions there are; and whether a session sent `stop`.
     Counts(u64, u64, usize, bool),
 }
 
@@ -72,7 +72,7 @@ fn is_above(core: &Core, id: u64) -> bool
     true
 }
 
-/// Opens a session, where that is allowed.
+/// Opens a session, if that is allowed.
 fn open(core: &mut Core, id: u64) -> bool {
     is_above(core, id) && core.open_session(id).is_ok()
 }
@@ -137,7 +137,7 @@ fn say<L: Ledgers>(core: &mut Core, steps: &mut Steps<L>, id: u64, text: &[u8], 
     true
 }
 
-/// Whether one of these texts is pending for a session. What is pending is then taken.
+/// Whether one of these texts is pending for a session. What is pending is then removed.
 fn takes_either(core: &mut Core, id: u64, one: &[u8], other: &[u8]) -> bool {
     if !is_open(core, id) {
         return false;
@@ -149,7 +149,7 @@ fn takes_either(core: &mut Core, id: u64, one: &[u8], other: &[u8]) -> bool {
     right
 }
 
-/// Whether a session is told this last.
+/// Whether a session is sent this last.
 fn is_last(core: &Core, id: u64, want: &[u8]) -> bool {
     is_open(core, id) && core.pending(id).ends_with(want)
 }
@@ -182,7 +182,7 @@ fn is_idle(core: &Core) -> bool
     core.ids().is_empty()
 }
 
-/// Whether a line, loaded, comes to this.
+/// Whether a line, loaded, has this result.
 fn loads<L: Ledgers>(core: &mut Core, steps: &mut Steps<L>, line: &[u8], want: Loaded) -> bool {
     is_idle(core) && core.load(line, steps) == want
 }

@@ -207,7 +207,7 @@ fn each_agrees<L: Ledgers>(
     Ok(true)
 }
 
-/// The later member has 2 and 3: in their places come the next of its own, 0 and 2.
+/// The later member has 2 and 3: instead of them the next of its own are given, 0 and 2.
 #[test]
 fn gives_the_next_of_the_later_members(rt: HostRuntime) -> Result<(), Fail> {
     let given = told::<Brand>(&rt, Blanks::new(&rt), &[0b1110, 0b1101])?;

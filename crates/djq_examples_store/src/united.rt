@@ -97,7 +97,7 @@ fn joined(alloc: Global, queries: &[Option<LiveQuery>]) -> Result<LiveUnion, Fai
     Ok(LiveUnion::new(alloc, Name::new(b"u"), members))
 }
 
-/// Reads a cursor: a further answer of two cells, where there is one.
+/// Reads a cursor: a further answer of two cells, if there is one.
 fn next_pair<L: Ledgers>(
     union: &mut LiveUnion,
     catalog: &Catalog,

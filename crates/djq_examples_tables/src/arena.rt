@@ -2,7 +2,7 @@ use djq_arena::Arena;
 use std::alloc::{AllocError, Global};
 use std::test::Fail;
 
-/// Puts a row of two cells behind all others.
+/// Moves a row of two cells to the end.
 fn renew(arena: &mut Arena, cells: &[u64]) -> bool {
     match arena.find(cells) {
         None => false,
@@ -13,7 +13,7 @@ fn renew(arena: &mut Arena, cells: &[u64]) -> bool {
     }
 }
 
-/// Takes a row out.
+/// Removes a row.
 fn take(arena: &mut Arena, cells: &[u64]) -> bool {
     match arena.find(cells) {
         None => false,

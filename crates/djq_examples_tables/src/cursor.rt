@@ -23,8 +23,8 @@ fn no_rows(alloc: Global) -> Result<Reducts, AllocError>
     Reducts::new(alloc, tree)
 }
 
-/// Whether the tuple without cells is an answer of these reducts, whether a cursor says that one is
-/// left, and whether it gives one, and another.
+/// Whether the tuple without cells is an answer of these reducts, whether a cursor reports that one
+/// is left, and whether it gives one, and another.
 fn asked<L: Ledgers>(
     rt: &HostRuntime,
     blanks: Blanks,

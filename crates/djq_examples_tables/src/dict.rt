@@ -14,7 +14,7 @@ fn numbers_texts_in_order(rt: HostRuntime) -> Result<(), Fail> {
     Ok(())
 }
 
-/// So many texts take the buffers and the buckets past several growths.
+/// With so many texts the buffers and the buckets grow several times.
 #[test]
 fn keeps_numbers_while_it_grows(rt: HostRuntime) -> Result<(), Fail> {
     let mut dict = Dict::new(rt.alloc())?;

@@ -7,7 +7,7 @@ use std::marker::Brand;
 use std::sync::ledger::Ledger;
 use std::test::Fail;
 
-/// A digest of cells, in their order, behind those of another.
+/// A digest of cells, in their order, after those of another.
 fn digest(of: u64, cells: &[u64]) -> u64 {
     let mut sum = of;
     for cell in cells {

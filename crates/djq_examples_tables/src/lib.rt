@@ -1,7 +1,7 @@
 //! Examples of each public call of the tables: arenas, indexed tables, texts, rows, reducts and their
 //! updates, cursors, queries by number, and transactions.
 //!
-//! The tests of these libraries stand here, one module for each library, so that no library is proved
+//! The tests of these libraries are here, one module for each library, so that no library is proved
 //! a second time for its tests. They use what any crate above may use, and nothing else.
 //!
 //! ```text

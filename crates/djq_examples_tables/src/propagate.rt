@@ -17,7 +17,7 @@ use std::marker::Brand;
 use std::sync::ledger::Ledger;
 use std::test::Fail;
 
-/// The reducts of the query with these atoms and head, without a tuple; none where it has no tree.
+/// The reducts of the query with these atoms and head, without a tuple; none if it has no tree.
 fn planned(alloc: Global, edges: &Edges, head: VarSet) -> Result<Option<Reducts>, AllocError>
     ensures { IfOk result (λ o. IfSome o (λ r. IsBare r.tables)) }
 {
@@ -190,7 +190,7 @@ fn take_both<L: Ledger>(
     one && other
 }
 
-/// How many supports a tuple has at a node, 0 where it isn't there.
+/// How many supports a tuple has at a node, 0 if it isn't there.
 fn supports<L: Ledger>(reducts: &Reducts, node: usize, tuple: &[u64], tally: &mut Tally<L>) -> u32 {
     if node >= reducts.tree().len() {
         return 0;

@@ -109,7 +109,7 @@ fn number_at(query: &NumberedQuery, atom: usize, term: usize) -> Option<usize> {
     }
 }
 
-/// The worked query by numbers; none where it has a fault.
+/// The worked query by numbers; none if it has a fault.
 fn numbered(alloc: Global) -> Result<Option<NumberedQuery>, NoMem> {
     let relations = two_relations(alloc)?;
     let query = worked(alloc)?;
@@ -165,7 +165,7 @@ fn pattern_at(
     Ok(Some(pattern))
 }
 
-/// The first cell of the tuple of a row; none where the row doesn't match.
+/// The first cell of the tuple of a row; none if the row doesn't match.
 fn first_cell(pattern: &Pattern, row: &[u64]) -> Option<u64> {
     if row.len() != pattern.columns() {
         return None;

@@ -28,7 +28,7 @@ fn pair(alloc: Global, number: i64, byte: u8) -> Result<Row, Fail> {
     Ok(row)
 }
 
-/// Makes a relation of such rows, where its name is short enough.
+/// Makes a relation of such rows, if its name is short enough.
 fn make(alloc: Global, catalog: &mut Catalog, name: &[u8]) -> Result<RelationId, Fail> {
     let mut types = Types::new(alloc);
     types.push(ColumnType::Int)?;
@@ -39,7 +39,7 @@ fn make(alloc: Global, catalog: &mut Catalog, name: &[u8]) -> Result<RelationId,
     Ok(catalog.relation(Name::new(name), types)?)
 }
 
-/// Adds a row, where it suits its relation.
+/// Adds a row, if it suits its relation.
 fn add<L: Ledger>(
     catalog: &mut Catalog,
     id: RelationId,
@@ -61,7 +61,7 @@ fn add<L: Ledger>(
     Ok(Some(outcome))
 }
 
-/// Deletes a row, where it suits its relation.
+/// Deletes a row, if it suits its relation.
 fn delete<L: Ledger>(
     catalog: &mut Catalog,
     id: RelationId,
@@ -125,7 +125,7 @@ fn all_cells<L: Ledger>(
     Ok(all)
 }
 
-/// The type of the columns that a value stands in.
+/// The type of the columns that a value may be in.
 fn column_of(value: &Value) -> ColumnType
     ensures { is_of result value.now ≡ true }
 {
@@ -135,7 +135,7 @@ fn column_of(value: &Value) -> ColumnType
     }
 }
 
-/// The value that the cell of a value stands for.
+/// The value of the cell of a value.
 fn read_back<'a>(catalog: &'a Catalog, value: &Value) -> Option<ValueRef<'a>> {
     let column = column_of(value);
     match catalog.cell(value) {
@@ -203,7 +203,7 @@ fn is_as_made(catalog: &Catalog, id: RelationId, name: &[u8]) -> bool {
     catalog.name(id).as_bytes() == name
 }
 
-/// Whether a relation of this name is found where it was made.
+/// Whether a relation of this name is found at the place of its making.
 fn finds(catalog: &Catalog, name: &[u8], at: usize) -> bool {
     if name.len() > 32 {
         return false;

@@ -27,7 +27,7 @@ fn counts_uses(rt: HostRuntime) -> Result<(), Fail> {
     Ok(())
 }
 
-/// So many texts take the buckets past several growths, and back.
+/// With so many texts the buckets grow several times, and shrink again.
 #[test]
 fn becomes_smaller_again(rt: HostRuntime) -> Result<(), Fail> {
     let mut texts = Texts::new(rt.alloc())?;

@@ -10,13 +10,13 @@ const FOLLOWED: [(&[u8], Mirrored, &[u8]); 4] = [
         Mirrored::Done,
         b"= 2\n= 3\nend\n",
     ),
-    // the listing went stale
+    // the listing became stale
     (
         b"ok watch 0\nok open\n= 1\nmore\n+ q 2\nat q 2\nstale c r 2\n",
         Mirrored::Done,
         b"none\n",
     ),
-    // an answer goes that isn't there
+    // an answer is removed that isn't there
     (
         b"ok watch 0\nok open\nend\n- q 1\nok watch",
         Mirrored::Outside(4),
@@ -26,7 +26,7 @@ const FOLLOWED: [(&[u8], Mirrored, &[u8]); 4] = [
     (b"ok\nok", Mirrored::Outside(2), b"mirror 2\n"),
 ];
 
-/// The bytes come in pieces that cut the lines.
+/// The bytes arrive in pieces that cut the lines.
 #[test]
 fn follows_what_a_session_was_sent(rt: HostRuntime) -> Result<(), Fail> {
     for (sent, end, lines) in FOLLOWED {

@@ -6,6 +6,7 @@ use djq_io::{
 };
 use djq_system::{StdSink, StdSource};
 use std::alloc::AllocError;
+use std::marker::Brand;
 use std::test::Fail;
 
 #[test]
@@ -35,7 +36,7 @@ fn a_sink_keeps_what_it_took(rt: HostRuntime) -> Result<(), Fail> {
 
 #[test]
 fn std_moves_bytes(rt: HostRuntime) -> Result<(), Fail> {
-    let mut source = StdSource::new(b"ok\n".as_slice());
+    let mut source = StdSource::<_, Brand>::new(b"ok\n".as_slice());
     let mut buf = [0; 4];
     assert!(rt; source.read(&mut buf) == Read::Got(3));
     assert!(rt; &buf[..3] == b"ok\n".as_slice());
@@ -52,7 +53,7 @@ fn add(hub: &mut MemHub, rt: &HostRuntime, turn: Incoming) -> Result<(), Fail> {
     Ok(())
 }
 
-/// Takes turns until the hub is over or fails, which is the answer. It greets each session that
+/// Reads turns until the hub is over or fails, which is the answer. It greets each session that
 /// opens, and closes each that ends.
 fn greet<H: Hub>(
     hub: &mut H,

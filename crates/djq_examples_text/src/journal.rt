@@ -8,10 +8,10 @@ use std::test::Fail;
 /// A journal without lines.
 const EMPTY: &[u8] = b"DJQLOG1\n\0";
 
-/// Lines that are kept one by one.
+/// Lines that are logged one by one.
 const ROW: [&[u8]; 3] = [b"rel r int", b"add r 7", b"add r 7"];
 
-/// What the journal of these lines and three more opens to, from none of them on, each behind a bar.
+/// What the journal of these lines and three more opens to, from none of them on, each after a bar.
 const TEXTS: [&[u8]; 5] = [
     b"",
     b"|rel r int",
@@ -20,7 +20,7 @@ const TEXTS: [&[u8]; 5] = [
     b"|rel r int|add r 7|add r 7|a|bc|d",
 ];
 
-/// Three lines that are kept together.
+/// Three lines that are logged together.
 struct Three;
 
 impl Group for Three {
@@ -38,7 +38,7 @@ impl Group for Three {
     }
 }
 
-/// One line, so many times, kept together.
+/// One line, so many times, logged together.
 #[derive(Drop)]
 struct Many<'a> {
     line: &'a [u8],
@@ -68,7 +68,7 @@ fn idle(disk: &mut MemDisk) -> Option<Journal> {
     }
 }
 
-/// Keeps the row.
+/// Logs the row.
 fn keep_row(disk: &mut MemDisk) -> Option<Journal> {
     let mut journal = idle(disk)?;
     for line in ROW {
@@ -83,7 +83,7 @@ fn keep_row(disk: &mut MemDisk) -> Option<Journal> {
     Some(journal)
 }
 
-/// Keeps the row and three lines more. Says whether all went well.
+/// Logs the row and three lines more. Returns whether all succeeded.
 fn keep_all(disk: &mut MemDisk) -> bool {
     let Some(journal) = keep_row(disk) else {
         return false;
@@ -94,7 +94,7 @@ fn keep_all(disk: &mut MemDisk) -> bool {
     }
 }
 
-/// Keeps a line so many times, together. Says whether all went well.
+/// Logs a line so many times, together. Returns whether all succeeded.
 fn keep_many(disk: &mut MemDisk, line: &[u8], count: usize) -> bool
     requires some { 1 ≤ count }
     requires line { (1 ≤ length line.now) × (length line.now ≤ 4096) }
@@ -108,7 +108,7 @@ fn keep_many(disk: &mut MemDisk, line: &[u8], count: usize) -> bool
     }
 }
 
-/// What a file opens to, each line behind a bar, or `None` where it is bad.
+/// What a file opens to, each line after a bar, or `None` if it is bad.
 fn opened(rt: &HostRuntime, bytes: &[u8]) -> Result<Option<Vec<u8>>, Fail> {
     let mut disk = MemDisk::of(rt.alloc(), bytes)?;
     let mut journal = Journal::first();
@@ -151,7 +151,7 @@ fn syncs(calls: &[DiskCall]) -> u64 {
     done
 }
 
-/// Sets a byte, behind zeros where the bytes ended earlier.
+/// Sets a byte, after zeros if the bytes ended earlier.
 fn set_byte(bytes: &mut Vec<u8>, place: usize, byte: u8) -> Result<(), Fail> {
     if bytes.len() <= place {
         bytes.resize(place.saturating_add(1), 0)?;
@@ -162,7 +162,7 @@ fn set_byte(bytes: &mut Vec<u8>, place: usize, byte: u8) -> Result<(), Fail> {
     Ok(())
 }
 
-/// What a stop behind these calls may leave: of the bytes written since the last sync so many, and
+/// What a crash after these calls may leave: of the bytes written since the last sync so many, and
 /// this one in place of each other, or what was there.
 fn image(
     rt: &HostRuntime,
@@ -196,7 +196,7 @@ fn image(
     Ok(bytes)
 }
 
-/// Whether each image behind these calls opens to whole groups, all that were acknowledged and at most
+/// Whether each image after these calls opens to whole groups, all that were acknowledged and at most
 /// one more.
 fn leaves_groups(rt: &HostRuntime, calls: &[DiskCall]) -> Result<bool, Fail> {
     let acknowledged = syncs(calls) / 2;

@@ -1,8 +1,8 @@
 //! Examples of the libraries of text and sessions, and of those of what a program meets outside.
 //!
 //! Each module calls one library as its users do, with ample memory, and asserts what the calls return
-//! or write. The examples are tests, and stand in a crate of their own so that no library is proved
-//! twice: a crate with tests is. Nothing here is public, and no crate stands on this one.
+//! or write. The examples are tests, and are a crate of their own so that no library is proved
+//! twice: a crate with tests is. Nothing here is public, and no crate uses this one.
 //!
 //! ```text
 //! module     library        examples of

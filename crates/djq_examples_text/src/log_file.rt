@@ -8,7 +8,7 @@ use std::test::Fail;
 /// A log of one group of one line.
 const ONE: &[u8] = b"DJQLOG2\n\xff\0\0\0\0\0\0\x0b\x0b\x0d\x9d\xc8k\xd0\x8e\x7fn\0\x09rel r int\0";
 
-/// The same with a group of two lines behind it.
+/// The same followed by a group of two lines.
 const TWO: &[u8] =
     b"DJQLOG2\n\xff\0\0\0\0\0\0\x0b\x0b\x0d\x9d\xc8k\xd0\x8e\x7fn\0\x09rel r int\xff\0\0\0\0\0\0\x12\x12L[)(\x84mH\xe7\0\x07add r 7\0\x07add r 8\0";
 
@@ -29,7 +29,7 @@ impl Group for Rows {
     }
 }
 
-/// The lines of a log, each behind a bar, and where it is bad the place and the reason.
+/// The lines of a log, each after a bar, and if it is bad the place and the reason.
 fn read_all(
     rt: &HostRuntime,
     disk: &mut MemDisk,
@@ -67,7 +67,7 @@ fn read(rt: &HostRuntime, bytes: &[u8]) -> Result<(Vec<u8>, Option<(u64, Damage)
     read_all(rt, &mut MemDisk::of(rt.alloc(), bytes)?, false)
 }
 
-/// Why a file is bad, and where, where one byte is another.
+/// Why a file is bad, and at which place, if one byte is another.
 fn changed(rt: &HostRuntime, place: usize, byte: u8) -> Result<Option<(u64, Damage)>, Fail> {
     let mut bytes = TWO.to_vec(rt.alloc())?;
     if let Some(slot) = bytes.get_mut(place) {

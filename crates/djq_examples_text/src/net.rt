@@ -7,7 +7,7 @@ use std::net::{Shutdown, TcpStream};
 use std::test::Fail;
 
 /// Serves sessions until so many are closed, or for 1000 turns. What a session brings is sent back.
-/// The first session is sent bytes for as long as it takes some.
+/// The first session is sent bytes for as long as it accepts some.
 fn serve<H: Hub>(hub: &mut H, buf: &mut [u8], closes: u32) -> Turn
     requires { 0 < length buf.old }
 {
@@ -36,7 +36,7 @@ fn serve<H: Hub>(hub: &mut H, buf: &mut [u8], closes: u32) -> Turn
     Turn::Idle
 }
 
-/// Sends until the session takes nothing more.
+/// Sends until the session accepts nothing more.
 fn flood<H: Hub>(hub: &mut H, id: u64)
     requires { Contains (H.ids hub.old).open_ids id }
 {
@@ -48,7 +48,7 @@ fn flood<H: Hub>(hub: &mut H, id: u64)
     }
 }
 
-/// A client that sends these bytes, and no more where it says so.
+/// A client that sends these bytes, and ends its input if it is to.
 fn client(rt: &HostRuntime, port: u16, bytes: &[u8], ends: bool) -> io::Result<TcpStream> {
     let mut client = TcpStream::connect(rt, ("127.0.0.1", port))?;
     client.write_all(bytes)?;
@@ -59,7 +59,7 @@ fn client(rt: &HostRuntime, port: u16, bytes: &[u8], ends: bool) -> io::Result<T
 }
 
 /// Whether a client has its bytes back beside one that reads nothing, and the session of that one
-/// ends where it resets.
+/// ends when it resets.
 fn comes_back(hub: &mut TcpHub<HostRuntime>, rt: &HostRuntime, port: u16) -> Result<bool, Fail> {
     let deaf = client(rt, port, b"hello", false)?;
     let mut other = client(rt, port, b"rel r int\n", true)?;

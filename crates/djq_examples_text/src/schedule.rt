@@ -7,7 +7,7 @@ use std::test::Fail;
 /// Each kind of line.
 const SCHEDULE: &[u8] = b"open 1\nsay 1 x\npart 1 y\nagain 1\nfree 1\nend 1";
 
-/// The number of a schedule's first line outside the grammar, or none where it is a hub.
+/// The number of a schedule's first line outside the grammar, or none if it is a hub.
 fn refused_at(rt: &HostRuntime, schedule: &[u8]) -> Result<Option<u64>, Fail> {
     match schedule_hub(rt.alloc(), schedule) {
         Ok(_) => Ok(None),
@@ -23,7 +23,7 @@ fn each_kind_of_line_is_in_the_grammar(rt: HostRuntime) -> Result<(), Fail> {
     Ok(())
 }
 
-/// The wrong line stands behind one that opens session 1.
+/// The wrong line follows one that opens session 1.
 #[test]
 fn the_first_line_outside_the_grammar_is_told(rt: HostRuntime) -> Result<(), Fail> {
     let lines = [
@@ -54,7 +54,7 @@ fn add_send(rt: &HostRuntime, past: &mut Vec<Told>, id: u64, bytes: &[u8]) -> Re
     Ok(())
 }
 
-/// A session's line is told once its end is sent, and another's that ends before it is told first.
+/// A session's line is written once its end is sent, and another's that ends before it is written first.
 #[test]
 fn lines_are_told_as_they_end(rt: HostRuntime) -> Result<(), Fail> {
     let mut past = Vec::new(rt.alloc());

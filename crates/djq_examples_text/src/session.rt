@@ -6,10 +6,10 @@ use djq_session::Session;
 use std::alloc::Global;
 use std::test::Fail;
 
-/// What is kept for a cursor and for a watch is a number in each test.
+/// What is stored for a cursor and for a watch is a number in each test.
 type Numbered = Session<u32, u32>;
 
-/// What stands in front of the bytes that are held: the bytes of a line and where the rest begins.
+/// The front of the bytes that are held: the bytes of a line and the place of the rest.
 fn line_in_front(session: &Numbered) -> Option<(usize, usize)> {
     match session.front() {
         Front::Line { end, rest } => Some((end, rest)),
@@ -17,7 +17,7 @@ fn line_in_front(session: &Numbered) -> Option<(usize, usize)> {
     }
 }
 
-/// Takes bytes in front, where so many are held.
+/// Removes bytes from the front, if so many are held.
 fn take(session: &mut Numbered, count: usize) -> bool {
     let there = session.held().len() >= count;
     if there {
@@ -26,7 +26,7 @@ fn take(session: &mut Numbered, count: usize) -> bool {
     there
 }
 
-/// Takes bytes that are pending, where there are so many.
+/// Removes bytes that are pending, if there are so many.
 fn took(session: &mut Numbered, count: usize) -> bool {
     let there = session.pending().len() >= count;
     if there {
@@ -69,7 +69,7 @@ fn sessions_end(rt: HostRuntime) -> Result<(), Fail> {
     Ok(())
 }
 
-/// Puts a reply of each kind behind the others.
+/// Appends a reply of each kind to the others.
 fn answers(session: &mut Numbered) -> Result<(), NoMem> {
     session.keep(REPLY_BYTES)?;
     session.refuse(Refusal::Arity);
@@ -90,7 +90,7 @@ fn answers(session: &mut Numbered) -> Result<(), NoMem> {
     Ok(())
 }
 
-/// Puts the lines of a listing and of an explained tree behind the others.
+/// Appends the lines of a listing and of an explained tree to the others.
 fn lists(session: &mut Numbered, row: &Row) -> Result<(), NoMem> {
     session.queue_answer(row)?;
     session.queue_last(true)?;
@@ -124,7 +124,7 @@ fn name_of(number: u8) -> Name {
     Name::new(&[b'c', number])
 }
 
-/// Names a cursor, where that is allowed.
+/// Names a cursor, if that is allowed.
 fn add(session: &mut Numbered, name: &Name, cursor: u32) -> Result<bool, NoMem> {
     if session.cursor(name).is_some() || session.cursors() >= CURSORS {
         return Ok(false);
@@ -133,7 +133,7 @@ fn add(session: &mut Numbered, name: &Name, cursor: u32) -> Result<bool, NoMem> 
     Ok(true)
 }
 
-/// Watches a query, where it isn't watched.
+/// Watches a query, if it isn't watched.
 fn watch(session: &mut Numbered, query: u32) -> Result<bool, NoMem> {
     if session.watches(query) {
         return Ok(false);
@@ -188,7 +188,7 @@ fn a_batch_holds_lines(rt: HostRuntime) -> Result<(), Fail> {
     Ok(())
 }
 
-/// Ends a session that goes on: it takes its leave, or its input ends.
+/// Ends a session that hasn't ended: by a command, or its input ends.
 fn end(session: &mut Numbered, is_leave: bool) -> Result<bool, NoMem> {
     if session.cause().is_some() {
         return Ok(false);
@@ -202,7 +202,7 @@ fn end(session: &mut Numbered, is_leave: bool) -> Result<bool, NoMem> {
     Ok(true)
 }
 
-/// Whether a session takes its leave that holds a line and bytes of one more, or its input ends; and its last lines.
+/// Whether a session ends by a command that holds a line and bytes of one more, or its input ends; and its last lines.
 const ENDS_IN_A_BATCH: [(bool, &[u8]); 2] = [
     (false, b"err 13 cut\nerr 18 batch\n"),
     (true, b"err 18 batch\nbye\n"),

@@ -124,7 +124,7 @@ fn reads_the_tokens_of_a_line(rt: HostRuntime) {
     assert!(rt; lexer.is_done());
 }
 
-/// Signs are taken as long as they can be.
+/// Signs are read as long as they can be.
 #[test]
 fn reads_the_signs_of_comparisons(rt: HostRuntime) {
     let mut lexer = Lexer::new(b"x<=1>=y!==<-2>");

@@ -1,8 +1,8 @@
 //! Examples of the libraries of hypergraphs, join trees, plans, the data model and step counters.
 //!
 //! Each module calls one library as its users do, with ample memory, and asserts what the calls return.
-//! The examples are tests, and stand in a crate of their own so that no library is proved twice: a crate
-//! with tests is. Nothing here is public, and no crate stands on this one.
+//! The examples are tests, and are a crate of their own so that no library is proved twice: a crate with
+//! tests is. Nothing here is public, and no crate uses this one.
 //!
 //! ```text
 //! module   library       examples of
@@ -11,7 +11,7 @@
 //! tree     djq_tree      the tree of one leaf
 //! plan     djq_plan      trees of queries, and refused queries
 //! model    djq_model     names
-//! steps    djq_counters     counters that take no bytes
+//! steps    djq_counters     counters that use no bytes
 //! ```
 //!
 //! Inside, `shapes` makes the sets and edges that several modules start from.

@@ -12,7 +12,7 @@ fn look_up_and_follow<L: Ledger>(tally: &mut Tally<L>)
     tally.link();
 }
 
-/// Ticks the listing thrice and the update once, and says so.
+/// Ticks the listing thrice and the update once, and returns both counts together.
 fn counted<L: Ledgers>(rt: &HostRuntime, blanks: Blanks) -> usize
     requires listing { blanks.listing.name ≡ L.listing }
     requires update { blanks.update.name ≡ L.update }

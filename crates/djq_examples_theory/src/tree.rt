@@ -2,7 +2,7 @@ use djq_hypergraph::{Names, VarSet};
 use djq_tree::{Node, Tree};
 use std::test::Fail;
 
-/// Larger trees are tested where they are made, in `djq_plan`.
+/// Larger trees are tested with their making, in `djq_plan`.
 #[test]
 fn reads_a_leaf(rt: HostRuntime) -> Result<(), Fail> {
     let alloc = rt.alloc();

@@ -12,7 +12,7 @@ use Rattle.djq_forest.specs.Shape.{is_need}
 use Rattle.djq_forest.specs.Invariants.{gives, IsForest}
 use Rattle.djq_forest.specs.Reducts.{TableEntry, TreeTables, AreReducts, columns_in}
 
--- for each node its knot, and the edges whose giving tells which of the knot's entries are tuples of the node
+-- for each node its knot, and the edges whose giving decides which of the knot's entries are tuples of the node
 pub record Fold : Type 0 where
   pub knots : List ℕ
   pub needs : List (List ℕ)
@@ -49,7 +49,7 @@ Represents t f o j k ns = ((k ≡ knot_of o j) × (ns ≡ needs_of o j))
 abbrev pub IsTrimFold : Tree → Forest → Fold → ℕ → ℕ → Type 0
 IsTrimFold t f o k c = (e : ℕ) × IsFed f o c e (knot_of o k) (columns_in t c k) × (needs_of o k ≡ e ∷ [])
 
--- a meet of the guard g and the side s is the guard's knot, which has a knot that stands for the side as its side
+-- a meet of the guard g and the side s is the guard's knot, which has the side's knot as its side
 pub record HasSide (t : Tree) (f : Forest) (o : Fold) (k g s : ℕ) : Type 0 where
   pub edge : ℕ
   pub within : edge < length f.edges
@@ -62,7 +62,7 @@ pub record HasSide (t : Tree) (f : Forest) (o : Fold) (k g s : ℕ) : Type 0 whe
   pub knot : knot_of o k ≡ knot_of o g
   pub needs : needs_of o k ≡ needs_of o g ++ edge ∷ []
 
--- or, where their labels are equal, one view that stands for both
+-- or, if their labels are equal, one view is both
 pub record IsOne (t : Tree) (f : Forest) (o : Fold) (k g s : ℕ) : Type 0 where
   pub labels : label_at t.labels g ≡ label_at t.labels s
   pub guard_needs : List ℕ
@@ -92,7 +92,7 @@ abbrev pub supports_at : Forest → Node → List ℕ → ℕ → ℕ
 supports_at f (Trim c) (j ∷ js) x = length (list_of (nth_edge f.edges j) x)
 supports_at f n ns x = 1
 
--- the entries that are tuples of a node, from slot x on, where these are the knot's tuples
+-- the entries that are tuples of a node, from slot x on, if these are the knot's tuples
 abbrev pub entries_from : Forest → Node → List ℕ → ℕ → List (Option (List ℕ)) → List TableEntry
 entries_from f n ns x [] = []
 entries_from f n ns x (None ∷ us) = entries_from f n ns (suc x) us
@@ -109,11 +109,11 @@ abbrev pub tables_of : Tree → Forest → Fold → ℕ → List (List TableEntr
 tables_of t f o zero = []
 tables_of t f o (suc n) = tables_of t f o n ++ node_entries t f o n ∷ []
 
--- the reducts that a forest stands for
+-- the reducts of a forest
 abbrev pub reducts_of : Tree → Forest → Fold → TreeTables
 reducts_of t f o = record { tree = t; tables = tables_of t f o (length t.nodes) }
 
--- each forest over a tree stands for reducts of it
+-- each forest over a tree represents reducts of it
 abbrev pub ForestsAreReducts : Type 0
 ForestsAreReducts = (t : Tree) (f : Forest) (o : Fold) → IsTree t → IsForest f → IsFoldOf t f o
     → AreReducts (reducts_of t f o)

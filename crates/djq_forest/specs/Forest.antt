@@ -1,5 +1,5 @@
 -- A forest as data: knots with their entries, and edges, each of which ties every entry of one knot to an entry
--- of another. Entries of a knot are told apart by the slots in which they lie.
+-- of another. Entries of a knot are distinguished by the slots in which they lie.
 use Rattle.std.specs.Prelude.{ℕ, Bool, true, false, ◌==◌, ◌&&◌, List, [], Option, Some, None, is_some, slice_index}
 use Rattle.std.specs.Prelude.{slice_index_or}
 
@@ -46,7 +46,7 @@ nth_edge es j = slice_index_or es j
 abbrev pub slot_at : List Knot → ℕ → ℕ → Option (List ℕ)
 slot_at ks k x = slice_index_or (nth_knot ks k).tuples x None
 
--- the cells of a tuple, none where there is no tuple
+-- the cells of a tuple, none if there is no tuple
 abbrev pub tuple_cells : Option (List ℕ) → List ℕ
 tuple_cells None = []
 tuple_cells (Some u) = u

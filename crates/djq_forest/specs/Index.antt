@@ -1,4 +1,4 @@
--- Where a view's entries are found by their tuples, and which of its slots are free, as it lies in memory. One array
+-- How a view finds its entries by their tuples, and which of its slots are free, as it lies in memory. One array
 -- links both the slots of each bucket and the free ones.
 use Rattle.std.specs.Prelude.{◌≡◌, ◌≢◌, ℕ, suc, ◌<◌, ◌≤◌, List, length, slice_index_or, Option, Some, None}
 use Rattle.djq_arena.specs.Chains.{IsOut, AreDistinctSlots, AreBelow}
@@ -39,7 +39,7 @@ pub record IsWanted (ts : List (Option (List ℕ))) (count : ℕ) : Type 0 where
 abbrev pub key_bucket : ℕ → List (Option (List ℕ)) → ℕ → ℕ
 key_bucket m ts x = class m (tuple_cells (tuple_in_slot ts x))
 
--- exactly these slots have entries
+-- these slots have entries, and no others
 pub record AreTaken (ts : List (Option (List ℕ))) (xs : List ℕ) : Type 0 where
   pub all : (x : ℕ) → IsOut x xs → tuple_in_slot ts x ≡ None
   pub only : (x : ℕ) → tuple_in_slot ts x ≡ None → IsOut x xs
@@ -71,12 +71,12 @@ abbrev pub first_free : Option ℕ → ℕ → ℕ
 first_free None used = used
 first_free (Some x) used = x
 
--- where the others are linked from
+-- the link to the others
 abbrev pub free_after : Option ℕ → List (Option ℕ) → Option ℕ
 free_after None links = None
 free_after (Some x) links = link_at links x
 
--- from where on slots have never had an entry, once the first free one has
+-- from which slot on none has ever had an entry, once the first free one has
 abbrev pub used_after : Option ℕ → ℕ → ℕ
 used_after None used = suc used
 used_after (Some x) used = used

@@ -24,7 +24,7 @@ abbrev pub unmet : Forest → ℕ → ℕ → ℕ
 unmet f k x = count_by (λ e. is_need k e && not (gives f.knots e x)) f.edges
 
 -- whether the edge lists the big knot's slot x for the small one's slot y: the entry there is tied to it, and,
--- where it feeds, lives
+-- if it feeds, lives
 abbrev pub is_to_list : List Knot → Edge → ℕ → ℕ → Bool
 is_to_list ks e x y = (tie_of e x == y) && cond e.feeds (lives ks e.big x) (has_entry ks e.big x)
 
@@ -61,5 +61,5 @@ pub record IsForest (f : Forest) : Type 0 where
   pub listed : (j x y : ℕ) → j < length f.edges → member x (list_of (nth_edge f.edges j) y)
       ≡ is_to_list f.knots (nth_edge f.edges j) x y
   pub once : (j y : ℕ) → j < length f.edges → AreDistinctSlots (list_of (nth_edge f.edges j) y)
-  -- the needs that aren't met are counted, so an entry lives exactly where all of its needs are
+  -- the needs that aren't met are counted, so an entry lives if and only if all of its needs are
   pub missing : (k x : ℕ) → has_entry f.knots k x ≡ true → missing_at f.knots k x ≡ unmet f k x

@@ -30,7 +30,7 @@ put_slots k s = as_knot k.leaf k.rank s
 abbrev pub empty_knot : Bool → ℕ → ℕ → Knot
 empty_knot leaf width rank = as_knot leaf rank (record { width = width; tuples = []; missing = []; refs = []; marks = [] })
 
--- so many slots are to be there for a row's tuple to come into slot x
+-- so many slots are to be there before a row's tuple is inserted into slot x
 pub record IsWantedFor (ts : List (Option (List ℕ))) (x count : ℕ) : Type 0 where
   pub slot : x < count
   pub more : length ts ≤ count

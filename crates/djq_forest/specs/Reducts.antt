@@ -22,7 +22,7 @@ pub record TreeTables : Type 0 where
 abbrev pub node_table : List (List TableEntry) → ℕ → List TableEntry
 node_table ts k = slice_index_or ts k []
 
--- the supports of the tuple u, 0 where it is absent
+-- the supports of the tuple u, 0 if it is absent
 unfoldable pub support_sum : List TableEntry → List ℕ → ℕ
 support_sum [] u = 0
 support_sum (e ∷ es) u = cond (same_tuple e.tuple u) e.supports 0 + support_sum es u
@@ -37,7 +37,7 @@ unfoldable pub group_count : List ℕ → List TableEntry → List ℕ → ℕ
 group_count key [] w = 0
 group_count key (e ∷ es) w = one (same_tuple (projection key e.tuple) w) + group_count key es w
 
--- where the variables of the node i stand in the label of the node j
+-- the places of the variables of the node i in the label of the node j
 abbrev pub columns_in : Tree → ℕ → ℕ → List ℕ
 columns_in t j i = label_columns (label_at t.labels j) (label_at t.labels i)
 

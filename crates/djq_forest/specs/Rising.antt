@@ -1,4 +1,4 @@
--- What is told of an entry that came to live, and of all that comes to live by it.
+-- What is propagated of an entry that became live, and of all that become live by it.
 use Rattle.std.specs.Prelude.{◌≡◌, ℕ, ◌-◌, ◌<◌, ◌≤◌, Bool, true, false, not, ◌==◌, ◌&&◌, List, [], ◌∷◌, length, slice_index_or, Option, Some, None}
 use Rattle.std.specs.List.{sum_by}
 use Rattle.djq_forest.specs.Forest.{Knot, Forest, nth_knot, nth_edge, has_entry, lives, list_of}
@@ -30,46 +30,46 @@ pub record HasSameEntries (f g : Forest) : Type 0 where
 abbrev pub LivesOn : Forest → Forest → Type 0
 LivesOn f g = (k y : ℕ) → lives f.knots k y ≡ true → lives g.knots k y ≡ true
 
--- all that is pending of entries is to be told
+-- all that is pending of entries is to be propagated
 abbrev pub IsDue : Forest → (ℕ → ℕ → Bool) → Type 0
 IsDue f pending = (i z : ℕ) → i < length f.edges → has_entry f.knots (nth_edge f.edges i).big z ≡ true
     → pending i z ≡ true → to_tell f i z ≡ true
 
--- it is pending that the edge j tells slot x
+-- what the edge j propagates to slot x is pending
 pub record IsPendingAt (f : Forest) (pending : ℕ → ℕ → Bool) (j x : ℕ) : Type 0 where
   pub told : IsToldBut f pending
   pub due : IsDue f pending
   pub tell : to_tell f j x ≡ true
   pub is : pending j x ≡ true
 
--- all is pending that is to be told of the entry in slot y of the knot k, which lives
+-- all is pending that is to be propagated of the entry in slot y of the knot k, which lives
 pub record IsPendingOf (f : Forest) (pending : ℕ → ℕ → Bool) (k y : ℕ) : Type 0 where
   pub told : IsToldBut f pending
   pub due : IsDue f pending
   pub lives : lives f.knots k y ≡ true
   pub all : (i z : ℕ) → i < length f.edges → is_source f k y i z ≡ true → to_tell f i z ≡ true → pending i z ≡ true
 
--- what is pending, but for what the edge j tells slot x
+-- what is pending, but for what the edge j propagates to slot x
 abbrev pub less_at : (ℕ → ℕ → Bool) → ℕ → ℕ → ℕ → ℕ → Bool
 less_at pending j x i z = pending i z && not ((i == j) && (z == x))
 
--- what is pending, but for what is to be told of the entry in slot y of the knot k
+-- what is pending, but for what is to be propagated of the entry in slot y of the knot k
 abbrev pub less_of : Forest → (ℕ → ℕ → Bool) → ℕ → ℕ → ℕ → ℕ → Bool
 less_of f pending k y i z = pending i z && not (is_source f k y i z)
 
--- g is f once the edge j has told slot x, and all has been told that hangs on it; what is pending besides stays so
+-- g is f once the edge j has propagated to slot x, and all that hangs on it; what is pending besides stays so
 pub record HasTold (f g : Forest) (j x : ℕ) : Type 0 where
   pub same : HasSameEntries f g
   pub on : LivesOn f g
   pub told : (pending : ℕ → ℕ → Bool) → IsPendingAt f pending j x → IsToldBut g (less_at pending j x)
 
--- g is f once all has been told that hangs on the entry in slot y of the knot k; what is pending besides stays so
+-- g is f once all has been propagated that hangs on the entry in slot y of the knot k; what is pending besides stays so
 pub record HasRisen (f g : Forest) (k y : ℕ) : Type 0 where
   pub same : HasSameEntries f g
   pub on : LivesOn f g
   pub told : (pending : ℕ → ℕ → Bool) → IsPendingOf f pending k y → IsToldBut g (less_of f pending k y)
 
--- an entry that came to live is to rise
+-- an entry that became live is to rise
 abbrev pub MayRise : Forest → ℕ → ℕ → Type 0
 MayRise f k y = (pending : ℕ → ℕ → Bool) × IsPendingOf f pending k y
 
@@ -87,7 +87,7 @@ RisesWith f g k y h z = (e : Forest) → HasRisen g e h z → HasRisen f e k y
 abbrev pub height_left : List Knot → ℕ → ℕ
 height_left ks k = sum_by (λ a. a.rank) ks - (nth_knot ks k).rank
 
--- the way up in f from the knot k comes in g to the entry in slot z of the knot h, which is to rise and is a side by the
+-- the way up in f from the knot k ends in g at the entry in slot z of the knot h, which is to rise and is a side by the
 -- edge j
 pub record RiseStopsAt (f g : Forest) (k h j z : ℕ) : Type 0 where
   pub rise : MayRise g h z
@@ -96,14 +96,14 @@ pub record RiseStopsAt (f g : Forest) (k h j z : ℕ) : Type 0 where
   pub small : (nth_edge g.edges j).small ≡ h
   pub higher : height_left g.knots h ≤ height_left f.knots k
 
--- g is f once the edge j has told these slots, one after the other, and all has been told that hangs on it
+-- g is f once the edge j has propagated to these slots, one after the other, and all that hangs on it
 abbrev pub HaveTold : Forest → Forest → ℕ → List ℕ → Type 0
 HaveTold f g j [] = f ≡ g
 HaveTold f g j (x ∷ xs) = (h : Forest) × HasTold f h j x × HaveTold h g j xs
 
--- a step tells all that hangs on it if nothing comes to live by it; else what came to live has to rise; and an entry has
--- risen once the edge that leads up from its knot has told it, or, where its knot is a side, all that are tied to it; or
--- if no edge leads up. If nothing else was pending the forest is whole then
+-- a step propagates all that hangs on it if nothing becomes live by it; else what became live has to rise; and an entry
+-- has risen once the edge that leads up from its knot has propagated it, or, if its knot is a side, to all that are tied
+-- to it; or if no edge leads up. If nothing else was pending the forest is whole then
 pub record RisingSteps : Type 0 where
   pub entries : (f g : Forest) → AreEntries f → HasSameEntries f g → AreEntries g
   pub fed : (f : Forest) (j x : ℕ) → AreEntries f → j < length f.edges → (nth_edge f.edges j).feeds ≡ true

@@ -77,7 +77,7 @@ pub record HasRoomFor (leaf x : ℕ) (ks : List Knot) : Type 0 where
   pub slot : x < length (nth_knot ks leaf).tuples
   pub views : HaveRoomAsViews ks (length ks)
 
--- a forest with more room is one, folded alike, and stands for the same reducts
+-- a forest with more room is one, folded alike, and represents the same reducts
 pub record RoomKeeps : Type 0 where
   pub forest : (f g : Forest) → IsRoomier f g → AreAlong g.knots g.edges → IsForest f → IsForest g
   pub fold : (t : Tree) (f g : Forest) (o : Fold) → IsRoomier f g → AreAlong f.knots f.edges → IsFoldOf t f o → IsFoldOf t g o

@@ -31,7 +31,7 @@ with_slots s n = record {
   marks = s.marks ++ replicate (n - length s.tuples) 0;
 }
 
--- an entry with this tuple came into a slot, with so many unmet needs, to which nothing is tied
+-- an entry with this tuple was inserted into a slot, with so many unmet needs, to which nothing is tied
 abbrev pub with_entry : SlotEntries → ℕ → List ℕ → ℕ → SlotEntries
 with_entry s x u missing = record {
   width = s.width;
@@ -41,7 +41,7 @@ with_entry s x u missing = record {
   marks = slice_set s.marks x 0;
 }
 
--- the entry in a slot went
+-- the entry in a slot was removed
 abbrev pub with_free : SlotEntries → ℕ → SlotEntries
 with_free s x = record {
   width = s.width;

@@ -1,4 +1,4 @@
--- When an entry can be told, or told no more, that another one lives: what a step of a change needs.
+-- When it can be propagated to an entry that another one lives, or lives no more: what a step of a change needs.
 use Rattle.std.specs.Prelude.{◌≡◌, ℕ, ◌+◌, ◌<◌, Bool, true, false, List, length}
 use Rattle.djq_hypergraph.specs.Hypergraph.{member}
 use Rattle.djq_forest.specs.declared.slots.TheConstants.{OUT}
@@ -18,7 +18,7 @@ pub record IsTied (f : Forest) (j x : ℕ) : Type 0 where
   pub entry : has_entry f.knots (nth_edge f.edges j).big x ≡ true
   pub tied : has_entry f.knots (nth_edge f.edges j).small (target f j x) ≡ true
 
--- by the edge j, which feeds, it can be told that the entry in slot x lives: it isn't listed, and if nothing is a need
+-- the edge j, which feeds, can propagate that the entry in slot x lives: it isn't listed, and if nothing is a need
 -- isn't met
 pub record CanTellFed (f : Forest) (j x : ℕ) : Type 0 where
   pub is_tied : IsTied f j x
@@ -32,7 +32,7 @@ pub record CanUntellFed (f : Forest) (j x : ℕ) : Type 0 where
   pub listed : member x (list_of (nth_edge f.edges j) (target f j x)) ≡ true
   pub few : missing_at f.knots (nth_edge f.edges j).small (target f j x) + 1 < OUT
 
--- the entry in slot x can be told that its side by the edge j lives: a need isn't met
+-- it can be propagated to the entry in slot x that its side by the edge j lives: a need isn't met
 pub record CanTellSide (f : Forest) (j x : ℕ) : Type 0 where
   pub is_tied : IsTied f j x
   pub unmet : 0 < missing_at f.knots (nth_edge f.edges j).big x
@@ -42,7 +42,7 @@ pub record CanUntellSide (f : Forest) (j x : ℕ) : Type 0 where
   pub is_tied : IsTied f j x
   pub few : missing_at f.knots (nth_edge f.edges j).big x + 1 < OUT
 
--- what is to be told, or to be told no more, can be
+-- what is to be propagated, or to be undone, can be
 pub record StepsCanBeTaken : Type 0 where
   pub fed : (f : Forest) (told : ℕ → ℕ → Bool) (j x : ℕ) → IsToldSoFar f told → CanBeTold f told j x false
       → (nth_edge f.edges j).feeds ≡ true → CanTellFed f j x

@@ -1,6 +1,6 @@
--- A forest while it is made known which entries live: what holds of it once some of it has been told. Where an edge
--- feeds, that an entry of its big knot lives is told to the one that it is tied to, which lists it then; else
--- that its side lives is told to the entry.
+-- A forest while it is propagated which entries live: what holds of it once some of it has been propagated. If an edge
+-- feeds, that an entry of its big knot lives is propagated to the one that it is tied to, which lists it then; else
+-- that its side lives is propagated to the entry.
 use Rattle.std.specs.Prelude.{◌≡◌, ℕ, ◌+◌, ◌-◌, ◌<◌, Bool, true, false, cond, not, ◌==◌, ◌&&◌, ◌||◌, List, ◌∷◌, length}
 use Rattle.std.specs.Prelude.{slice_set}
 use Rattle.djq_arena.specs.Chains.{AreDistinctSlots}
@@ -11,7 +11,7 @@ use Rattle.djq_forest.specs.Forest.{Knot, Edge, Forest, nth_knot, nth_edge, has_
 use Rattle.djq_forest.specs.Shape.{AreAlong, is_need}
 use Rattle.djq_forest.specs.Invariants.{AreEntries, IsForest, is_empty}
 
--- whether the edge j gives what the entry in slot x of its upper knot needs, as far as it has been told
+-- whether the edge j gives what the entry in slot x of its upper knot needs, as far as it has been propagated
 abbrev pub told_gives : Forest → (ℕ → ℕ → Bool) → ℕ → ℕ → Bool
 told_gives f told j x = cond (nth_edge f.edges j).feeds (not (is_empty (list_of (nth_edge f.edges j) x))) (told j x)
 
@@ -19,7 +19,7 @@ told_gives f told j x = cond (nth_edge f.edges j).feeds (not (is_empty (list_of 
 abbrev pub lacks : Forest → (ℕ → ℕ → Bool) → ℕ → ℕ → ℕ → Bool
 lacks f told k x j = is_need k (nth_edge f.edges j) && not (told_gives f told j x)
 
--- lists and counts are what has been told: for each edge, of which slots of its big knot
+-- lists and counts agree with what has been propagated: for each edge, of which slots of its big knot
 pub record IsToldSoFar (f : Forest) (told : ℕ → ℕ → Bool) : Type 0 where
   pub there : (j x : ℕ) → j < length f.edges → told j x ≡ true → has_entry f.knots (nth_edge f.edges j).big x ≡ true
   pub listed : (j x y : ℕ) → j < length f.edges → member x (list_of (nth_edge f.edges j) y)
@@ -29,18 +29,18 @@ pub record IsToldSoFar (f : Forest) (told : ℕ → ℕ → Bool) : Type 0 where
   pub missing : (k x : ℕ) → has_entry f.knots k x ≡ true → missing_at f.knots k x
       ≡ how_many (lacks f told k x) (length f.edges)
 
--- what there is to tell: where the edge j feeds, that the entry in slot x of its big knot lives, else that its side
+-- what there is to propagate: if the edge j feeds, that the entry in slot x of its big knot lives, else that its side
 -- does
 abbrev pub to_tell : Forest → ℕ → ℕ → Bool
 to_tell f j x = has_entry f.knots (nth_edge f.edges j).big x && cond (nth_edge f.edges j).feeds
     (lives f.knots (nth_edge f.edges j).big x)
     (lives f.knots (nth_edge f.edges j).small (tie_of (nth_edge f.edges j) x))
 
--- what has been told, and that slot x by the edge j, too
+-- what has been propagated, and that slot x by the edge j, too
 abbrev pub also_told : (ℕ → ℕ → Bool) → ℕ → ℕ → ℕ → ℕ → Bool
 also_told told j x i z = ((i == j) && (z == x)) || told i z
 
--- what has been told, but for slot x by the edge j
+-- what has been propagated, but for slot x by the edge j
 abbrev pub told_less : (ℕ → ℕ → Bool) → ℕ → ℕ → ℕ → ℕ → Bool
 told_less told j x i z = not ((i == j) && (z == x)) && told i z
 
@@ -79,7 +79,7 @@ put_list es j y xs = slice_set es j (with_list (nth_edge es j) y xs)
 abbrev pub target : Forest → ℕ → ℕ → ℕ
 target f j x = tie_of (nth_edge f.edges j) x
 
--- by the edge j, which feeds, another list for the slot that slot x is tied to, and, where its emptiness changes,
+-- by the edge j, which feeds, another list for the slot that slot x is tied to, and, if its emptiness changes,
 -- another number of unmet needs of the entry there
 abbrev pub relist : Forest → ℕ → ℕ → List ℕ → Bool → ℕ → Forest
 relist f j x xs turns m = record {
@@ -88,20 +88,20 @@ relist f j x xs turns m = record {
   stamp = f.stamp;
 }
 
--- it is told that the entry in slot x lives: it is listed, and if nothing was, a need of the one that it is tied to is
--- met now
+-- it is propagated that the entry in slot x lives: it is listed, and if nothing was, a need of the one that it is tied
+-- to is met now
 abbrev pub tell_fed : Forest → ℕ → ℕ → Forest
 tell_fed f j x = relist f j x (x ∷ list_of (nth_edge f.edges j) (target f j x))
     (is_empty (list_of (nth_edge f.edges j) (target f j x)))
     (missing_at f.knots (nth_edge f.edges j).small (target f j x) - 1)
 
--- it is told that it lives no more: it is listed no more, and if nothing is, a need isn't met any more
+-- it is propagated that it lives no more: it is listed no more, and if nothing is, a need isn't met any more
 abbrev pub untell_fed : Forest → ℕ → ℕ → Forest
 untell_fed f j x = relist f j x (list_less x (list_of (nth_edge f.edges j) (target f j x)))
     (is_empty (list_less x (list_of (nth_edge f.edges j) (target f j x))))
     (missing_at f.knots (nth_edge f.edges j).small (target f j x) + 1)
 
--- the entry in slot x is told that its side by the edge j lives: a need of it is met now
+-- it is propagated to the entry in slot x that its side by the edge j lives: a need of it is met now
 abbrev pub tell_side : Forest → ℕ → ℕ → Forest
 tell_side f j x = record {
   knots = put_missing f.knots (nth_edge f.edges j).big x (missing_at f.knots (nth_edge f.edges j).big x - 1);
@@ -109,7 +109,7 @@ tell_side f j x = record {
   stamp = f.stamp;
 }
 
--- it is told that it lives no more
+-- it is propagated that it lives no more
 abbrev pub untell_side : Forest → ℕ → ℕ → Forest
 untell_side f j x = record {
   knots = put_missing f.knots (nth_edge f.edges j).big x (missing_at f.knots (nth_edge f.edges j).big x + 1);
@@ -117,7 +117,7 @@ untell_side f j x = record {
   stamp = f.stamp;
 }
 
--- the edge is there, in slot x of its big knot there is an entry that is tied to one, and this has been told or not
+-- the edge is there, in slot x of its big knot there is an entry that is tied to one, and this has been propagated or not
 pub record CanBeTold (f : Forest) (told : ℕ → ℕ → Bool) (j x : ℕ) (was : Bool) : Type 0 where
   pub edge : j < length f.edges
   pub along : AreAlong f.knots f.edges
@@ -125,8 +125,8 @@ pub record CanBeTold (f : Forest) (told : ℕ → ℕ → Bool) (j x : ℕ) (was
   pub tied : has_entry f.knots (nth_edge f.edges j).small (target f j x) ≡ true
   pub was_told : told j x ≡ was
 
--- a forest is one of which all has been told that there is to tell; and one more telling, or one that is undone,
--- leaves what has been told
+-- a forest is one of which all has been propagated that there is; and one more step, or one that is undone, preserves
+-- what has been propagated
 pub record TellingKeeps : Type 0 where
   pub forest : (f : Forest) → IsForest f → IsToldSoFar f (to_tell f)
   pub settled : (f : Forest) → AreEntries f → IsToldSoFar f (to_tell f) → IsForest f

@@ -31,7 +31,7 @@ list_less x (y ∷ ys) = cond (x == y) ys (y ∷ list_less x ys)
 abbrev pub relisted : TieLists → ℕ → List ℕ → TieLists
 relisted t x xs = record { ties = t.ties; lists = slice_set t.lists (tie_at t x) xs }
 
--- slot x came first in its list
+-- slot x was inserted first in its list
 abbrev pub put_in_front : TieLists → ℕ → TieLists
 put_in_front t x = relisted t x (x ∷ list_at t (tie_at t x))
 
@@ -52,7 +52,7 @@ abbrev pub retied : TieLists → ℕ → ℕ → TieLists
 retied t x y = record { ties = slice_set t.ties x y; lists = t.lists }
 
 -- what holds of all ties: a slot that is listed is one of the slots, is tied to the one that it is listed for, and
--- stands there once
+-- occurs there once
 pub record AreTieLists (t : TieLists) : Type 0 where
   pub within : (x y : ℕ) → member x (list_at t y) ≡ true → x < length t.ties
   pub its : (x y : ℕ) → member x (list_at t y) ≡ true → tie_at t x ≡ y

@@ -1,4 +1,4 @@
--- The ties of an edge as they lie in memory: each slot's neighbours in its list, and where each list begins.
+-- The ties of an edge as they lie in memory: each slot's neighbours in its list, and the first slot of each list.
 use Rattle.std.specs.Prelude.{◌≡◌, ⊤, ℕ, ◌<◌, ◌≤◌, List, [], ◌∷◌, map, length, slice_index_or, slice_set}
 use Rattle.std.specs.Prelude.{Option, Some, None}
 use Rattle.djq_arena.specs.declared.chain.Pair.{Pair}
@@ -40,7 +40,7 @@ prev_set None to ts = ts
 prev_set (Some i) to ts = slice_set ts i
     (record { to = (tie_in ts i).to; beside = record { prev = to; next = (tie_in ts i).beside.next } })
 
--- another neighbour of a slot behind it, if there is a slot
+-- another neighbour of a slot after it, if there is a slot
 abbrev pub next_set : Option ℕ → Option ℕ → List Tie → List Tie
 next_set None to ts = ts
 next_set (Some i) to ts = slice_set ts i
@@ -77,6 +77,6 @@ pub record TiesAreSound (ts : List Tie) (heads : List (Option ℕ)) : Type 0 whe
   pub linked : AreLinked ts heads (lists_in ts heads)
   pub few : length ts ≤ SLOTS
 
--- the neighbours of the slots once slot x has come before the first one of a list
+-- the neighbours of the slots once slot x precedes the first one of a list
 unfoldable pub fronted : Option ℕ → ℕ → List Pair → List Pair
 fronted first x links = set_prev first (Some x) (slice_set links x (record { prev = None; next = first }))

@@ -13,7 +13,7 @@ pub record TreeForest : Type 0 where
   pub forest : Forest
   pub fold : Fold
 
--- the reducts of the tree that the forest stands for
+-- the reducts of the tree, as the forest has them
 abbrev pub reducts_in : TreeForest → TreeTables
 reducts_in x = reducts_of x.tree x.forest x.fold
 

@@ -10,7 +10,7 @@ same_tuple u v = bytes_eq u v
 unfoldable pub projection : List ℕ → List ℕ → List ℕ
 projection columns u = map (λ c. slice_index u c) columns
 
--- the place of the variable x in a label, whose length where it isn't there
+-- the place of the variable x in a label, whose length if it isn't there
 unfoldable pub variable_column : List ℕ → ℕ → ℕ
 variable_column [] x = zero
 variable_column (y ∷ ys) x = cond (y == x) zero (suc (variable_column ys x))

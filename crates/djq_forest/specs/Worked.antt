@@ -116,7 +116,7 @@ cover_tree = record {
   second_stage = 2;
 }
 
--- the knots for the same rows: the leaves, of which r stands for the meet, too; a view that repeats s, with an entry
+-- the knots for the same rows: the leaves, of which r is also the meet; a view that repeats s, with an entry
 -- for each y of r; and the root's view
 abbrev pub cover_knots : List Knot
 cover_knots =

@@ -1,4 +1,4 @@
-//! What an entry's coming to live makes known: the way up along edges that feed, and all that hangs on a side.
+//! What is propagated after an entry becomes live: up along edges that feed, and to all that hangs on a side.
 
 ghost use Rattle.std.specs.Prelude.{◌≡◌, ◌<◌, ℕ, false, length, slice_index_or, Some, None, IfSome, MatchOption};
 ghost use Rattle.djq_forest.specs.Forest.{nth_edge};
@@ -27,8 +27,8 @@ fn up_from(ups: &Vec<Link>, knot: usize) -> Option<u32>
     ups[knot].get()
 }
 
-/// Tells along edges that feed that an entry came to live, as long as entries come to live by it. It stops at one whose knot
-/// is a side, whose rise is left then.
+/// Propagates along edges that feed that an entry became live, as long as entries become live by it. It stops at one whose
+/// knot is a side, whose rise is left then.
 pub(crate) fn climb(
     knots: &mut Vec<Knot>,
     edges: &mut Vec<Edge>,
@@ -66,8 +66,8 @@ pub(crate) fn climb(
     climb(knots, edges, ups, small, to)
 }
 
-/// Tells all that hangs on an entry that came to live. Where the way up stops at a side, each entry that is tied to that is
-/// told, and rises in its turn if it comes to live.
+/// Propagates to all that hangs on an entry that it became live. If that stops at a side, each entry that is tied to the
+/// side is updated, and rises in its turn if it becomes live.
 pub(crate) fn rise(
     knots: &mut Vec<Knot>,
     edges: &mut Vec<Edge>,

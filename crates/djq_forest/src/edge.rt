@@ -142,7 +142,7 @@ impl Edge {
         self.ties.enter(slot)
     }
 
-    /// Takes a slot out of its list. Returns whether that is empty now.
+    /// Removes a slot from its list. Returns whether the list is empty now.
     pub fn leave(&mut self, slot: u32) -> bool
         requires { is_in_list (edge_ties self.old) slot ≡ true }
         ensures left { self.new ≡ put_ties self.old (taken_out (edge_ties self.old) slot) }

@@ -16,7 +16,7 @@ use djq_tree::Tree;
 use std::alloc::{AllocError, Global};
 use std::marker::Model;
 
-/// The edges whose giving tells which entries of a knot are tuples of a node.
+/// The edges by which it is known which entries of a knot are tuples of a node.
 #[derive(Drop)]
 pub struct Needs {
     edges: Vec<usize>,
@@ -40,7 +40,7 @@ impl Needs {
 }
 
 /// The forest of a tree: for each leaf the tuples that rows give it, for each view its entries, and the ties between them.
-/// It stands for the tree's reducts.
+/// It represents the tree's reducts.
 #[derive(Drop)]
 pub struct Forest {
     tree: Tree,
@@ -106,7 +106,7 @@ impl Forest {
         }
     }
 
-    /// What holds of it, and of the reducts that it stands for. It does nothing.
+    /// What holds of it, and of the reducts that it represents. It does nothing.
     pub fn laws(&self)
         ensures sound { IsTreeForest self.now }
         ensures reducts { AreReducts (reducts_in self.now) }

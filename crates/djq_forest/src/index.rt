@@ -12,10 +12,10 @@ use crate::slots::Slots;
 use djq_arena::{Link, SLOTS, hash_of};
 use std::alloc::{AllocError, Global};
 
-/// Where a view's entries are found by their tuples, and which of its slots are free.
+/// Finds a view's entries by their tuples, and lists which of its slots are free.
 #[derive(Drop)]
 pub struct Index {
-    /// For each slot the one behind it: in its bucket if it has an entry, else among the free ones.
+    /// For each slot the one after it: in its bucket if it has an entry, else among the free ones.
     pub links: Vec<Link>,
     /// For each bucket its first slot.
     pub heads: Vec<Link>,
@@ -35,7 +35,7 @@ fn bucket_in(heads: &Vec<Link>, code: u64) -> usize
     code as usize & (heads.len() - 1)
 }
 
-/// Where the link of a slot, or the head of a bucket, points to.
+/// What the link of a slot, or the head of a bucket, points to.
 fn link_of(links: &Vec<Link>, at: usize) -> Link
     requires { at < length links.now.items }
     ensures { result ≡ link_at links.now.items at }
@@ -81,7 +81,7 @@ fn push_bucket(links: &mut Vec<Link>, heads: &mut Vec<Link>, class: usize, slot:
     heads[class] = Link::to(slot);
 }
 
-/// The slot that stands before this one in its bucket, if any. A bucket is short.
+/// The slot before this one in its bucket, if any. A bucket is short.
 fn before(links: &Vec<Link>, head: Link, slot: u32) -> Link
     requires { StandsInChain links.now.items head slot }
     ensures { IsBehind links.now.items head slot result }
@@ -103,7 +103,7 @@ fn before(links: &Vec<Link>, head: Link, slot: u32) -> Link
     before
 }
 
-/// Takes a slot out of its bucket.
+/// Removes a slot from its bucket.
 fn unlist(links: &mut Vec<Link>, heads: &mut Vec<Link>, class: usize, slot: u32)
     requires class { class < length heads.old.items }
     requires stands { StandsInChain links.old.items (link_at heads.old.items class) slot }
@@ -116,7 +116,7 @@ fn unlist(links: &mut Vec<Link>, heads: &mut Vec<Link>, class: usize, slot: u32)
     }
 }
 
-/// Takes the first of the free slots from among them.
+/// Removes the first of the free slots from their list.
 fn take_free(links: &Vec<Link>, free: &mut Link, used: &mut u32) -> u32
     requires some { first_free free.old used.old < length links.now.items }
     requires number { first_free free.old used.old < SLOTS }
@@ -202,7 +202,7 @@ impl Index {
         })
     }
 
-    /// The slot of the entry with a tuple; none exactly where no entry has it.
+    /// The slot of the entry with a tuple; none if no entry has it.
     pub fn find(&self, slots: &Slots, tuple: &[u64]) -> Option<u32>
         requires { IsIndexOf self.now slots.now.tuples }
         ensures { MatchOption result (HasNoEntry slots.now.tuples tuple.now)
@@ -235,7 +235,7 @@ impl Index {
         slot
     }
 
-    /// Takes the entry in a slot out. The slot is free then.
+    /// Removes the entry in a slot, which is free then.
     pub fn remove(&mut self, slots: &mut Slots, slot: u32)
         requires index { IsIndexOf self.old slots.old.tuples }
         requires taken { IsTaken slots.old slot }

@@ -95,7 +95,7 @@ impl Knot {
         self.slots.note(slot)
     }
 
-    /// The slot of a view's entry with a tuple; none exactly if no entry has it.
+    /// The slot of a view's entry with a tuple; none if no entry has it.
     pub fn find(&self, tuple: &[u64]) -> Option<u32>
         requires { self.now.leaf ≡ false }
         ensures { MatchOption result (HasNoEntry self.now.tuples tuple.now)
@@ -112,8 +112,8 @@ impl Knot {
         self.index.wanted(&self.slots)
     }
 
-    /// How many slots a leaf is to have for a row's tuple to come into this one: as many as there are if it is one of
-    /// them, else an eighth more, and a few. It fails only if there can't be so many.
+    /// How many slots a leaf is to have before a row's tuple is inserted into this one: as many as there are if it is
+    /// one of them, else an eighth more, and a few. It fails only if there can't be so many.
     pub fn wanted_for(&self, slot: u32) -> Result<usize, AllocError>
         ensures { IfOk result (λ count. IsWantedFor self.now.tuples slot count) }
     {
@@ -150,7 +150,7 @@ impl Knot {
         self.index.insert(&mut self.slots, tuple, missing)
     }
 
-    /// Takes the entry in a slot of a view out. The slot is free then.
+    /// Removes the entry in a slot of a view, which is free then.
     pub fn remove(&mut self, slot: u32)
         requires view { self.old.leaf ≡ false }
         requires taken { IsTaken (knot_slots self.old) slot }
@@ -170,7 +170,7 @@ impl Knot {
         self.slots.put(slot, tuple, missing);
     }
 
-    /// Takes the entry in a slot of a leaf out, if there is one.
+    /// Removes the entry in a slot of a leaf, if there is one.
     pub fn free(&mut self, slot: u32)
         requires leaf { self.old.leaf ≡ true }
         requires within { slot < length self.old.tuples }

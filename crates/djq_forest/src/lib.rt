@@ -1,5 +1,5 @@
 //! The entries of a join tree's nodes, tied to each other by links: what a change of a row does to the tables of a query
-//! is found by following ties, with one look-up for each entry that comes.
+//! is found by following ties, with one look-up for each new entry.
 //!
 //! This crate is being built. It has the data of a forest with what holds of it (`specs/`, in the order of
 //! `specs/Lib.antt`), and bottom-up the parts that it is made of; the program doesn't use it yet. It is to replace
@@ -29,26 +29,26 @@
 //!
 //! An entry *lives* if each edge that feeds its knot has a living entry tied to it, and each side that it is tied to
 //! lives. Above, 7 of y lives, since r and s feed it; 8 and 9 don't. So a view has entries for dead ends, too: which
-//! entries there are depends on the leaves' tuples alone, and coming to live moves numbers and links. It looks nothing
-//! up, takes no memory and can't fail.
+//! entries there are depends on the leaves' tuples alone, and an entry becomes live by changes of numbers and links. That
+//! looks nothing up, needs no memory and can't fail.
 //!
 //! Each edge lists for each entry of its small knot the entries of its big one that are tied to it; if it feeds,
 //! those of them that live. So a list's length is the number of supports of a trim's tuple.
 //!
-//! What holds of a forest between two changes is `IsForest` (`specs/Invariants.antt`), and what it stands for is
+//! What holds of a forest between two changes is `IsForest` (`specs/Invariants.antt`), and what it represents is
 //! `reducts_of` (`specs/Fold.antt`): the table of each node, with as many supports as the node's reduct has.
 //!
 //! In the midst of a change some of what lives isn't known everywhere yet: `IsToldSoFar` (`specs/Telling.antt`) defines
 //! lists and counts by the steps that were propagated. Each step preserves it, done or undone; after the last one the
-//! forest is whole again. What is still to be propagated is *pending* (`specs/Pending.antt`): a step takes what it
-//! propagates out of that, and adds what is to be propagated of an entry that came to live by it, or ceased to. An entry
+//! forest is whole again. What is still to be propagated is *pending* (`specs/Pending.antt`): a step removes from that
+//! what it propagates, and adds what is to be propagated of an entry that becomes live by it, or ceases to be. An entry
 //! has *risen* once nothing that hangs on it is pending any more (`specs/Rising.antt`).
 //!
 //! Inside, entries lie in slots ([`Slots`]): the cells of all one after the other, and a note of twelve bytes for each. A
 //! [`Tie`] has twelve bytes, too: the slot that it leads to, and its neighbours in that one's list. A leaf's entries lie
-//! in their rows' slots; a view's are found by their tuples ([`Index`]), for four bytes a slot and as many a bucket,
-//! and one array links both the slots of a bucket and the free ones. Links are four bytes, slots of arrays, no pointers.
-//! Room for an entry is taken before it comes ([`Forest::reserve`]), so that its coming can't fail.
+//! in their rows' slots; a view's are found by their tuples ([`Index`]), for four bytes a slot and as many a bucket, and
+//! one array links both the slots of a bucket and the free ones. Links are four bytes, slots of arrays, no pointers. Room
+//! for an entry is reserved before it is inserted ([`Forest::reserve`]), so that inserting it can't fail.
 #![tactic(auto)]
 
 mod climb;
@@ -76,14 +76,14 @@ pub use knot::Knot;
 pub use slots::{Note, OUT, Slots};
 pub use ties::{Tie, Ties};
 
-/// The forest above is one, over its tree, and stands for the join's reducts; and so is that of the same rows if s is
+/// The forest above is one, over its tree, and represents the join's reducts; and so is that of the same rows if s is
 /// a side of r. It does nothing.
 pub fn examples_are_worked()
     ensures join { JoinIsWorked }
     ensures cover { CoverIsWorked }
 {}
 
-/// What a forest over a tree stands for are the tree's reducts. It does nothing.
+/// What a forest over a tree represents are the tree's reducts. It does nothing.
 pub fn forests_are_reducts()
     ensures { ForestsAreReducts }
 {}
@@ -99,19 +99,19 @@ pub fn steps_can_be_taken()
     ensures { StepsCanBeTaken }
 {}
 
-/// While entries come to live, or cease to, what a step propagates is pending no more, and what came to live by it is, or
-/// what ceased to; without anything pending the forest is whole. It does nothing.
+/// While entries become live, or cease to be, what a step propagates is pending no more, and what became live by it is,
+/// or ceased to be; without anything pending the forest is whole. It does nothing.
 pub fn pending_moves()
     ensures { PendingMoves }
 {}
 
-/// Steps by which all is propagated that hangs on an entry that came to live, while what is pending besides stays so. It
+/// Steps by which all is propagated that hangs on an entry that became live, while what is pending besides stays so. It
 /// does nothing.
 pub fn rising_steps()
     ensures { RisingSteps }
 {}
 
-/// A forest with more room for entries is one over the same tree, and stands for the same reducts. It does nothing.
+/// A forest with more room for entries is one over the same tree, and represents the same reducts. It does nothing.
 pub fn room_keeps()
     ensures { RoomKeeps }
 {}

@@ -10,7 +10,7 @@ ghost use Rattle.djq_forest.specs.Slots.{free_note, note_in};
 use std::alloc::{AllocError, Global};
 use std::marker::Model;
 
-/// The number of unmet needs that stands for a slot without an entry.
+/// The number of unmet needs that marks a slot without an entry.
 pub const OUT: u32 = u32::MAX;
 
 /// What is noted of an entry: how many of its needs aren't met, how many entries are tied to it, and by which change it
@@ -197,7 +197,7 @@ impl Slots {
         );
     }
 
-    /// Takes the entry in a slot out, if there is one.
+    /// Removes the entry in a slot, if there is one.
     pub fn free(&mut self, slot: u32)
         requires { slot < length self.old.tuples }
         ensures { self.new ≡ with_free self.old slot }

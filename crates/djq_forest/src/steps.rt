@@ -1,4 +1,4 @@
-//! The steps of a change: an entry is told, or told no more, that another one lives.
+//! The steps of a change: an entry is updated as another one becomes live or ceases to be.
 
 ghost use Rattle.std.specs.Prelude.{◌≡◌, ◌+◌, ◌-◌, ◌<◌, ◌==◌, ◌&&◌, ℕ, true, false, List, ◌∷◌, ◌++◌, length};
 ghost use Rattle.djq_arena.specs.Chains.{first_of};
@@ -117,7 +117,7 @@ pub(crate) fn big_at(edges: &Vec<Edge>, at: usize) -> usize
     edges[at].big()
 }
 
-/// By an edge that feeds, tells that the entry in a slot lives. Returns whether the one that it is tied to comes to live.
+/// By an edge that feeds, propagates that the entry in a slot lives. Returns whether the one that it is tied to becomes live.
 pub(crate) fn tell_fed(knots: &mut Vec<Knot>, edges: &mut Vec<Edge>, edge: usize, slot: u32) -> bool
     requires { CanTellFed (forest_with knots.old.items edges.old.items) edge slot }
     ensures told { forest_with knots.new.items edges.new.items ≡ tell_fed (forest_with knots.old.items edges.old.items) edge slot }
@@ -131,8 +131,8 @@ pub(crate) fn tell_fed(knots: &mut Vec<Knot>, edges: &mut Vec<Edge>, edge: usize
     lower_at(knots, small, to)
 }
 
-/// By an edge that feeds, tells that the entry in a slot lives no more. Returns whether the one that it is tied to ceases
-/// to live.
+/// By an edge that feeds, propagates that the entry in a slot lives no more. Returns whether the one that it is tied to
+/// ceases to live.
 pub(crate) fn untell_fed(
     knots: &mut Vec<Knot>,
     edges: &mut Vec<Edge>,
@@ -151,7 +151,7 @@ pub(crate) fn untell_fed(
     raise_at(knots, small, to)
 }
 
-/// Tells the entry in a slot that its side by an edge lives. Returns whether it comes to live.
+/// Propagates to the entry in a slot that its side by an edge lives. Returns whether it becomes live.
 pub(crate) fn tell_side(knots: &mut Vec<Knot>, edges: &Vec<Edge>, edge: usize, slot: u32) -> bool
     requires { CanTellSide (forest_with knots.old.items edges.now.items) edge slot }
     ensures told { forest_with knots.new.items edges.now.items ≡ tell_side (forest_with knots.old.items edges.now.items) edge slot }
@@ -161,7 +161,7 @@ pub(crate) fn tell_side(knots: &mut Vec<Knot>, edges: &Vec<Edge>, edge: usize, s
     lower_at(knots, big, slot)
 }
 
-/// Tells the entry in a slot that its side by an edge lives no more. Returns whether it ceases to live.
+/// Propagates to the entry in a slot that its side by an edge lives no more. Returns whether it ceases to live.
 pub(crate) fn untell_side(knots: &mut Vec<Knot>, edges: &Vec<Edge>, edge: usize, slot: u32) -> bool
     requires { CanUntellSide (forest_with knots.old.items edges.now.items) edge slot }
     ensures told { forest_with knots.new.items edges.now.items

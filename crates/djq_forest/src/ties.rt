@@ -46,7 +46,7 @@ fn tie_of(ties: &Vec<Tie>, slot: u32) -> Tie
     ties[slot as usize]
 }
 
-/// Where the list of a slot begins.
+/// The first slot of a slot's list.
 fn head_of(heads: &Vec<Link>, slot: u32) -> Link
     requires { slot < length heads.now.items }
     ensures { result ≡ head_in heads.now.items slot }
@@ -202,7 +202,7 @@ impl Ties {
         next.get().is_none()
     }
 
-    /// Takes a slot out of its list. Returns whether that is empty now.
+    /// Removes a slot from its list. Returns whether the list is empty now.
     pub fn leave(&mut self, slot: u32) -> bool
         requires { is_in_list self.old slot ≡ true }
         ensures left { self.new ≡ taken_out self.old slot }

@@ -45,7 +45,7 @@ use djq_reduct::Cells;
 use std::alloc::{AllocError, Global};
 use std::marker::Model;
 
-/// The different tuples of up to eight deltas, each with the deltas in which it stands, and its signs.
+/// The different tuples of up to eight deltas, each with the deltas in which it occurs, and its signs.
 #[derive(Drop)]
 pub struct Gains {
     tuples: Arena,
@@ -68,7 +68,7 @@ impl Model for Gains {
         × StandSomewhere (gains_in g.marks.items g.tuples.rows) };
 }
 
-/// Makes sure that a slot has marks, and takes them away.
+/// Makes sure that a slot has marks, and clears them.
 fn unmark(marks: &mut Vec<Marks>, slot: u32)
     requires slot { slot ≤ length marks.old.items }
     requires room { slot < length marks.old.items ⊎ vec_len marks.old < vec_capacity marks.old }
@@ -84,7 +84,7 @@ fn unmark(marks: &mut Vec<Marks>, slot: u32)
     }
 }
 
-/// Lays a tuple into a slot, which has no mark. Where there is no memory, all stays as it was.
+/// Writes a tuple into a slot, which has no mark. Out of memory, nothing changes.
 fn lay(tuples: &mut Arena, marks: &mut Vec<Marks>, cells: &[u64]) -> Result<u32, AllocError>
     requires wide { length cells.now ≡ tuples.old.width }
     requires room { tuples.old.room ≤ length marks.old.items }
@@ -108,7 +108,7 @@ fn lay(tuples: &mut Arena, marks: &mut Vec<Marks>, cells: &[u64]) -> Result<u32,
     Ok(slot)
 }
 
-/// The slot where a tuple lies; it is laid where there is none.
+/// The slot of a tuple; it is inserted if there is none.
 fn seat(tuples: &mut Arena, marks: &mut Vec<Marks>, cells: &[u64]) -> Result<u32, AllocError>
     requires wide { length cells.now ≡ tuples.old.width }
     requires room { tuples.old.room ≤ length marks.old.items }
@@ -127,7 +127,7 @@ fn seat(tuples: &mut Arena, marks: &mut Vec<Marks>, cells: &[u64]) -> Result<u32
     }
 }
 
-/// Marks a slot's tuple as one of the nth delta, that came there or went.
+/// Marks a slot's tuple as one that the nth delta adds or removes.
 fn mark(marks: &mut Vec<Marks>, slot: u32, nth: usize, came: bool)
     requires slot { slot < length marks.old.items }
     requires nth { nth < 8 }
@@ -167,7 +167,7 @@ impl Gains {
         self.tuples.len()
     }
 
-    /// Takes in a tuple of the nth delta, that came there or went. It fails only out of memory.
+    /// Inserts a tuple that the nth delta adds or removes. It fails only out of memory.
     pub fn note(&mut self, nth: usize, came: bool, cells: &Cells) -> Result<(), AllocError>
         requires nth { nth < 8 }
         requires wide { length cells.now ≡ self.old.width }
@@ -189,7 +189,7 @@ impl Gains {
         self.tuples.first()
     }
 
-    /// The slot of the tuple behind the one in a slot.
+    /// The slot of the tuple after the one in a slot.
     pub fn next(&self, slot: u32) -> Option<u32>
         requires { IsIn self.now.gains slot }
         ensures { (xs : List Gain) (g : Gain) (ys : List Gain) → self.now.gains ≡ xs ++ g ∷ ys → g.slot ≡ slot

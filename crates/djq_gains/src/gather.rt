@@ -33,8 +33,8 @@ fn is_among(places: &[usize], place: usize) -> bool
     places.contains(&place)
 }
 
-/// Takes in what is told of the query in a place, as the nth delta. It fails where that is lost, or out
-/// of memory.
+/// Inserts the delta of the query in a place, as the nth one. It fails if that is lost, or out of
+/// memory.
 fn gather_from(
     engine: &Engine,
     place: usize,
@@ -65,8 +65,8 @@ fn gather_from(
     Ok(())
 }
 
-/// Gathers the different answers that are told of the members that were touched. It fails where what is
-/// told of one is lost, or out of memory.
+/// Gathers the different answers in the deltas of the members that were touched. It fails if one of
+/// these is lost, or out of memory.
 pub fn gather(
     alloc: Global,
     engine: &Engine,

@@ -1,7 +1,7 @@
 ghost use Rattle.std.specs.Prelude.{◌≡◌, ◌<◌, length};
 ghost use Rattle.djq_gains.specs.Gathered.{in_no_delta, also_in};
 
-/// Of a tuple, in which of up to eight deltas it stands, and with which signs.
+/// Of a tuple, in which of up to eight deltas it occurs, and with which signs.
 #[derive(Clone, Copy)]
 pub struct Marks {
     // by delta
@@ -24,7 +24,7 @@ impl Marks {
         }
     }
 
-    /// In the nth delta too, as one that came, or went.
+    /// In the nth delta too, as one that was added, or removed.
     pub fn set(&mut self, nth: usize, came: bool)
         requires { nth < 8 }
         ensures set { self.new ≡ also_in nth came self.old }

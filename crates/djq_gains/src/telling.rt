@@ -59,8 +59,8 @@ fn is_alone<L: Ledger>(
     true
 }
 
-/// Lists the tuple in a slot into the log, unless it came to one member and went from another, or a member
-/// in whose delta it doesn't stand has it.
+/// Lists the tuple in a slot into the log, unless it was added to one member and removed from another, or
+/// a member in whose delta it doesn't occur has it.
 fn tell_one<L: Ledger>(
     group: &QueriesAt,
     gains: &Gains,
@@ -96,7 +96,7 @@ fn tell_one<L: Ledger>(
     }
 }
 
-/// Lists into the log what is to be told of all that is gathered.
+/// Lists into the log the union's delta, from all that is gathered.
 fn tell<L: Ledger>(group: &QueriesAt, gains: &Gains, log: &mut DeltaLog, listing: &mut Tally<L>)
     requires queries { HaveQueries group.now.queries.now group.now.places.now }
     requires some { 0 < length group.now.places.now }
@@ -123,12 +123,12 @@ fn tell<L: Ledger>(group: &QueriesAt, gains: &Gains, log: &mut DeltaLog, listing
     }
 }
 
-/// Tells how a union's answers changed, from how its members' did: lists into the log, which is cleared
-/// first, the answers of the union that came and those that went. The members are named by their
+/// Computes how a union's answers changed, from how its members' did: lists into the log, which is cleared
+/// first, the answers that were added to the union and removed from it. The members are named by their
 /// places, and so are those of them that were touched, as they read a relation that changed.
 ///
-/// If the log of one of these is lost, or memory is refused, the union's log is lost. It counts at
-/// most one test with all members for each answer that came to one of them, or went.
+/// If the log of one of these is lost, or memory is refused, the union's log is lost. It counts at most
+/// one test with all members for each answer that was added to one of them, or removed.
 pub fn tell_gains<L: Ledger>(
     alloc: Global,
     engine: &Engine,

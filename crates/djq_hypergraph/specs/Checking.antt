@@ -1,10 +1,10 @@
--- What a link must meet to be put behind the earlier ones.
+-- What a link must meet to be appended to the earlier ones.
 use Rattle.std.specs.Prelude.{◌≡◌, ℕ, ◌<◌, List, length}
 use Rattle.djq_hypergraph.specs.declared.join_tree.Link.{Link}
 use Rattle.djq_hypergraph.specs.Hypergraph.{member, one, degree, edge_at}
 use Rattle.djq_hypergraph.specs.JoinTree.{places, link_edges}
 
--- the link's edge is a new one, its parent stands before it, and has what the edge shares with those before
+-- the link's edge is a new one, its parent precedes it, and has what the edge shares with those before
 pub record FitsTree (E : List (List ℕ)) (before : List Link) (k : Link) : Type 0 where
   pub below : k.edge < length E
   pub fresh : places k.edge before ≡ 0

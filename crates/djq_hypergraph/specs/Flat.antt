@@ -15,7 +15,7 @@ is_apart H x y = list_all (λ e. not (member x e && member y e)) H
 pub record IsFlatAt (H : List (List ℕ)) (F : List ℕ) (x : ℕ) : Type 0 where
   -- all edges of one have the other, or no edge has both
   pub nested : (y : ℕ) → (edges_are_within H x y || edges_are_within H y x || is_apart H x y) ≡ true
-  -- where x is in the head, and y has all edges of x and further ones, y is in the head
+  -- if x is in the head, and y has all edges of x and further ones, y is in the head
   pub headed : (y : ℕ) → member x F ≡ true → edges_are_within H x y ≡ true → edges_are_within H y x ≡ false
       → member y F ≡ true
 

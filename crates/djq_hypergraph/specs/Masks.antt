@@ -1,4 +1,4 @@
--- A machine word as a set of variables: bit x is set where the variable x is in.
+-- A machine word as a set of variables: bit x is set if the variable x is in it.
 use Rattle.std.specs.Prelude.{◌≡◌, ◌≢◌, ◌⊎◌, ℕ, zero, suc, ◌+◌, ◌^◌, ◌<◌, ◌≤◌, Bool, true, false}
 use Rattle.std.specs.Prelude.{cond, ◌==◌, List, [], ◌∷◌, filter, bit_or, refl}
 use Rattle.std.specs.Int.{bit_at}
@@ -23,7 +23,7 @@ mask_of (x ∷ xs) = bit_or (2 ^ x) (mask_of xs)
 abbrev pub has_bit : ℕ → List ℕ → ℕ
 has_bit x l = one (member x l)
 
--- what a filter of a range keeps
+-- what a filter of a range retains
 kept_other : (b : Bool) (x a : ℕ) (l : List ℕ) → x ≢ a → has_bit x (cond b (a ∷ l) l) ≡ has_bit x l
 kept_other true x a l apart = rw (ne_eqb x a apart) refl
 kept_other false x a l apart = refl
@@ -32,7 +32,7 @@ kept_same : (b : Bool) (a : ℕ) (l : List ℕ) → has_bit a l ≡ 0 → has_bi
 kept_same true a l none = rw (eq-eqb a a refl) refl
 kept_same false a l none = none
 
--- a filter of a range keeps no variable that is outside of the range
+-- a filter of a range retains no variable that is outside of the range
 pub range_outside : (p : ℕ → Bool) (x a n : ℕ) → (x < a) ⊎ (a + n ≤ x) → has_bit x (filter p (range_with_len a n)) ≡ 0
 range_outside p x a zero out = refl
 range_outside p x a (suc n) out =
@@ -40,7 +40,7 @@ range_outside p x a (suc n) out =
     kept_other (p a) x a (filter p (range_with_len (a + 1) n)) apart
     ∙ range_outside p x (a + 1) n (⊎_elim (λ h. inl (omega arith)) (λ h. inr (omega arith)) out)
 
--- a filter of a range keeps a variable within the range exactly where it passes
+-- a filter of a range retains a variable within the range if and only if it passes
 pub range_within : (p : ℕ → Bool) (x a n : ℕ) → a ≤ x → x < a + n
     → has_bit x (filter p (range_with_len a n)) ≡ one (p x)
 range_within p x a zero from below = absurd (omega arith)
@@ -59,7 +59,7 @@ one_bit zero h = refl
 one_bit (suc zero) h = refl
 one_bit (suc (suc d)) h = absurd (omega arith)
 
--- a variable is in exactly where its bit is set
+-- a variable is in if and only if its bit is set
 pub has_variables : (x n : ℕ) → n < 2 ^ VARIABLES → has_bit x (mask_variables n) ≡ bit_at n x
 unfolding mask_variables
 has_variables x n fits =
@@ -70,7 +70,7 @@ has_variables x n fits =
     ∙ sym (bit_at_above n VARIABLES x fits above))
     (cases_lt x VARIABLES)
 
--- the bit of a variable in a list's word is set exactly where the list has the variable
+-- the bit of a variable in a list's word is set if and only if the list has the variable
 pub bit_at_mask : (x : ℕ) (l : List ℕ) → bit_at (mask_of l) x ≡ has_bit x l
 unfolding mask_of
 bit_at_mask x [] = bit_at-zero x

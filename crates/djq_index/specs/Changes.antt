@@ -1,10 +1,10 @@
--- How one call changes the entries of a table. Where in the list an entry comes is said only as far as its
--- group: behind all others of it.
+-- How one call changes the entries of a table. The place of an inserted entry in the list is stated only
+-- within its group: after all others of it.
 use Rattle.std.specs.Prelude.{◌≡◌, ℕ, Bool, true, false, List, ◌∷◌, ◌++◌}
 use Rattle.djq_index.specs.Tuple.{pick}
 use Rattle.djq_index.specs.Entries.{Entry, group_size}
 
--- the tuple u came, marked or not and with one support, as the last of its group
+-- the tuple u was inserted, marked or not and with one support, as the last of its group
 pub record InsertedAs (mark : Bool) (key : List ℕ) (old new : List Entry) (u : List ℕ) : Type 0 where
   pub front : List Entry
   pub back : List Entry
@@ -16,11 +16,11 @@ pub record InsertedAs (mark : Bool) (key : List ℕ) (old new : List Entry) (u :
   pub marked : entry.marked ≡ mark
   pub last : group_size key back (pick key u) ≡ 0
 
--- it came marked
+-- it was inserted marked
 abbrev pub Inserted : List ℕ → List Entry → List Entry → List ℕ → Type 0
 Inserted key old new u = InsertedAs true key old new u
 
--- the tuple u went
+-- the tuple u was removed
 pub record Removed (old new : List Entry) (u : List ℕ) : Type 0 where
   pub front : List Entry
   pub back : List Entry

@@ -4,14 +4,14 @@ use Rattle.std.specs.Prelude.{ℕ, ◌+◌, Bool, false, cond, List, [], ◌∷�
 use Rattle.djq_index.specs.declared.place.Place.{Place}
 use Rattle.djq_index.specs.Tuple.{same, pick, one_if}
 
--- a tuple that a table holds: where it lies, how many supports it has, and whether it is marked
+-- a tuple that a table holds: its place, how many supports it has, and whether it is marked
 pub record Entry : Type 0 where
   pub at : Place
   pub tuple : List ℕ
   pub supports : ℕ
   pub marked : Bool
 
--- the supports of the tuple u, 0 where it is absent
+-- the supports of the tuple u, 0 if it is absent
 unfoldable pub supports_of : List Entry → List ℕ → ℕ
 supports_of [] u = 0
 supports_of (e ∷ es) u = cond (same e.tuple u) e.supports 0 + supports_of es u
@@ -54,11 +54,11 @@ bare e = record e { marked = false }
 unfoldable pub unmarked : List Entry → List Entry
 unmarked es = map bare es
 
--- where the first entry lies, and the last one
+-- the place of the first entry, and of the last one
 unfoldable pub head_at : List Entry → Option Place
 head_at [] = None
 head_at (e ∷ es) = Some e.at
 
--- where the last entry lies, if there is one
+-- the place of the last entry, if there is one
 unfoldable pub last_at : List Entry → Option Place
 last_at es = head_at (reverse es)

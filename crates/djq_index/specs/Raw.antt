@@ -68,12 +68,12 @@ pub record AreGroups (key : List ℕ) (notes : List Note) (links : List Pair) (k
   pub once : (h k : ℕ) (w : List ℕ) → row_at keys h ≡ Some w → row_at keys k ≡ Some w → h ≡ k
   pub seated : AreSeated key notes keys es
 
--- behind a marked entry all are marked
+-- after a marked entry all are marked
 unfoldable pub AreAllMarked : List Entry → Type 0
 AreAllMarked [] = ⊤
 AreAllMarked (e ∷ es) = (e.marked ≡ true) × AreAllMarked es
 
--- the marked entries stand behind all others
+-- the marked entries follow all others
 unfoldable pub AreTrailing : List Entry → Type 0
 AreTrailing [] = ⊤
 AreTrailing (e ∷ es) = (e.marked ≡ true → AreAllMarked es) × AreTrailing es
@@ -83,7 +83,7 @@ pub record KeyIsWhole (width : ℕ) (key : List ℕ) : Type 0 where
   pub long : length key ≡ width
   pub each : (i : ℕ) → i < width → slice_index key i ≡ i
 
--- what a kind of groups says of the key
+-- what a kind of groups requires of the key
 abbrev pub IsKind : Kind → ℕ → List ℕ → Type 0
 IsKind One width key = key ≡ []
 IsKind Keyed width key = ⊤
@@ -128,19 +128,19 @@ IsSeat old new ends more h w =
     ⊎ (IsAbsent old w × (new ≡ old ++ record { slot = h; cells = w } ∷ [])
     × (ends_at more h ≡ record { first = None; last = None }) × ((k : ℕ) → k ≢ h → ends_at more k ≡ ends_at ends k))
 
--- the first marked slot, once slot i, which is followed by the slot `next`, is gone
+-- the first marked slot, once slot i, which is followed by the slot `next`, is removed
 abbrev pub passed : Option ℕ → ℕ → Option ℕ → Option ℕ
 passed None i next = None
 passed (Some m) i next = cond (m == i) next (Some m)
 
--- rows, with the notes beside them, take the tuple u
+-- rows, with the notes beside them, can have the tuple u appended
 pub record RowsCanTake (rows : SlotRows) (notes : List Note) (u : List ℕ) : Type 0 where
   pub rows_law : AreRows rows
   pub wide : length u ≡ rows.width
   pub few : length rows.rows < SLOTS
   pub room_notes : rows.room ≤ length notes
 
--- the tuple u is laid into the slot i, behind all others
+-- the tuple u is written into the slot i, after all others
 pub record IsLaid (old rows : SlotRows) (before notes : List Note) (i : ℕ) (u : List ℕ) : Type 0 where
   pub rows_law : AreRows rows
   pub width : rows.width ≡ old.width
@@ -148,7 +148,7 @@ pub record IsLaid (old rows : SlotRows) (before notes : List Note) (i : ℕ) (u 
   pub room_notes : rows.room ≤ length notes
   pub same_notes : (k : ℕ) → note_at notes k ≡ note_at before k
 
--- the slot i is one that was free, or the next where none was
+-- the slot i is one that was free, or the next if none was
 pub record IsSlotFor (old rows : SlotRows) (i : ℕ) : Type 0 where
   pub room : rows.room ≡ max old.room (i + 1)
   pub fits : i ≤ old.room
@@ -177,7 +177,7 @@ pub record IsLaidInto (a : Raw) (rows : SlotRows) (notes : List Note) (links : L
   pub room_ends : keys.room ≤ length ends
   pub seat : IsSeat a.keys.rows keys.rows a.ends.items ends h (pick a.key.items u)
 
--- the tuple in slot i is there, marked or not and with one support; h stands for its group's head
+-- the tuple in slot i is there, marked or not and with one support; h is its group's head
 pub record IsNoted (mark : Bool) (a b : Raw) (rows : SlotRows) (notes : List Note) (i h : ℕ) : Type 0 where
   pub kind : b.kind ≡ a.kind
   pub key : b.key.items ≡ a.key.items

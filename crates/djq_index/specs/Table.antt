@@ -11,7 +11,7 @@ pub record Table : Type 0 where
   pub key : List ℕ
   pub entries : List Entry
 
--- no tuple stands twice
+-- no tuple occurs twice
 unfoldable pub TuplesDiffer : List Entry → Type 0
 TuplesDiffer [] = ⊤
 TuplesDiffer (e ∷ es) = (count_of es e.tuple ≡ 0) × TuplesDiffer es
@@ -26,7 +26,7 @@ unfoldable pub ArePlaced : List Entry → Type 0
 ArePlaced [] = ⊤
 ArePlaced (e ∷ es) = IsElsewhere e.at es × ArePlaced es
 
--- behind a marked entry no unmarked one of its group follows: in each group the marked ones are a suffix
+-- no unmarked entry of a group follows a marked one: in each group the marked ones are a suffix
 unfoldable pub AreLast : List ℕ → List Entry → Type 0
 AreLast key [] = ⊤
 AreLast key (e ∷ es) = (e.marked ≡ true → group_size key (plain es) (pick key e.tuple) ≡ 0) × AreLast key es

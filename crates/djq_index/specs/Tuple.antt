@@ -14,6 +14,6 @@ same u v = bytes_eq u v
 unfoldable pub pick : List ℕ → List ℕ → List ℕ
 pick columns u = map (λ c. slice_index u c) columns
 
--- one where it is true, else nothing
+-- one if it is true, else nothing
 unfoldable pub one_if : Bool → ℕ
 one_if b = cond b 1 0

@@ -1,4 +1,4 @@
-//! A tuple is laid into a slot, behind all others.
+//! A tuple is written into a slot, after all others.
 ghost use Rattle.std.specs.Prelude.{◌≡◌, ℕ, ◌-◌, ◌<◌, ◌≤◌, false, length, vec_len};
 ghost use Rattle.std.specs.Prelude.{vec_capacity, IfOk, OnErr};
 ghost use Rattle.djq_arena.specs.Chains.{pair_at};
@@ -9,8 +9,8 @@ use crate::raw::Note;
 use djq_arena::{Arena, Link, Pair};
 use std::alloc::AllocError;
 
-/// Room for the neighbours of one more slot. It stands apart, so that a tuple for which there is room saves fewer
-/// registers.
+/// Room for the neighbours of one more slot. It is a function of its own, so that a tuple for which there is room
+/// saves fewer registers.
 #[inline(never)]
 fn grow_links(links: &mut Vec<Pair>) -> Result<(), AllocError>
     ensures room { IfOk result (λ _. vec_len links.new < vec_capacity links.new) }
@@ -19,7 +19,7 @@ fn grow_links(links: &mut Vec<Pair>) -> Result<(), AllocError>
     links.reserve(1)
 }
 
-/// Lays a tuple into a slot, behind all others. A new slot finds room for its note. Where there is no memory, the rows
+/// Writes a tuple into a slot, after all others. There is room for the note of a new slot. Out of memory, the rows
 /// stay as they were.
 #[inline(always)]
 fn append_row_ready(
@@ -45,8 +45,8 @@ fn append_row_ready(
     Ok(slot)
 }
 
-/// The same where a new slot may find no room for its note. It stands apart, so that a tuple for which there is room
-/// saves fewer registers.
+/// The same if there may be no room for the note of a new slot. It is a function of its own, so that a tuple for which
+/// there is room saves fewer registers.
 #[inline(never)]
 fn append_row_growing(
     rows: &mut Arena,
@@ -63,7 +63,7 @@ fn append_row_growing(
     append_row_ready(rows, notes, tuple)
 }
 
-/// Lays a tuple into a slot, behind all others. Where there is no memory, the rows stay as they were.
+/// Writes a tuple into a slot, after all others. Out of memory, the rows stay as they were.
 pub fn append_row(rows: &mut Arena, notes: &mut Vec<Note>, tuple: &[u64]) -> Result<u32, AllocError>
     requires ready { RowsCanTake rows.old notes.old.items tuple.now }
     ensures laid { IfOk result (λ slot. IsLaid rows.old rows.new notes.old.items notes.new.items slot tuple.now) }

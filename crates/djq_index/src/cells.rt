@@ -8,7 +8,7 @@ use std::marker::Model;
 /// most variables of a head.
 pub const CELLS: usize = 16;
 
-/// The cells of a tuple, which stand inline, so that they take no memory.
+/// The cells of a tuple, which are inline, so that they need no allocation.
 #[derive(Debug, Drop)]
 pub struct Cells {
     cells: [u64; CELLS],
@@ -84,7 +84,7 @@ impl Cells {
         self.cells[..len][at] = cell;
     }
 
-    /// Puts a cell behind the others.
+    /// Appends a cell.
     pub fn push(&mut self, cell: u64)
         requires { length self.old < CELLS }
         ensures { self.new ≡ self.old ++ cell ∷ [] }
@@ -103,7 +103,7 @@ impl Cells {
         cells
     }
 
-    /// Takes the cells of a tuple in place of what it had.
+    /// Replaces the cells by those of a tuple.
     pub fn take_all(&mut self, tuple: &[u64])
         requires { length tuple.now ≤ CELLS }
         ensures { self.new ≡ tuple.now }
@@ -122,7 +122,7 @@ impl Cells {
         }
     }
 
-    /// Takes the cells of a tuple at these columns in place of what it had.
+    /// Replaces the cells by those of a tuple at these columns.
     pub fn take_part(&mut self, tuple: &[u64], columns: &[usize])
         requires few { length columns.now ≤ CELLS }
         requires small { length tuple.now ≤ CELLS }
@@ -135,7 +135,7 @@ impl Cells {
         }
     }
 
-    /// Takes all cells away.
+    /// Removes all cells.
     pub fn clear(&mut self)
         ensures { self.new ≡ [] }
     {

@@ -22,7 +22,7 @@ pub fn known_ends(ends: &Vec<Ends>, head: u32) -> Ends
     ends[head as usize]
 }
 
-/// Puts a slot behind its group.
+/// Appends a slot to its group.
 pub fn join(links: &mut Vec<Pair>, ends: &mut Vec<Ends>, slot: u32, head: u32)
     requires slot { slot < length links.old.items }
     requires number { slot < SLOTS }
@@ -36,7 +36,7 @@ pub fn join(links: &mut Vec<Pair>, ends: &mut Vec<Ends>, slot: u32, head: u32)
     ends[head as usize] = ends_after_push(&known, slot);
 }
 
-/// Takes a slot out of its group.
+/// Removes a slot from its group.
 pub fn unlink(links: &mut Vec<Pair>, ends: &mut Vec<Ends>, slot: u32, head: u32)
     requires slot { slot < length links.old.items }
     requires head { head < length ends.old.items }
@@ -50,7 +50,7 @@ pub fn unlink(links: &mut Vec<Pair>, ends: &mut Vec<Ends>, slot: u32, head: u32)
     leave(links, &mut ends[head as usize], &pair);
 }
 
-/// Takes a head out where its group is empty.
+/// Removes a head if its group is empty.
 pub fn prune(keys: &mut Arena, ends: &Vec<Ends>, head: u32)
     requires held { IsRowHeld keys.old.rows head }
     requires head { head < length ends.now.items }
@@ -107,7 +107,8 @@ pub fn project(
     Ok(())
 }
 
-/// Room for the ends of one more group. It stands apart, so that a head for which there is room saves fewer registers.
+/// Room for the ends of one more group. It is a function of its own, so that a head for which there is room saves fewer
+/// registers.
 #[inline(never)]
 fn grow_ends(ends: &mut Vec<Ends>) -> Result<(), AllocError>
     ensures room { IfOk result (λ _. vec_len ends.new < vec_capacity ends.new) }

@@ -1,4 +1,4 @@
-//! A tuple that isn't there is put behind its group, whose head is made where it has none.
+//! A new tuple is appended to its group, whose head is made if it has none.
 ghost use Rattle.std.specs.Prelude.{◌≡◌, ℕ, ◌-◌, ◌<◌, ◌≤◌, ◌⊎◌, false, [], length};
 ghost use Rattle.std.specs.Prelude.{IfOk, OnErr, Some, None};
 ghost use Rattle.djq_arena.specs.Rows.{AreRows, IsFull};
@@ -18,7 +18,7 @@ use djq_arena::{Arena, Ends, hash_of};
 use smallvec::SmallVec;
 use std::alloc::AllocError;
 
-/// The head of the group with these cells, which is made where there is none.
+/// The head of the group with these cells, which is made if there is none.
 fn head_of(keys: &mut Arena, ends: &mut Vec<Ends>, cells: &[u64]) -> Result<u32, AllocError>
     requires rows { AreRows keys.old }
     requires width { keys.old.width ≡ length cells.now }
@@ -40,7 +40,7 @@ fn head_of(keys: &mut Arena, ends: &mut Vec<Ends>, cells: &[u64]) -> Result<u32,
     }
 }
 
-/// The head of a tuple's group, by a key of any columns. It stands apart: most keys have one column.
+/// The head of a tuple's group, by a key of any columns. It is a function of its own, since most keys have one column.
 #[inline(never)]
 fn find_or_make_wide_head(
     keys: &mut Arena,
@@ -67,7 +67,7 @@ fn find_or_make_wide_head(
     head_of(keys, ends, cells.as_slice())
 }
 
-/// The head of a tuple's group, which is made where there is none.
+/// The head of a tuple's group, which is made if there is none.
 fn find_or_make_head(
     keys: &mut Arena,
     ends: &mut Vec<Ends>,
@@ -112,7 +112,7 @@ fn init_note(raw: &mut Raw, slot: u32, head: u32, marked: bool)
     raw.marked = with_slot(raw.marked, slot, marked);
 }
 
-/// Puts a tuple that isn't there behind the group of its head.
+/// Appends a new tuple to the group of its head.
 pub fn insert_keyed(raw: &mut Raw, tuple: &[u64], marked: bool) -> Result<Place, AllocError>
     requires raw { HoldsTuples raw.old }
     requires heads { AreHeads raw.old }
@@ -152,7 +152,7 @@ pub fn insert_keyed(raw: &mut Raw, tuple: &[u64], marked: bool) -> Result<Place,
     }
 }
 
-/// Puts a tuple that isn't there behind all others: its group needs nothing.
+/// Appends a new tuple to all others, if its group needs nothing.
 pub fn insert_bare(raw: &mut Raw, tuple: &[u64], marked: bool) -> Result<Place, AllocError>
     requires raw { HoldsTuples raw.old }
     requires absent { count_of (entries_of raw.old) tuple.now ≡ 0 }

@@ -1,4 +1,4 @@
-//! Tuples are marked, as the last of all, and all marks are taken away.
+//! Tuples are marked, as the last of all, and all marks are cleared.
 ghost use Rattle.std.specs.Prelude.{◌≡◌, ℕ, ◌+◌, ◌-◌, ◌<◌, ◌≤◌, false, cond, List};
 ghost use Rattle.std.specs.Prelude.{length, slice_set, Some, None};
 ghost use Rattle.djq_arena.specs.Chains.{first_of};
@@ -17,7 +17,7 @@ use djq_arena::Arena;
 use djq_counters::Tally;
 use std::sync::ledger::Ledger;
 
-/// The first marked slot, where this one may be marked as the last of all.
+/// The first marked slot, if this one may be marked as the last of all.
 pub fn with_slot(first: Option<u32>, slot: u32, marked: bool) -> Option<u32>
     ensures { result ≡ cond marked (beside first (Some slot) first) first }
 {
@@ -42,7 +42,7 @@ fn mark(raw: &mut Raw, slot: u32)
     raw.marked = with_slot(raw.marked, slot, true);
 }
 
-/// Marks the tuple at a place, and puts it behind the group of its head.
+/// Marks the tuple at a place, and moves it to the end of the group of its head.
 pub fn touch_keyed(raw: &mut Raw, place: Place)
     requires raw { HoldsTuples raw.old }
     requires heads { AreHeads raw.old }
@@ -64,7 +64,7 @@ pub fn touch_keyed(raw: &mut Raw, place: Place)
     mark(raw, slot);
 }
 
-/// Marks the tuple at a place, and puts it behind all others.
+/// Marks the tuple at a place, and moves it to the end of all.
 pub fn touch_bare(raw: &mut Raw, place: Place)
     requires raw { HoldsTuples raw.old }
     requires unmarked { IsUnmarked (entries_of raw.old) place }
@@ -81,7 +81,7 @@ pub fn touch_bare(raw: &mut Raw, place: Place)
     mark(raw, slot);
 }
 
-/// Takes the mark of a slot's note away.
+/// Clears the mark of a slot's note.
 fn unmark(notes: &mut Vec<Note>, slot: u32)
     requires { slot < length notes.old.items }
     ensures { notes.new.items ≡ slice_set notes.old.items slot (without_mark (note_at notes.old.items slot)) }
@@ -95,7 +95,7 @@ fn unmark(notes: &mut Vec<Note>, slot: u32)
     set_note(notes, slot, bare);
 }
 
-/// Takes all marks away, from the first marked slot on.
+/// Clears all marks, from the first marked slot on.
 pub fn unmark_all<L: Ledger>(
     notes: &mut Vec<Note>,
     rows: &Arena,

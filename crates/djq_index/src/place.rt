@@ -1,6 +1,6 @@
 ghost use Rattle.std.specs.Prelude.{◌≡◌};
 
-/// Where a tuple of a table lies. It stays valid until that tuple is removed.
+/// The position of a tuple in a table. It stays valid until that tuple is removed.
 ///
 /// The default one fills room for places, and no table is asked about it.
 #[derive(Clone, Copy, PartialEq, Eq, Debug, Default)]

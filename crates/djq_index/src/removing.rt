@@ -1,4 +1,4 @@
-//! A tuple is taken out, and its group's head with the last of the group.
+//! A tuple is removed, and its group's head with the last of the group.
 ghost use Rattle.std.specs.Prelude.{◌≡◌, ℕ, ◌+◌, ◌-◌, ◌<◌, List, Some, None};
 ghost use Rattle.djq_index.specs.Table.{IsAt, IsOccupied};
 ghost use Rattle.djq_index.specs.Changes.{Removed};
@@ -8,7 +8,7 @@ use crate::heads::{prune, unlink};
 use crate::place::Place;
 use crate::raw::{Raw, note_of};
 
-/// The first marked slot, once this one, which is followed by `next`, is gone.
+/// The first marked slot, once this one, which is followed by `next`, is removed.
 fn first_mark_without(marked: Option<u32>, slot: u32, next: Option<u32>) -> Option<u32>
     ensures { result ≡ passed marked slot next }
 {
@@ -18,7 +18,7 @@ fn first_mark_without(marked: Option<u32>, slot: u32, next: Option<u32>) -> Opti
     }
 }
 
-/// Takes the tuple at a place out, and its group's head with the last of the group.
+/// Removes the tuple at a place, and its group's head with the last of the group.
 pub fn remove_keyed(raw: &mut Raw, place: Place)
     requires raw { HoldsTuples raw.old }
     requires heads { AreHeads raw.old }
@@ -40,7 +40,7 @@ pub fn remove_keyed(raw: &mut Raw, place: Place)
     raw.rows.laws();
 }
 
-/// Takes the tuple at a place out, whose group needs nothing.
+/// Removes the tuple at a place, if its group needs nothing.
 pub fn remove_bare(raw: &mut Raw, place: Place)
     requires raw { HoldsTuples raw.old }
     requires live { IsOccupied (entries_of raw.old) place }

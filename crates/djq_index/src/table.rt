@@ -27,9 +27,9 @@ pub const SUPPORTS: usize = 4_294_967_295;
 
 /// Different tuples of one width, in groups by the cells of their key.
 ///
-/// A group is a list: a new tuple comes last in it, and so does a touched one. Both are marked until
+/// A group is a list: a new tuple is its last, and so is a touched one. Both are marked until
 /// the marks are cleared, so the marked ones of a group are its last. With an empty key, and with one
-/// of all columns in their order, groups take no memory of their own.
+/// of all columns in their order, groups use no memory of their own.
 #[derive(Drop)]
 pub struct Table {
     raw: Raw,
@@ -116,7 +116,7 @@ impl Table {
         self.raw.key.as_slice()
     }
 
-    /// Where this tuple lies; none exactly where it is absent. It counts one lookup.
+    /// The place of this tuple; none if it is absent. It counts one lookup.
     pub fn find<L: Ledger>(&self, tuple: &[u64], tally: &mut Tally<L>) -> Option<Place>
         ensures found { MatchOption result (count_of self.now.entries tuple.now ≡ 0)
             (λ p. IsAt self.now.entries p tuple.now) }
@@ -129,7 +129,7 @@ impl Table {
         }
     }
 
-    /// The first of the group with these cells; none exactly where there is no such group. It counts
+    /// The first of the group with these cells; none if there is no such group. It counts
     /// one lookup, as `last` does.
     pub fn first<L: Ledger>(&self, cells: &[u64], tally: &mut Tally<L>) -> Option<Place>
         ensures found { result ≡ head_at (group_of self.now.key self.now.entries cells.now) }
@@ -156,7 +156,7 @@ impl Table {
         }
     }
 
-    /// The next one of its group; none exactly at the group's end. It counts one link, as `prev` does.
+    /// The next one of its group; none at the group's end. It counts one link, as `prev` does.
     pub fn next<L: Ledger>(&self, place: Place, tally: &mut Tally<L>) -> Option<Place>
         requires { IsOccupied self.now.entries place }
         ensures found { (w : List ℕ) (xs : List Entry) (e : Entry) (ys : List Entry)
@@ -173,7 +173,7 @@ impl Table {
         }
     }
 
-    /// The one before it in its group; none exactly at the group's start.
+    /// The one before it in its group; none at the group's start.
     pub fn prev<L: Ledger>(&self, place: Place, tally: &mut Tally<L>) -> Option<Place>
         requires { IsOccupied self.now.entries place }
         ensures found { (w : List ℕ) (xs : List Entry) (e : Entry) (ys : List Entry)
@@ -190,7 +190,7 @@ impl Table {
         }
     }
 
-    /// The first marked tuple; none exactly where there are no marks. It counts one link, as
+    /// The first marked tuple; none if there are no marks. It counts one link, as
     /// `next_marked` does.
     pub fn first_marked<L: Ledger>(&self, tally: &mut Tally<L>) -> Option<Place>
         ensures found { result ≡ head_at (marks self.now.entries) }
@@ -200,7 +200,7 @@ impl Table {
         placed(self.raw.marked)
     }
 
-    /// The next marked tuple after a marked one; none exactly behind the last.
+    /// The next marked tuple after a marked one; none after the last.
     pub fn next_marked<L: Ledger>(&self, place: Place, tally: &mut Tally<L>) -> Option<Place>
         requires { IsOccupied self.now.entries place }
         ensures found { (xs : List Entry) (e : Entry) (ys : List Entry) → marks self.now.entries
@@ -235,8 +235,8 @@ impl Table {
         note_of(&self.raw.notes, place.slot()).marked
     }
 
-    /// Puts in a tuple that isn't there: last in its group, marked, with one support. Where there is no
-    /// memory, all stays as it was. It counts one edit, as all calls below do.
+    /// Inserts a new tuple: last in its group, marked, with one support. Out of memory, nothing
+    /// changes. It counts one edit, as all calls below do.
     pub fn insert<L: Ledger>(
         &mut self,
         tuple: &[u64],
@@ -256,8 +256,8 @@ impl Table {
         self.insert_as(tuple, true, tally)
     }
 
-    /// The same as `insert`, where the tuple is to be marked; else it comes unmarked, and no tuple may
-    /// be marked.
+    /// The same as `insert`, if the tuple is to be marked; else it is inserted unmarked, and no tuple
+    /// may be marked.
     pub fn insert_as<L: Ledger>(
         &mut self,
         tuple: &[u64],
@@ -284,7 +284,7 @@ impl Table {
         }
     }
 
-    /// Takes the tuple at a place out. Other places stay valid.
+    /// Removes the tuple at a place. Other places stay valid.
     pub fn remove<L: Ledger>(&mut self, place: Place, tally: &mut Tally<L>)
         requires { IsOccupied self.old.entries place }
         ensures removed { (u : List ℕ) → IsAt self.old.entries place u → Removed self.old.entries self.new.entries u }
@@ -317,7 +317,7 @@ impl Table {
         }
     }
 
-    /// Takes all marks away. It counts a link for each mark besides.
+    /// Clears all marks. It counts a link for each mark besides.
     pub fn clear_marks<L: Ledger>(&mut self, tally: &mut Tally<L>)
         ensures cleared { self.new.entries ≡ unmarked self.old.entries }
         ensures key { self.new.key ≡ self.old.key }
@@ -352,7 +352,7 @@ impl Table {
         set_note(&mut self.raw.notes, slot, raised);
     }
 
-    /// Takes one support of the tuple at a place away.
+    /// Removes one support of the tuple at a place.
     pub fn lower<L: Ledger>(&mut self, place: Place, tally: &mut Tally<L>)
         requires { IsLowerable self.old.entries place }
         ensures lowered { (u : List ℕ) → IsAt self.old.entries place u

@@ -21,7 +21,7 @@ pub fn ends_in(raw: &Raw, cells: &[u64]) -> Ends
     }
 }
 
-/// The oldest row, where there are no cells to find it by.
+/// The oldest row, if there are no cells to find it by.
 pub fn oldest(rows: &Arena, cells: &[u64]) -> Option<u32>
     ensures here { cells.now ≡ [] → result ≡ first_of (slots rows.now.rows) }
     ensures elsewhere { cells.now ≢ [] → result ≡ None }
@@ -29,7 +29,7 @@ pub fn oldest(rows: &Arena, cells: &[u64]) -> Option<u32>
     if cells.is_empty() { rows.first() } else { None }
 }
 
-/// The newest row, where there are no cells to find it by.
+/// The newest row, if there are no cells to find it by.
 pub fn newest(rows: &Arena, cells: &[u64]) -> Option<u32>
     ensures here { cells.now ≡ [] → result ≡ last_of (slots rows.now.rows) }
     ensures elsewhere { cells.now ≢ [] → result ≡ None }

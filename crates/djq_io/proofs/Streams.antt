@@ -1,7 +1,7 @@
 -- What sources give and sinks take over several calls.
 use Rattle.std.proofs.Common.{List, [], ◌++◌, sym, ap, ◌∙◌, append_assoc, append-nil, ◌≡◌, ℕ, ◌∷◌, refl, subst, ◌+◌}
 use Rattle.std.proofs.Common.{length, take, drop, map, arith, ◌≢◌}
-use Rattle.std.specs.Prelude.{Option, Some, None}
+use Rattle.std.specs.Prelude.{Option, Some, None, IfSome}
 use Rattle.std.specs.List.{concat}
 use Rattle.std.proofs.lemmas.List.Folds.{concat-append}
 use Rattle.std.specs.Option.{option_map}
@@ -12,7 +12,7 @@ use Rattle.std.proofs.lemmas.List.Elements.{All-nil, All-cons, All-append}
 use Rattle.djq_io.specs.declared.sink.Wrote.TheVariants.{Took, Failed}
 use Rattle.djq_io.specs.declared.sink.Write.{Write}
 use Rattle.djq_io.specs.Sink.{Gains, part_taken, bytes_of}
-use Rattle.djq_io.specs.Source.{SourceReading, GivesPiece, SourceGives}
+use Rattle.djq_io.specs.Source.{SourceReading, GivesPiece, FindsEnd, SourceGives}
 use Rattle.djq_io.specs.Given.{Gave}
 use Rattle.djq_io.specs.Written.{GainsBytes}
 
@@ -41,12 +41,18 @@ gives_none (Some o) = (sym (append-nil o.given), refl)
 -- one read
 pub gives_piece : (o n : Option SourceReading) (piece : List ℕ) → GivesPiece o n piece → SourceGives o n (piece ∷ [])
 gives_piece o None piece p = tt
-gives_piece None (Some n) piece p = cc
-gives_piece (Some o) (Some n) piece p = (
-  ap (λ (r : SourceReading). r.given) p.2,
-  p.1
-      ∙ sym (ap (λ (r : SourceReading). (piece ++ []) ++ r.left) p.2 ∙ ap (λ bytes. bytes ++ p.0) (append-nil piece)),
-)
+gives_piece None (Some n) piece p = absurd p
+gives_piece (Some o) (Some n) piece p = (p.1, p.0 ∙ ap (λ bytes. bytes ++ n.left) (sym (append-nil piece)))
+
+-- the end
+pub gives_end : (o n : Option SourceReading) → FindsEnd o n → SourceGives o n []
+gives_end o None e = tt
+gives_end o (Some n) e = subst (λ (k : Option SourceReading). SourceGives k (Some n) []) (sym e.1) (gives_none (Some n))
+
+-- at the end nothing is left
+pub none_left_at_end : (o n : Option SourceReading) → FindsEnd o n → IfSome n (λ (r : SourceReading). r.left ≡ [])
+none_left_at_end o None e = tt
+none_left_at_end o (Some n) e = e.0
 
 -- some reads after others
 pub gives_more : (o m n : Option SourceReading) (given more : List (List ℕ)) → SourceGives o m given
@@ -82,6 +88,14 @@ gave_more o m n bytes piece g p = record {
 pub gave_same : (o m n : Option SourceReading) (bytes : List ℕ) → Gave o m bytes → n ≡ m → Gave o n bytes
 gave_same o m n bytes g same = subst (λ (k : Option SourceReading). Gave o k bytes) (sym same) g
 
+-- the end was read
+pub gave_end : (o m n : Option SourceReading) (bytes : List ℕ) → Gave o m bytes → FindsEnd m n → Gave o n bytes
+gave_end o m n bytes g e = record {
+  pieces = g.pieces ++ [];
+  told = gives_more o m n g.pieces [] g.told (gives_end m n e);
+  all = g.all ∙ ap concat (sym (append-nil g.pieces));
+}
+
 -- ---- Parts of the bytes of a source.
 
 -- What was copied to the start of a buffer is the part that was to be copied.
@@ -99,13 +113,12 @@ pub gives_span : {S : Type 0} (piece_of : S → List ℕ) (old new : Option (Lis
     → piece_of span ≡ piece → left ≡ piece ++ rest → Gains old new (span ∷ [])
     → GivesPiece (option_map (λ given. record { left = left; given = given }) (option_map (map piece_of) old))
     (option_map (λ given. record { left = rest; given = given }) (option_map (map piece_of) new)) piece
-gives_span piece_of None None span piece left rest is begins gains = refl
+gives_span piece_of old None span piece left rest is begins gains = tt
 gives_span piece_of None (Some n) span piece left rest is begins gains = absurd gains
-gives_span piece_of (Some o) None span piece left rest is begins gains = (rest, begins, tt)
 gives_span piece_of (Some o) (Some n) span piece left rest is begins gains =
     let given : map piece_of n ≡ map piece_of o ++ piece ∷ [] = ap (map piece_of) gains
     ∙ map-append piece_of o (span ∷ []) ∙ ap (λ p. map piece_of o ++ p ∷ []) is in
-    (rest, begins, ap (λ g. record { left = rest; given = g }) given)
+    (begins, given)
 
 -- ---- How the writes of a sink go on.
 

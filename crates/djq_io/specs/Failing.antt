@@ -14,6 +14,6 @@ after_call calls = map (λ call. call - 1) calls
 abbrev pub failed_count : List ℕ → ℕ
 failed_count calls = count_by (λ call. call == 0) calls
 
--- A call raises the count of those that have failed where it was to fail, and keeps it elsewhere.
+-- A call raises the count of those that have failed if it was to fail, and else leaves it.
 abbrev pub CountsDown : Bool → List ℕ → List ℕ → Type 0
 CountsDown fails old new = MatchBool fails (failed_count old < failed_count new) (failed_count new ≡ failed_count old)

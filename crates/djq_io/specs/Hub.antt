@@ -41,7 +41,7 @@ without ids id = record ids {
 }
 
 -- What a turn may answer, and what it does to the ids: sessions open with rising ids; bytes, some
--- and at most as many as there is room for, and the end of input come for running sessions alone.
+-- and at most as many as there is room for, and the end of input arrive for running sessions alone.
 abbrev pub Turns : Turn → ℕ → Ids → Ids → Type 0
 Turns (Opened id class) room old new = IsNewId old id × (new ≡ with_opened old id)
 Turns (Bytes id n) room old new = (1 ≤ n) × (n ≤ room) × IsRunning old id × (new ≡ old)
@@ -68,13 +68,13 @@ brought Idle buf = []
 brought Over buf = []
 brought Failed buf = []
 
--- A send takes a first part of the piece, which isn't empty, or nothing.
+-- A send accepts a first part of the piece, which isn't empty, or nothing.
 abbrev pub Takes : Sent → List ℕ → Type 0
 Takes (Took n) piece = (1 ≤ n) × (n ≤ length piece)
 Takes Again piece = Unit {0}
 Takes Gone piece = Unit {0}
 
--- the bytes of a piece that a send took
+-- the bytes of a piece that a send accepted
 abbrev pub taken_by : Sent → List ℕ → List ℕ
 taken_by (Took n) piece = take n piece
 taken_by Again piece = []

@@ -7,7 +7,7 @@ use Rattle.djq_io.specs.declared.hub.Turn.TheVariants.{Opened, Bytes, Ended, Idl
 use Rattle.djq_io.specs.declared.hub.Sent.{Sent}
 use Rattle.djq_io.specs.declared.hub.Sent.TheVariants.{Took, Again, Gone}
 
--- A hub's own count of faults rises where it fails to listen, and stays elsewhere.
+-- A hub's own count of faults rises if it fails to listen, and else stays.
 abbrev pub CountsListen : Listened → ℕ → ℕ → Type 0
 CountsListen Ready old new = new ≡ old
 CountsListen Unheard old new = Counted old new
@@ -38,7 +38,7 @@ CountsInTurn Idle ids old new = SameCounts ids old new
 CountsInTurn Over ids old new = SameCounts ids old new
 CountsInTurn Failed ids old new = SameCounts ids old new
 
--- The count of a session's faults rises where it is found gone. All others stay in a send.
+-- The count of a session's faults rises if it is found closed. All others stay in a send.
 abbrev pub CountsSend : Sent → ℕ → List ℕ → (ℕ → ℕ) → (ℕ → ℕ) → Type 0
 CountsSend (Took n) id ids old new = SameCounts ids old new
 CountsSend Again id ids old new = SameCounts ids old new

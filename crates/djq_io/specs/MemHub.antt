@@ -25,7 +25,7 @@ pub record Recorded : Type 0 where
   pub failing_turns : List ℕ
   pub failing_sends : List FailingSend
 
--- what a hub in memory tells of its script
+-- what a hub in memory shows of its script
 abbrev pub script_of : Recorded → Option Script
 script_of hub = option_map (λ _. hub.script) hub.past
 
@@ -33,7 +33,7 @@ script_of hub = option_map (λ _. hub.script) hub.past
 abbrev pub listen_of : Recorded → Listened
 listen_of hub = if is_failing hub.failing_listens then Failed else Ready
 
--- what a send answers: it takes the whole piece, unless it is to fail or the session is blocked
+-- what a send answers: it accepts the whole piece, unless it is to fail or the session is blocked
 abbrev pub send_of : Recorded → ℕ → List ℕ → Sent
 send_of hub id piece = if is_send_due id hub.failing_sends then Gone
     else (if list_any (λ other. other == id) hub.script.blocked then Again else Took (length piece))

@@ -1,4 +1,4 @@
-use Rattle.std.specs.Prelude.{◌≡◌, ℕ, List, ◌++◌, length, Option, if◌then◌else◌}
+use Rattle.std.specs.Prelude.{ℕ, List, length, Option, if◌then◌else◌}
 use Rattle.djq_io.specs.Failing.{is_failing}
 use Rattle.djq_io.specs.declared.sink.Wrote.{Wrote}
 use Rattle.djq_io.specs.declared.sink.Wrote.TheVariants.{Took, Failed}

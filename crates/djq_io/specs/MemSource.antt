@@ -13,7 +13,7 @@ pub record MemSourceInside : Type 0 where
   pub most : ℕ
   pub to_fail : List ℕ
 
--- what a source in memory tells
+-- what a source in memory shows
 abbrev pub source_reading : MemSourceInside → Option SourceReading
 source_reading held = option_map (λ given. record { left = held.left; given = given }) held.given
 

@@ -9,12 +9,12 @@ use Rattle.djq_io.specs.declared.hub.Sent.{Sent}
 use Rattle.djq_io.specs.declared.hub.Sent.TheVariants.{Took, Again, Gone}
 use Rattle.djq_io.specs.Hub.{Ids, IsNewId, IsRunning}
 
--- A script: the ids whose sends answer `Again` now, and the turns to come.
+-- A script: the ids whose sends answer `Again` now, and the turns that are left.
 pub record Script : Type 0 where
   pub blocked : List ℕ
   pub turns : List Coming
 
--- where a script is told as the call returns, it was told as the call began, and this holds of both
+-- if a script is shown as the call returns, it was shown as the call began, and this holds of both
 abbrev pub WhereTold : Option Script → Option Script → (Script → Script → Type 0) → Type 0
 WhereTold old new P = IfSome new (λ n. IsSomeAnd old (λ o. P o n))
 
@@ -29,7 +29,7 @@ Cuts old id part new = (rest : List ℕ) × (after : List Coming) × (rest ≢ [
     × (old.turns ≡ record { turn = Brings id (part ++ rest); blocked = new.blocked } ∷ after)
     × (new.turns ≡ record { turn = Brings id rest; blocked = new.blocked } ∷ after)
 
--- A turn of a script that brings nothing: it has nothing, or it isn't one that can come. No id
+-- A turn of a script that brings nothing: it has nothing, or it isn't one that is possible. No id
 -- opens that isn't new, and none that was closed or has ended brings bytes or ends.
 abbrev pub BringsNothing : Ids → Incoming → Type 0
 BringsNothing ids (Opens id) = IsNewId ids id → ⊥
@@ -38,8 +38,8 @@ BringsNothing ids (Ends id) = IsRunning ids id → ⊥
 BringsNothing ids Nothing = Unit {0}
 
 -- What a turn answers by a script, over these ids, with the buffer that it leaves: the next turn,
--- of whose piece only as much as fits is given; `Idle` where it brings nothing; `Over` where there
--- is none; or a failure, after which the script is as it was.
+-- of whose piece only as much as fits is given; `Idle` if it brings nothing; `Over` if there is
+-- none; or a failure, after which the script is as it was.
 abbrev pub AnswersByScript : Ids → Turn → List ℕ → Script → Script → Type 0
 AnswersByScript ids (Opened id Client) buf old new = IsNewId ids id × ScriptPasses old (Opens id) new
 AnswersByScript ids (Bytes id n) buf old new =
@@ -50,8 +50,8 @@ AnswersByScript ids Idle buf old new = (next : Incoming) × BringsNothing ids ne
 AnswersByScript ids Over buf old new = (old.turns ≡ []) × (new ≡ old)
 AnswersByScript ids Failed buf old new = new ≡ old
 
--- What a send of so many bytes answers by a script, which stays: `Again` exactly where the session
--- is blocked, and else that all of them were taken, unless the session is gone.
+-- What a send of so many bytes answers by a script, which stays: `Again` if and only if the session
+-- is blocked, and else that all of them were accepted, unless the session is closed.
 abbrev pub Sends : ℕ → ℕ → Sent → Script → Script → Type 0
 Sends id offered (Took n) old new = (Contains old.blocked id → ⊥) × (n ≡ offered) × (new ≡ old)
 Sends id offered Again old new = Contains old.blocked id × (new ≡ old)

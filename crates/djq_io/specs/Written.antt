@@ -21,13 +21,13 @@ pub record FailsBehind (old new : Option (List Write)) (bytes rest : List ℕ) :
   pub well : NoneFailed writes
   pub all : bytes ≡ bytes_of writes
 
--- How much of a piece a sink took, from what it told before to what it tells after: all of it, or a
--- first part of it that isn't the whole, behind which a write failed.
+-- How much of a piece a sink accepted, from what it showed before to what it shows after: all of
+-- it, or a first part of it that isn't the whole, after which a write failed.
 abbrev pub WritesAll : Written → Option (List Write) → Option (List Write) → List ℕ → Type 0
 WritesAll All old new piece = GainsBytes old new piece
 WritesAll (Failed n) old new piece = (n < length piece) × FailsBehind old new (take n piece) (drop n piece)
 
--- The count of faults rises where a write failed, and stays where all was taken.
+-- The count of faults rises if a write failed, and stays if all was accepted.
 abbrev pub CountsWritten : Written → ℕ → ℕ → Type 0
 CountsWritten All old new = new ≡ old
 CountsWritten (Failed n) old new = Counted old new

@@ -2,9 +2,9 @@
 //!
 //! A [`Source`] has bytes left and pieces given, a [`Sink`] has its writes with their answers, and
 //! a [`Hub`] has a script of further turns and a past. Contracts name them, if they are shown, as
-//! `Some`: an object in memory shows all, the standard input shows nothing (`None`). So code that
-//! is generic in them is proved once for both, and a claim on bytes is made if they are shown when
-//! the call returns.
+//! `Some`, and one that shows nothing is `None`. So code that is generic in them is proved once for
+//! those in memory and those of the system, and a claim on bytes is made if they are shown when the
+//! call returns.
 //!
 //! Each of the three counts its faults, and a hub also those of each session. A call answers
 //! `Failed` only if its count *rose*: it is greater than at the call's start, or is at the
@@ -13,7 +13,7 @@
 //! ```text
 //! script of a hub   1 opens     1 brings rel r int    1 ends     nothing left
 //! turn              Opened(1)   Bytes(1, 9)           Ended(1)   Over
-//! past, behind it   the four turns, with the bytes, and each send and close in between
+//! past, after it    the four turns, with the bytes, and each send and close in between
 //! ```
 //!
 //! What this crate is not: it buffers nothing, retries nothing, and reads no lines.

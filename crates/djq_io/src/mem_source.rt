@@ -1,4 +1,4 @@
-ghost use Rattle.std.specs.Prelude.{◌≡◌, ◌<◌, [], ◌∷◌, ◌++◌, length, drop, Some, OnOk, OnErr};
+ghost use Rattle.std.specs.Prelude.{◌≡◌, ◌<◌, [], ◌∷◌, ◌++◌, length, take, drop, Some, OnOk, OnErr};
 ghost use Rattle.djq_io.specs.Failing.{after_call, failed_count};
 ghost use Rattle.djq_io.specs.Source.{SourceReads, CountsRead};
 ghost use Rattle.djq_io.specs.MemSource.{source_reading, read_of, bytes_read};
@@ -83,6 +83,7 @@ impl Source for MemSource {
         requires { 0 < length buf.old }
         ensures exact { result ≡ read_of self.old (length buf.old) }
         ensures reads { SourceReads result (source_reading self.old) (source_reading self.new) buf.new }
+        ensures gives { take (bytes_read result) buf.new ≡ take (bytes_read result) self.old.left }
         ensures left { self.new.left ≡ drop (bytes_read result) self.old.left }
         ensures most { self.new.most ≡ self.old.most }
         ensures to_fail { self.new.to_fail ≡ after_call self.old.to_fail }

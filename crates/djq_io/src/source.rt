@@ -14,7 +14,8 @@ pub trait Source {
     ghost use Rattle.std.specs.Prelude.{◌≡◌, ℕ, ◌<◌, ◌≤◌, List, length, Option};
     ghost use Rattle.djq_io.specs.Source.{SourceReading, SourceReads, CountsRead};
 
-    // The bytes that are left and the pieces that were given, if the source shows them.
+    // The bytes that are left and the pieces that were given, if the source shows them. One may show
+    // them no longer after a read.
     ghost told: { Self → Option SourceReading };
 
     // How many faults it has met.

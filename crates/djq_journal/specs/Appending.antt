@@ -10,7 +10,7 @@ use Rattle.djq_journal.specs.declared.journal.Appended.{Appended}
 use Rattle.djq_journal.specs.declared.journal.Appended.TheVariants.{Done, Failed, Full}
 use Rattle.djq_journal.specs.declared.limits.TheConstants.{LAST_GATE}
 
--- the place of the gate behind a group that is appended at this one
+-- the place of the gate after a group that is appended at this one
 abbrev pub gate_after : ℕ → List (List ℕ) → ℕ
 gate_after gate group = gate + length (flat_map record_of group)
 
@@ -18,21 +18,21 @@ gate_after gate group = gate + length (flat_map record_of group)
 abbrev pub IsBeforeOrAfter : List (List ℕ) → List (List ℕ) → List ℕ → Type 0
 IsBeforeOrAfter lines group file = FileOpensTo lines file ⊎ FileOpensTo (lines ++ group) file
 
--- What an append of a group makes of an idle journal: idle again, with the group; at each moment a
--- stop leaves the lines before, or those and the whole group; and where it is full, nothing changes.
+-- How an append of a group changes an idle journal: idle again, with the group; at each moment a
+-- crash leaves the lines before, or those and the whole group; and if it is full, nothing changes.
 abbrev pub Appends : Appended → List (List ℕ) → List (List ℕ) → History → History → Type 0
 Appends (Done gate) lines group old new = IsIdle (lines ++ group) gate new.file
     × LeavesSince (IsBeforeOrAfter lines group) old new
 Appends Failed lines group old new = LeavesSince (IsBeforeOrAfter lines group) old new
 Appends Full lines group old new = new ≡ old
 
--- A journal is full exactly where the gate behind the group would stand past the last place.
+-- A journal is full if and only if the gate after the group would be past the last place.
 abbrev pub HasGroupRoom : Appended → ℕ → List (List ℕ) → Type 0
 HasGroupRoom (Done gate') gate group = (gate' ≡ gate_after gate group) × (gate_after gate group ≤ LAST_GATE)
 HasGroupRoom Failed gate group = gate_after gate group ≤ LAST_GATE
 HasGroupRoom Full gate group = LAST_GATE < gate_after gate group
 
--- The disk's count of faults rises where an append fails, and stays elsewhere.
+-- The disk's count of faults rises if an append fails, and else stays.
 abbrev pub CountsAppended : Appended → ℕ → ℕ → Type 0
 CountsAppended (Done gate) old new = new ≡ old
 CountsAppended Failed old new = Counted old new

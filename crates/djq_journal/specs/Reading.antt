@@ -1,4 +1,4 @@
--- What stands at a gate's place, as far as its head tells.
+-- What is at a gate's place, as far as its head shows.
 use Rattle.std.specs.Prelude.{◌≡◌, ℕ, ◌+◌, ◌/◌, ◌%◌, ◌≤◌, List, ◌∷◌, drop}
 use Rattle.djq_io.specs.Faults.{Counted}
 use Rattle.djq_journal.specs.Format.{IsEnd, IsBad}
@@ -15,28 +15,28 @@ IsHead Shut rest = IsEnd rest
 IsHead Bad rest = IsBad rest
 IsHead Failed rest = Unit {0}
 
--- what a head tells of its line and its place, told or not
+-- what a head has of its line and its place, shown or not
 abbrev pub HeadFits : Head → ℕ → Type 0
 HeadFits (Open n) at = (1 ≤ n) × (n ≤ LINE_BYTES) × (at + 3 ≤ 18446744073709551615)
 HeadFits Shut at = Unit {0}
 HeadFits Bad at = Unit {0}
 HeadFits Failed at = Unit {0}
 
--- The disk's count of faults rises where a head can't be read, and stays elsewhere.
+-- The disk's count of faults rises if a head can't be read, and else stays.
 abbrev pub CountsHead : Head → ℕ → ℕ → Type 0
 CountsHead (Open n) old new = new ≡ old
 CountsHead Shut old new = new ≡ old
 CountsHead Bad old new = new ≡ old
 CountsHead Failed old new = Counted old new
 
--- where a journal stands behind this answer
+-- the place of a journal after this answer
 abbrev pub place_after : ℕ → Line → ℕ
 place_after gate (Got n) = gate + (3 + n)
 place_after gate End = gate
 place_after gate (BadLog at) = gate
 place_after gate Unread = gate
 
--- a line that was read ends at a place that a number names, told or not
+-- a line that was read ends at a place that a number names, shown or not
 abbrev pub EndsWithin : Line → ℕ → Type 0
 EndsWithin (Got n) gate = gate + (3 + n) ≤ 18446744073709551615
 EndsWithin End gate = Unit {0}

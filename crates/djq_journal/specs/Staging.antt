@@ -1,4 +1,4 @@
--- What stands behind a gate while a group is appended there.
+-- What follows a gate while a group is appended there.
 use Rattle.std.specs.Prelude.{◌≡◌, ℕ, suc, ◌+◌, ◌≤◌, List, [], ◌∷◌, ◌++◌, length, take, drop}
 use Rattle.std.specs.List.{flat_map, AllByRecursion}
 use Rattle.djq_disk.specs.File.{Span, File}
@@ -17,30 +17,30 @@ pub record IsFirm (n : ℕ) (bytes : List ℕ) (file : File) : Type 0 where
   pub behind : AllByRecursion (λ (span : Span). n ≤ span.at) file.written
   pub same : take n file.bytes ≡ take n bytes
 
--- the gate before these lines' records: open where there is one, and closed where there is none
+-- the gate before these lines' records: open if there is one, and closed if there is none
 abbrev pub gate_before : List (List ℕ) → ℕ
 gate_before [] = 0
 gate_before (line ∷ lines) = 1
 
--- what stands behind a gate where the records of these lines do, and this gate behind them
+-- what follows a gate if the records of these lines do, and this gate after them
 abbrev pub behind_gate : List (List ℕ) → ℕ → List ℕ
 behind_gate lines next = drop 1 (flat_map record_of lines ++ next ∷ [])
 
--- These bytes were written behind the gate, in whatever pieces, and the gate stays as it was. So at each
--- moment a stop leaves the lines before it.
+-- These bytes were written after the gate, in whatever pieces, and the gate stays as it was. So at each
+-- moment a crash leaves the lines before it.
 pub record Stages (lines : List (List ℕ)) (gate : ℕ) (laid : List ℕ) (old new : History) : Type 0 where
   pub firm : IsFirm (suc gate) old.file.bytes new.file
   pub rest : List ℕ
   pub is : drop (suc gate) new.file.bytes ≡ laid ++ rest
   pub leaves : LeavesSince (FileOpensTo lines) old new
 
--- the whole of the group stands behind the gate where all was written
+-- the whole of the group follows the gate if all was written
 abbrev pub IsStaged : DiskDid → List (List ℕ) → ℕ → List (List ℕ) → History → History → Type 0
 IsStaged Done lines gate group old new = Stages lines gate (behind_gate group 0) old new
 IsStaged Failed lines gate group old new = LeavesSince (FileOpensTo lines) old new
 
--- The first lines of a group are laid out, as what stands behind the gate so far: the bytes that were
--- written, up to this place, and behind them those that are gathered.
+-- The first lines of a group are laid out, as what follows the gate so far: the bytes that were written,
+-- up to this place, and after them those that are gathered.
 pub record StagesLines (group : List (List ℕ)) (i gate at : ℕ) (written gathered : List ℕ) : Type 0 where
   pub place : at ≡ suc (gate + length written)
   pub are : behind_gate (take i group) (gate_before (drop i group)) ≡ written ++ gathered

@@ -1,10 +1,10 @@
--- Where a journal stands in its file.
+-- The place of a journal in its file.
 use Rattle.std.specs.Prelude.{◌≡◌, ℕ, List, ◌++◌, length}
 use Rattle.std.specs.List.{AllByRecursion}
 use Rattle.djq_disk.specs.File.{File, IsImage, IsSettled}
 use Rattle.djq_journal.specs.Format.{IsJournalLine, front, FileOpensTo}
 
--- A journal stands at a gate's place, behind these lines, in a file that is settled.
+-- A journal is at a gate's place, after these lines, in a file that is settled.
 pub record IsAtGate (lines : List (List ℕ)) (gate : ℕ) (file : File) : Type 0 where
   pub are_lines : AllByRecursion IsJournalLine lines
   pub rest : List ℕ
@@ -12,7 +12,7 @@ pub record IsAtGate (lines : List (List ℕ)) (gate : ℕ) (file : File) : Type 
   pub place : gate ≡ length (front lines)
   pub still : IsSettled file
 
--- A journal is idle: it stands at the gate that ends these lines, in a file that is settled.
+-- A journal is idle: it is at the gate that ends these lines, in a file that is settled.
 pub record IsIdle (lines : List (List ℕ)) (gate : ℕ) (file : File) : Type 0 where
   pub opens : FileOpensTo lines file.bytes
   pub place : gate ≡ length (front lines)

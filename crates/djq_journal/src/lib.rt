@@ -6,7 +6,7 @@
 //! Once that answered `End` the journal is idle, and [`Journal::append_all`] appends a group of lines.
 //!
 //! No journal is made any more: a new log is of the second format. `djq_log` reads and appends both, and
-//! `djq_log_file` tells which of the two a file is.
+//! `djq_log_file` finds out which of the two a file is.
 //!
 //! ```text
 //! place  0        8  9    11         20  21   23       30

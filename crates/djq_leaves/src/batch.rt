@@ -89,7 +89,7 @@ fn tuples_of(alloc: Global, pattern: &Pattern, rows: &[Cells]) -> Result<Sequenc
     Ok(tuples)
 }
 
-/// The tuples of rows of a relation for an atom: none where it is over another one. Most often the rows are their own
+/// The tuples of rows of a relation for an atom: none if it is over another one. Most often the rows are their own
 /// tuples, and then none are made.
 fn tuples_for(
     alloc: Global,
@@ -113,7 +113,7 @@ fn tuples_for(
     Ok(Some(tuples_of(alloc, pattern, rows)?))
 }
 
-/// The tuples of rows of a relation, for each atom, made before a leaf is changed; none are made where the rows are the
+/// The tuples of rows of a relation, for each atom, made before a leaf is changed; none are made if the rows are the
 /// tuples.
 pub fn tuples_of_all(
     alloc: Global,
@@ -146,7 +146,7 @@ fn tuples_in<'a>(made: &'a Option<Sequence<Cells>>, rows: &'a [Cells]) -> &'a [C
     }
 }
 
-/// Puts tuples into a leaf that lacks them, and tells of the answers that come.
+/// Inserts tuples into a leaf that lacks them, and lists the answers that are added.
 fn add_all_and_tell<L: Ledgers>(
     reducts: &mut Reducts,
     leaf: usize,
@@ -221,8 +221,8 @@ fn add_all_to_leaf<L: Ledgers>(
     Ok(())
 }
 
-/// Puts a batch's tuples into the leaves over a relation, leaf after leaf, and says how many leaves
-/// it went past. These are all, or that many where the next one was refused for want of memory.
+/// Inserts a batch's tuples into the leaves over a relation, leaf after leaf, and returns how many leaves it passed.
+/// These are all, or that many if the next one was refused for want of memory.
 pub fn add_all_to_leaves<L: Ledgers>(
     reducts: &mut Reducts,
     atoms: &[NumberedAtom],
@@ -273,8 +273,8 @@ pub fn add_all_to_leaves<L: Ledgers>(
     atoms.len()
 }
 
-/// Gives a batch's tuples back out of the leaves over a relation, leaf after leaf, up to a leaf;
-/// nothing is listed. It takes no memory.
+/// Removes a batch's tuples again from the leaves over a relation, leaf after leaf, up to a leaf; nothing is listed. It
+/// needs no memory.
 pub fn give_all_from_leaves<L: Ledgers>(
     reducts: &mut Reducts,
     atoms: &[NumberedAtom],

@@ -39,7 +39,7 @@ fn constant_cell(catalog: &Catalog, term: &NumberedTerm) -> u64
     }
 }
 
-/// A cell for each term, where the term is a constant its own.
+/// A cell for each term, its own if the term is a constant.
 fn constant_cells(
     alloc: Global,
     catalog: &Catalog,

@@ -1,23 +1,23 @@
-//! What calls of a catalog come to as changes, and what leaves hold behind them.
+//! Calls of a catalog as changes of rows, and what leaves hold after them.
 ghost use Rattle.djq_leaves.specs.Changes.{AddedCame, DeletedWent, FurtherWent, CopiesKeepRows};
 ghost use Rattle.djq_leaves.specs.Changes.{LeafIsEmpty, LeafGains, LeafIsFilled};
 
-/// A row that a catalog added, with one copy, came.
+/// Adding a row to a catalog, with one copy, is an insertion.
 pub fn added_came()
     ensures { AddedCame }
 {}
 
-/// A row that a catalog deleted, with its last copy, went.
+/// Deleting a row from a catalog, with its last copy, is a deletion.
 pub fn deleted_went()
     ensures { DeletedWent }
 {}
 
-/// A row that goes behind others of its relation went together with them.
+/// A deletion after others of the relation is one of them all.
 pub fn further_went()
     ensures { FurtherWent }
 {}
 
-/// Where a catalog added a further copy of a row, or deleted one of several, no relation has other
+/// If a catalog added a further copy of a row, or deleted one of several, no relation has other
 /// rows.
 pub fn copies_keep_rows()
     ensures { CopiesKeepRows }

@@ -22,7 +22,7 @@ use djq_query::{NumberedAtom, Pattern};
 use djq_reduct::{Cells, Reducts};
 use std::sync::ledger::Ledger;
 
-/// Takes a row, whose tuple isn't there, into a leaf.
+/// Inserts a row, whose tuple isn't there, into a leaf.
 fn insert_row<U: Ledger>(
     reducts: &mut Reducts,
     leaf: usize,

@@ -1,11 +1,11 @@
-//! The leaves of a query's tree, as rows come and go.
+//! The leaves of a query's tree, as rows are inserted and deleted.
 //!
 //! A leaf holds the tuples that put into its atom give a row of the atom's relation and pass the
 //! comparisons of the atom's variables. [`bind_atoms`] makes the patterns by which rows give tuples,
-//! and [`fill_leaves`] fills the leaves from a catalog. [`add_to_leaves`] takes a row in leaf after
-//! leaf, [`delete_from_leaves`] takes it out, and [`add_all_to_leaves`] takes in many at once, which
-//! [`delete_all_from_leaves`] takes out; each lists, leaf by leaf, which answers of the tree came or
-//! went, where that is wanted.
+//! and [`fill_leaves`] fills the leaves from a catalog. [`add_to_leaves`] inserts a row leaf after
+//! leaf, [`delete_from_leaves`] deletes it, and [`add_all_to_leaves`] inserts many at once, which
+//! [`delete_all_from_leaves`] deletes; each lists, leaf by leaf, which answers of the tree were added
+//! or removed, if that is wanted.
 //!
 //! ```text
 //! q(x,z) <- r(x,z,3), s(z,y)   x is 0, z is 1, y is 2
@@ -13,12 +13,12 @@
 //! the row 5 7 4 of r           no tuple
 //! ```
 //!
-//! It keeps nothing, and it knows neither what an answer shows nor the cursors that are open: these
-//! are djq_live_query's. Out of memory a row stays in the leaves that took it in, which are told, and
-//! whoever called takes it out of them again.
+//! It stores nothing, and it knows neither what an answer shows nor the cursors that are open: these
+//! are djq_live_query's. Out of memory a row stays in the leaves that it was inserted into, which are
+//! returned, and whoever called removes it from them again.
 //!
-//! What surprises: a relation that is read twice has two leaves, and a row goes into one after the
-//! other, so that what the second lists is over what the first has taken in.
+//! What surprises: a relation that is read twice has two leaves, and a row is inserted into one after
+//! the other, so that the second lists with the row in the first.
 //!
 //! Inside, the updates of a leaf and of the tables above it are djq_propagate's, and what they change
 //! is listed by djq_enumeration's cursor over marked tuples.

@@ -1,4 +1,4 @@
-//! What many rows of a relation that go do to reducts, leaf after leaf.
+//! Deletes many rows of a relation from reducts, leaf after leaf.
 ghost use Rattle.std.specs.Prelude.{◌≡◌, ◌+◌, ◌*◌, ℕ, ◌<◌, ◌≤◌, false, length, Some, slice_get};
 ghost use Rattle.djq_index.specs.Entries.{marks};
 ghost use Rattle.djq_reduct.specs.Tables.{entries_at};
@@ -26,7 +26,7 @@ use djq_query::{NumberedAtom, Pattern};
 use djq_reduct::{Cells, Reducts};
 use std::sync::ledger::Ledger;
 
-/// Marks the tuples of rows, where there are any, in a leaf that has them.
+/// Marks the tuples of rows, if there are any, in a leaf that has them.
 fn mark_rows<L: Ledger>(
     reducts: &mut Reducts,
     pattern: &Pattern,
@@ -52,8 +52,8 @@ fn mark_rows<L: Ledger>(
     }
 }
 
-/// Takes the tuples of rows out of a leaf that has them, all at once, and tells of the answers that go where
-/// that is wanted, each once.
+/// Deletes the tuples of rows from a leaf that has them, all at once, and lists the answers that are removed
+/// if that is wanted, each once.
 fn delete_all_from_leaf<L: Ledgers>(
     reducts: &mut Reducts,
     pattern: &Pattern,
@@ -89,8 +89,8 @@ fn delete_all_from_leaf<L: Ledgers>(
     finish_removal(reducts, leaf, &mut steps.update);
 }
 
-/// Takes the tuples of rows out of the leaves over a relation, leaf after leaf, all tuples of a leaf at
-/// once. It takes no memory but the log's.
+/// Deletes the tuples of rows from the leaves over a relation, leaf after leaf, all tuples of a leaf at
+/// once. It needs no memory but the log's.
 pub fn delete_all_from_leaves<L: Ledgers>(
     reducts: &mut Reducts,
     atoms: &[NumberedAtom],

@@ -36,7 +36,7 @@ use djq_query::{NumberedAtom, Pattern};
 use djq_reduct::{Cells, Reducts};
 use std::sync::ledger::Ledger;
 
-/// Tells of the answers that an update of one leaf changes, by its marks.
+/// Lists the answers that an update of one leaf changes, by its marks.
 pub(crate) fn list_changes<L: Ledger>(
     reducts: &Reducts,
     leaf: usize,
@@ -58,8 +58,8 @@ pub(crate) fn list_changes<L: Ledger>(
     }
 }
 
-/// Puts the tuple of a row, where there is one, into a leaf that lacks it, and tells of the answers
-/// that come where that is wanted.
+/// Inserts the tuple of a row, if there is one, into a leaf that lacks it, and lists the answers
+/// that are added if that is wanted.
 fn add_to_leaf<L: Ledgers>(
     reducts: &mut Reducts,
     pattern: &Pattern,
@@ -104,8 +104,8 @@ fn add_to_leaf<L: Ledgers>(
     Ok(())
 }
 
-/// Takes the tuple of a row, where there is one, out of a leaf that has it, and tells of the answers
-/// that go where that is wanted.
+/// Deletes the tuple of a row, if there is one, from a leaf that has it, and lists the answers that
+/// are removed if that is wanted.
 fn delete_from_leaf<L: Ledgers>(
     reducts: &mut Reducts,
     pattern: &Pattern,
@@ -141,8 +141,8 @@ fn delete_from_leaf<L: Ledgers>(
     drop_leaf(reducts, leaf, tuple, &mut steps.update);
 }
 
-/// Puts the tuples of a row into the leaves over a relation, leaf after leaf, and says how many
-/// leaves it went past. These are all, or that many where the next one was refused for want of
+/// Inserts the tuples of a row into the leaves over a relation, leaf after leaf, and returns how
+/// many leaves it passed. These are all, or that many if the next one was refused for want of
 /// memory.
 pub fn add_to_leaves<L: Ledgers>(
     reducts: &mut Reducts,
@@ -191,7 +191,7 @@ pub fn add_to_leaves<L: Ledgers>(
     atoms.len()
 }
 
-/// Takes the tuples of a row out of the leaves over a relation, leaf after leaf, up to a leaf.
+/// Deletes the tuples of a row from the leaves over a relation, leaf after leaf, up to a leaf.
 pub fn delete_from_leaves<L: Ledgers>(
     reducts: &mut Reducts,
     atoms: &[NumberedAtom],

@@ -1,12 +1,12 @@
 ghost use Rattle.djq_leaves.specs.Changes.{OverGains, OverLoses};
 
-/// Where rows came into a relation, the reducts are those of the query once each leaf over the
-/// relation has gained the tuples that put into its atom give one of them.
+/// If rows were inserted into a relation, the reducts are those of the query once each leaf over
+/// the relation has gained the tuples that put into its atom give one of them.
 pub fn leaves_after_insert()
     ensures { OverGains }
 {}
 
-/// Where a row went, they are once each such leaf has lost that tuple.
+/// If a row was deleted, they are once each such leaf has lost that tuple.
 pub fn over_loses()
     ensures { OverLoses }
 {}

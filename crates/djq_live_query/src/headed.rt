@@ -10,8 +10,8 @@ use djq_reduct::column_of;
 use std::alloc::Global;
 use std::marker::Model;
 
-/// What a place of the head shows: the type of its values, and where their cells stand in an answer
-/// of the tree.
+/// What a place of the head shows: the type of its values, and the place of their cells in an answer of
+/// the tree.
 #[derive(Clone, Copy)]
 pub(crate) struct HeadCell {
     pub(crate) column: ColumnType,
@@ -39,7 +39,7 @@ impl Model for HeadedQuery {
     ghost invariant = { λ h. h.cells.items ≡ head_cells h.numbered };
 }
 
-/// What a variable's place in a head shows, where these are the head's variables.
+/// What a variable's place in a head shows, if these are the head's variables.
 fn head_cell(variables: &[Variable], set: VarSet, variable: usize) -> HeadCell
     requires { variable < length variables.now }
     ensures { result ≡ head_cell variables.now set variable }

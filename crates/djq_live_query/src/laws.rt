@@ -5,14 +5,14 @@ ghost use Rattle.djq_live_query.specs.Live.{AnswersAreShowable, ShowableStays};
 ghost use Rattle.djq_live_query.specs.Body.{HeadsAreBound};
 ghost use Rattle.djq_live_query.specs.Updating.{LeavesAreSmall, FlatMeetsAreEqual};
 
-/// A tuple of values is an answer of the query exactly where an answer of the tree shows it: a
+/// A tuple of values is an answer of the query if and only if an answer of the tree shows it: a
 /// tuple of cells whose projection on every node of `out` is in the node's table (Idris, Ugarte and
 /// Vansummeren 2017).
 pub fn answers_are_shown()
     ensures { AnswersAreShown }
 {}
 
-/// The cells of an answer of the tree stand for the values that it shows.
+/// The cells of an answer of the tree represent the values that it shows.
 pub fn answers_stand()
     ensures { AnswersStand }
 {}
@@ -33,7 +33,7 @@ pub fn numbered_is_asked()
     ensures { NumberedIsAsked }
 {}
 
-/// An answer of a query that is kept can be shown.
+/// An answer of a live query can be shown.
 pub fn answers_are_showable()
     ensures { AnswersAreShowable }
 {}
@@ -43,17 +43,17 @@ pub fn showable_stays()
     ensures { ShowableStays }
 {}
 
-/// A query that is kept has each variable of its head in an atom.
+/// A live query has each variable of its head in an atom.
 pub fn heads_are_bound()
     ensures { HeadsAreBound }
 {}
 
-/// A leaf of a query that is kept has no more tuples than its relation has rows.
+/// A leaf of a live query has no more tuples than its relation has rows.
 pub fn leaves_are_small()
     ensures { LeavesAreSmall }
 {}
 
-/// The tree of a flat query that is kept has meets of equal labels alone.
+/// The tree of a flat live query has meets of equal labels alone.
 pub fn flat_meets_are_equal()
     ensures { FlatMeetsAreEqual }
 {}

@@ -59,7 +59,7 @@ impl LiveQuery {
         self.cursors.is_empty()
     }
 
-    /// Puts a cursor that has given nothing into a free slot, and tells which.
+    /// Puts a cursor that has given nothing into a free slot, and returns its number.
     ///
     /// # Errors
     ///
@@ -81,7 +81,7 @@ impl LiveQuery {
         self.cursors.cursor(slot)
     }
 
-    /// Takes the cursor out of a slot.
+    /// Removes the cursor from a slot.
     pub fn close(&mut self, slot: usize)
         requires { IsSome (slot_at self.old.cursors slot) }
         ensures closed { self.new
@@ -91,9 +91,9 @@ impl LiveQuery {
         self.cursors.close(slot);
     }
 
-    /// Reads the cursor in a slot: gives a further answer, or says that none is left, or what made
-    /// it stale. It takes no memory, and counts at most two lookups and links for each variable of
-    /// the head, and one.
+    /// Reads the cursor in a slot: gives a further answer, or returns that none is left, or what
+    /// made it stale. It needs no memory, and counts at most two lookups and links for each
+    /// variable of the head, and one.
     pub fn next<L: Ledgers>(
         &mut self,
         slot: usize,
@@ -115,8 +115,8 @@ impl LiveQuery {
         )
     }
 
-    /// Whether a further answer is left for a cursor that isn't stale; where none is, it stands at
-    /// its end. It takes no memory, and counts no more than [`next`](LiveQuery::next).
+    /// Whether a further answer is left for a cursor that isn't stale; if none is, it is at its
+    /// end. It needs no memory, and counts no more than [`next`](LiveQuery::next).
     pub fn more<L: Ledgers>(&mut self, slot: usize, listing: &mut Tally<Listing<L>>) -> bool
         requires fresh { IsFreshIn self.old slot }
         requires fits { FitsAt self.old slot }
@@ -132,7 +132,7 @@ impl LiveQuery {
     ///
     /// # Errors
     ///
-    /// `Arity` where it has another number of values, else `WrongType` where one has another type.
+    /// `Arity` if it has another number of values, else `WrongType` if one has another type.
     pub fn suits(&self, tuple: &[Value]) -> Result<(), Refusal>
         ensures ok { OnOk result ((c : CatalogModel) → IsLive c self.now
             → misfit (answer_types c.relations self.now.query) tuple.now ≡ None) }
@@ -150,7 +150,7 @@ impl LiveQuery {
         Ok(())
     }
 
-    /// Whether a tuple that suits the query's answers is one. It takes no memory, and counts at
+    /// Whether a tuple that suits the query's answers is one. It needs no memory, and counts at
     /// most one lookup for each atom.
     pub fn has<L: Ledgers>(
         &self,
@@ -181,7 +181,7 @@ impl LiveQuery {
         self.query.head.len()
     }
 
-    /// A value of an answer, or of one that was taken out, in the head's order. A text is lent by
+    /// A value of an answer, or of one that was removed, in the head's order. A text is lent by
     /// the catalog.
     pub fn value<'a>(&self, catalog: &'a Catalog, answer: &Answer, at: usize) -> ValueRef<'a>
         requires kept { IsKeptSomewhere self.now }

@@ -13,7 +13,7 @@ use djq_query::Pattern;
 use djq_reduct::Reducts;
 use std::marker::Model;
 
-/// One registered query: kept answerable while the rows below it change.
+/// One registered query, maintained while the rows below it change.
 #[derive(Drop)]
 pub struct LiveQuery {
     pub(crate) query: Query,
@@ -47,14 +47,14 @@ impl LiveQuery {
         &self.query
     }
 
-    /// Its tables: where it is kept over a catalog they are those of its tree over the catalog's rows.
+    /// Its tables: if it is live over a catalog they are those of its tree over the catalog's rows.
     pub fn reducts(&self) -> &Reducts
         ensures { result.now ≡ self.now.reducts }
     {
         &self.reducts
     }
 
-    /// What bounds an update: its query's variables alone tell, and those of an atom are the label of
+    /// What bounds an update: only its query's variables matter, and those of an atom are the label of
     /// its leaf.
     pub fn shape(&self) -> Shape
         requires { IsKeptSomewhere self.now }

@@ -14,7 +14,7 @@ use djq_query::Variable;
 use djq_reduct::{Answer, Cells, Reducts};
 use std::sync::ledger::Ledger;
 
-/// The type of the columns where a variable stands.
+/// The type of the columns of a variable.
 pub(crate) fn column_at(variables: &[Variable], variable: usize) -> ColumnType
     requires { variable < length variables.now }
     ensures { result ≡ column_of variables.now variable }
@@ -36,7 +36,7 @@ pub(crate) fn suits_head(variables: &[Variable], head: &[usize], tuple: &[Value]
     true
 }
 
-/// Where a variable stands first in a head; where it isn't there, how long that is.
+/// The first place of a variable in a head; if it isn't there, how long that is.
 fn place_of(head: &[usize], variable: usize) -> usize
     ensures { result ≡ column head.now variable }
 {
@@ -63,7 +63,7 @@ pub(crate) fn rising_cells(set: VarSet, head: &[usize], cells: &Cells) -> Answer
     answer
 }
 
-/// Whether a variable that stands in a head more than once has the same cell each time.
+/// Whether a variable that occurs in a head more than once has the same cell each time.
 fn agrees(head: &[usize], cells: &Cells) -> bool
     requires long { length cells.now ≡ length head.now }
     ensures { result ≡ true ↔ map (cell_of_variable head.now cells.now) head.now ≡ cells.now }

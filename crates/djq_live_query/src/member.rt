@@ -71,7 +71,7 @@ fn same_columns(
 }
 
 impl LiveQuery {
-    /// Writes an answer of the tree, or one that went, as cells in the head's order.
+    /// Writes an answer of the tree, or one that was removed, as cells in the head's order.
     pub fn put_in_head(&self, answer: &Answer, cells: &mut Cells)
         requires kept { IsKeptSomewhere self.now }
         requires wide { length answer.now ≡ length self.now.reducts.tree.head }
@@ -195,17 +195,17 @@ impl<'a> Members for QueriesAt<'a> {
     }
 }
 
-/// The cells of an answer of the tree, in the head's order, stand for the values that it shows.
+/// The cells of an answer of the tree, in the head's order, represent the values that it shows.
 pub fn cells_in_head_stand()
     ensures { CellsInHeadStand }
 {}
 
-/// Cells that stand for a tuple are had exactly where the tuple is an answer.
+/// The test of cells that represent a tuple succeeds if and only if the tuple is an answer.
 pub fn answers_are_had()
     ensures { AnswersAreHad }
 {}
 
-/// The cells that are had stand for a tuple.
+/// Cells with a successful test represent a tuple.
 pub fn had_cells_stand()
     ensures { HadCellsStand }
 {}
@@ -215,28 +215,28 @@ pub fn answers_have_cells()
     ensures { AnswersHaveCells }
 {}
 
-/// Equal cells of two queries over one catalog, whose answers have the same types, stand for equal
-/// values, and different ones for different ones.
+/// Equal cells of two queries over one catalog, whose answers have the same types, represent equal
+/// values, and different cells different values.
 pub fn cells_tell_values()
     ensures { CellsTellValues }
 {}
 
-/// Where the queries in places are kept over some catalog, so are those of a union.
+/// If the queries in places are live over some catalog, so are those of a union.
 pub fn queries_are_kept()
     ensures { QueriesAreKept }
 {}
 
-/// Of a query that is kept the types of the answers' cells are those of its answers.
+/// Of a live query the types of the answers' cells are those of its answers.
 pub fn head_types_are()
     ensures { HeadTypesAre }
 {}
 
-/// Cells of these types that stand for a tuple show it as a tuple of the tree, answer or not.
+/// Cells of these types that represent a tuple show it as a tuple of the tree, answer or not.
 pub fn cells_in_tree_stand()
     ensures { CellsInTreeStand }
 {}
 
-/// The cells of what can be shown, in the head's order, stand for the values that it shows.
+/// The cells of what can be shown, in the head's order, represent the values that it shows.
 pub fn showable_cells_stand()
     ensures { ShowableCellsStand }
 {}

@@ -1,4 +1,4 @@
-//! How one cursor of a query goes on.
+//! The reads of one cursor of a query.
 ghost use Rattle.std.specs.Prelude.{◌+◌, ◌≤◌, length};
 ghost use Rattle.djq_store_spec.specs.Registering.{most_steps};
 ghost use Rattle.djq_live_query.specs.Cursors.{IsOpen};

@@ -1,4 +1,4 @@
-//! What becomes of a registered query where a row of a relation comes or goes.
+//! Updates of a registered query by a row of a relation that is inserted or deleted.
 ghost use Rattle.std.specs.Prelude.{◌≡◌, ℕ, false, length, OnOk, OnErr};
 ghost use Rattle.djq_model.specs.Data.{Tuple};
 ghost use Rattle.djq_reduct.specs.Reducts.{SameTables};
@@ -35,19 +35,20 @@ use djq_model::{Name, NoMem};
 use djq_reduct::Cells;
 
 impl LiveQuery {
-    /// Takes in a row that came into a relation, given by its cells; it goes into the leaves over
-    /// the relation one after another. Where the delta is wanted, the log tells behind what it told
-    /// which answers came. [`outdate`](LiveQuery::outdate) is to be called before a cursor is read.
+    /// Inserts a row that was inserted into a relation, given by its cells; it is inserted into the
+    /// leaves over the relation one after another. If the delta is wanted, the answers that were added
+    /// are appended to the log. [`outdate`](LiveQuery::outdate) is to be called before a cursor is
+    /// read.
     ///
-    /// For each atom over the relation the update count rises by at most 16(m + v)(n + 1), where the
-    /// query has m atoms and v variables, holes counted in, and no leaf more than n tuples before.
-    /// Where the query is flat, by at most 16(m + v), whatever the number of tuples.
+    /// For each atom over the relation the update count rises by at most 16(m + v)(n + 1), with m atoms
+    /// and v variables in the query, holes counted in, and at most n tuples in each leaf before. If the
+    /// query is flat, by at most 16(m + v), whatever the number of tuples.
     ///
     /// # Errors
     ///
     /// `NoMem` out of memory; all tables are as before, with the same supports, and the log is empty.
-    /// The update count then rises by at most three times as much, since the leaves that took the row
-    /// in give it back; where the query is flat, by at most twice as much.
+    /// The update count then rises by at most three times as much, since the row is removed again from
+    /// the leaves that have it; if the query is flat, by at most twice as much.
     pub fn add<L: Ledgers>(
         &mut self,
         relation: RelationId,
@@ -109,21 +110,21 @@ impl LiveQuery {
         Err(NoMem)
     }
 
-    /// Takes in rows that came into a relation at once, each given by its cells; they go into the
-    /// leaves over the relation one leaf after another, all tuples of a leaf at once. Where the delta
-    /// is wanted, the log tells behind what it told which answers came by all of them together, each
-    /// once. [`outdate`](LiveQuery::outdate) is to be called before a cursor is read.
+    /// Inserts rows that were inserted into a relation at once, each given by its cells; they are
+    /// inserted into the leaves over the relation one leaf after another, all tuples of a leaf at once.
+    /// If the delta is wanted, the answers that all of them together added are appended to the log,
+    /// each once. [`outdate`](LiveQuery::outdate) is to be called before a cursor is read.
     ///
-    /// For each atom over the relation the update count rises by at most 16(m + v)(n + k + 1), where
-    /// the query has m atoms and v variables, holes counted in, no leaf more than n tuples before, and
-    /// k rows come: by no more than one row may count where so many are there. Where the query is flat,
-    /// by at most 16(m + v) for each row, whatever the number of tuples.
+    /// For each atom over the relation the update count rises by at most 16(m + v)(n + k + 1), with m
+    /// atoms and v variables in the query, holes counted in, at most n tuples in each leaf before, and
+    /// k new rows: by no more than one row may count if so many are there. If the query is flat, by at
+    /// most 16(m + v) for each row, whatever the number of tuples.
     ///
     /// # Errors
     ///
     /// `NoMem` out of memory; all tables are as before, with the same supports, and the log is empty.
-    /// The update count then rises by at most twice as much, since the leaves that took the rows in
-    /// give them back.
+    /// The update count then rises by at most twice as much, since the rows are removed again from the
+    /// leaves that have them.
     pub fn add_many<L: Ledgers>(
         &mut self,
         relation: RelationId,
@@ -187,9 +188,9 @@ impl LiveQuery {
         Err(NoMem)
     }
 
-    /// Takes out a row that went out of a relation, given by its cells, leaf by leaf. Where the
-    /// delta is wanted, the log tells behind what it told which answers went. It takes no memory
-    /// but the log's, and its update count is bounded as that of [`add`](LiveQuery::add).
+    /// Deletes a row that was deleted from a relation, given by its cells, leaf by leaf. If the delta
+    /// is wanted, the answers that were removed are appended to the log. It needs no memory but the
+    /// log's, and its update count is bounded as that of [`add`](LiveQuery::add).
     /// [`outdate`](LiveQuery::outdate) is to be called before a cursor is read.
     pub fn delete<L: Ledgers>(
         &mut self,
@@ -228,16 +229,16 @@ impl LiveQuery {
         );
     }
 
-    /// Takes out rows that went out of a relation at once, each given by its cells; they go out of the
-    /// leaves over the relation one leaf after another, all tuples of a leaf at once. Where the delta
-    /// is wanted, the log tells behind what it told which answers went by all of them together, each
-    /// once. It takes no memory but the log's. [`outdate`](LiveQuery::outdate) is to be called before
-    /// a cursor is read.
+    /// Deletes rows that were deleted from a relation at once, each given by its cells; they are
+    /// deleted from the leaves over the relation one leaf after another, all tuples of a leaf at once.
+    /// If the delta is wanted, the answers that all of them together removed are appended to the log,
+    /// each once. It needs no memory but the log's. [`outdate`](LiveQuery::outdate) is to be called
+    /// before a cursor is read.
     ///
-    /// For each atom over the relation the update count rises by at most 16(m + v)(n + 1), where the
-    /// query has m atoms and v variables, holes counted in, and no leaf more than n tuples before,
-    /// however many rows go. Where the query is flat, by at most 16(m + v) for each row, whatever the
-    /// number of tuples.
+    /// For each atom over the relation the update count rises by at most 16(m + v)(n + 1), with m atoms
+    /// and v variables in the query, holes counted in, and at most n tuples in each leaf before,
+    /// however many rows are deleted. If the query is flat, by at most 16(m + v) for each row, whatever
+    /// the number of tuples.
     pub fn delete_many<L: Ledgers>(
         &mut self,
         relation: RelationId,
@@ -274,8 +275,8 @@ impl LiveQuery {
         );
     }
 
-    /// Gives a row back that [`add`](LiveQuery::add) took in, without a delta. It takes no memory, and
-    /// its update count is bounded as that of `add`.
+    /// Deletes a row again that [`add`](LiveQuery::add) inserted, without a delta. It needs no memory,
+    /// and its update count is bounded as that of `add`.
     pub fn give_back<L: Ledgers>(
         &mut self,
         relation: RelationId,

@@ -33,12 +33,12 @@ pub record WasKeeping (found : List (List ℕ)) (groups : List (List (List ℕ))
 abbrev pub OpensToOldOrNew : List (List ℕ) → List (List ℕ) → List ℕ → Type 0
 OpensToOldOrNew lines group file = LogOpensToLines lines file ⊎ LogOpensToLines (lines ++ group) file
 
--- What an append of a group leaves behind these lines: done, failed, or without room for it.
+-- What an append of a group leaves after these lines: done, failed, or without room for it.
 pub record AppendsTo (lines group : List (List ℕ)) (end : LogEnd) (old new : History) : Type 0 where
   pub idle : IsIdleAt (lines ++ group) end new.file
   pub leaves : LeavesSince (OpensToOldOrNew lines group) old new
 
--- An append of a group goes on from those before it, whatever was found and whenever it began.
+-- An append of a group continues from those before it, whatever was found and whenever it began.
 pub record AppendsKeep (found : List (List ℕ)) (groups : List (List (List ℕ))) (end : LogEnd) (start old : History)
     : Type 0 where
   pub now : LeavesOnly (OpensWithin found groups (length groups)) old.file
@@ -49,7 +49,7 @@ pub record AppendsKeep (found : List (List ℕ)) (groups : List (List (List ℕ)
       → LeavesSince (OpensToOldOrNew (found ++ whole_lines groups) group) old new
       → WasKeeping found groups group start new
 
--- Groups are in the log one after another: none at first, and each append goes on from those before it.
+-- Groups are in the log one after another: none at first, and each append continues from those before it.
 pub record KeepsOn : Type 0 where
   pub none : (found : List (List ℕ)) (end : LogEnd) (h : History) → IsIdleAt found end h.file
       → IsKeeping found [] end h h

@@ -1,4 +1,4 @@
--- Which lines a file opens to, as a log of either format, and where such a log ends.
+-- Which lines a file opens to, as a log of either format, and the place at which such a log ends.
 use Rattle.std.specs.Prelude.{◌≡◌, ℕ, ◌⊎◌, List}
 use Rattle.std.specs.List.{flat_map}
 use Rattle.djq_disk.specs.File.{File, IsImage, IsSettled}

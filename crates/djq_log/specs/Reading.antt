@@ -24,17 +24,17 @@ HasReadLines lines (First gate) file = IsAtGate lines gate file
 HasReadLines lines (Second place part) file =
     HasRead lines place file.bytes × WindowHolds part file.bytes × IsSettled file
 
--- After these lines a log is bad at a place: no gate stands there, or an open one and no record after it.
+-- After these lines a log is bad at a place: there is no gate, or an open one and no record after it.
 abbrev pub IsBadAt : List (List ℕ) → ℕ → File → Type 0
 IsBadAt lines at file = (IsAtGate lines at file × IsBad (drop at file.bytes))
     ⊎ ((reason : Damage) × IsDamagedAt lines at reason file.bytes)
 
--- After these lines one more stands, in the record whose gate is at a place.
+-- After these lines there is one more, in the record whose gate is at a place.
 abbrev pub IsNextAt : List (List ℕ) → List ℕ → ℕ → File → Type 0
 IsNextAt lines line at file = (IsAtGate lines at file × ((next : ℕ) × IsAtGate (lines ++ line ∷ []) next file))
     ⊎ IsLastInRecord (lines ++ line ∷ []) at file.bytes
 
--- What comes after these lines: the next one, which is read then; or the end of the log; or a place at which it is bad.
+-- What follows these lines: the next one, which is read then; or the end of the log; or a place at which it is bad.
 abbrev pub ReadsNext : NextLine → List (List ℕ) → List ℕ → File → Type 0
 ReadsNext (Got source n at) lines buf file = HasReadLines (lines ++ take n buf ∷ []) source file
     × IsNextAt lines (take n buf) at file
@@ -42,7 +42,7 @@ ReadsNext (End end) lines buf file = IsIdleAt lines end file
 ReadsNext (Bad at) lines buf file = IsBadAt lines at file
 ReadsNext Failed lines buf file = Unit {0}
 
--- A line that was read stands in the buffer, whether the disk records a history or not.
+-- A line that was read is in the buffer, whether the disk records a history or not.
 abbrev pub NextLineFits : NextLine → List ℕ → Type 0
 NextLineFits (Got source n at) buf = (1 ≤ n) × (n ≤ length buf)
 NextLineFits (End end) buf = Unit {0}
@@ -62,7 +62,7 @@ SourceGoesOn (End end) source = Unit {0}
 SourceGoesOn (Bad at) source = Unit {0}
 SourceGoesOn Failed source = Unit {0}
 
--- The disk's count of faults rises where a line can't be read, and stays elsewhere.
+-- The disk's count of faults rises if a line can't be read, and else stays.
 abbrev pub CountsNextLine : NextLine → ℕ → ℕ → Type 0
 CountsNextLine (Got source n at) old new = new ≡ old
 CountsNextLine (End end) old new = new ≡ old
@@ -80,7 +80,7 @@ pub record MakesFirst (old new : History) : Type 0 where
   pub unbegun : IsUnbegun old.file.bytes
   pub paths : new.paths ≡ old.paths
 
--- A log is opened after a sync, so that what is read outlives a crash: it is made where none was begun, and has no
+-- A log is opened after a sync, so that what is read outlives a crash: it is made if none was begun, and has no
 -- lines then; or it is ready before its first line, and nothing but the sync was done; or the file is none.
 abbrev pub OpensLogLines : LogFound → History → History → Type 0
 OpensLogLines (Made end) old new = MakesFirst old new × IsIdleAt [] end new.file
@@ -89,7 +89,7 @@ OpensLogLines (Ready source) old new = (new ≡ synced_history old) × (IsUnbegu
 OpensLogLines Unknown old new = (new ≡ synced_history old) × IsNoLog old.file.bytes
 OpensLogLines Unopened old new = (new ≡ old) ⊎ ((new ≡ synced_history old) ⊎ MakesFirst old new)
 
--- The disk's count of faults rises where a log can't be opened, and stays elsewhere.
+-- The disk's count of faults rises if a log can't be opened, and else stays.
 abbrev pub CountsLogFound : LogFound → ℕ → ℕ → Type 0
 CountsLogFound (Made end) old new = new ≡ old
 CountsLogFound (Ready source) old new = new ≡ old

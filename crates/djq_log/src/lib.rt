@@ -15,7 +15,7 @@
 //! What it isn't for: it knows nothing of what a line means, and shortens no file.
 //!
 //! What surprises: after an append that failed the end is lost, and a log stores lines nowhere from then on. The next
-//! start tells whether the group is there.
+//! start finds out whether the group is there.
 //!
 //! To read first: `specs/Lines.antt`, which lines a file opens to, and `specs/Keeping.antt`, what a crash leaves of
 //! groups that are appended one after another.

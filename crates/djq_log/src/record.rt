@@ -3,7 +3,7 @@ ghost use Rattle.std.specs.Option.{option_copied};
 
 use djq_journal::Group;
 
-/// A group of lines, as a record of the second format takes it.
+/// A group of lines, as a record of the second format has it.
 #[derive(Drop)]
 pub(crate) struct Record<'a, G: Group> {
     pub(crate) group: &'a G,

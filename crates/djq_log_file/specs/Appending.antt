@@ -16,11 +16,11 @@ use Rattle.djq_log_file.specs.declared.writer.LogAppended.{LogAppended}
 use Rattle.djq_log_file.specs.declared.writer.LogAppended.TheVariants.{Done, Failed, Full}
 use Rattle.djq_log_file.specs.declared.limits.TheConstants.{LAST_LOG_GATE}
 
--- what a log takes as a line
+-- what a log accepts as a line
 abbrev pub FitsLogLine : List ℕ → Type 0
 FitsLogLine line = (1 ≤ length line) × (length line ≤ 65535)
 
--- A group is measured at a gate: the place of the gate behind it, which isn't past the last place; its body; and its lines
+-- A group is measured at a gate: the place of the gate after it, which isn't past the last place; its body; and its lines
 -- are those of a log.
 abbrev pub IsMeasured : ℕ → ℕ → List (List ℕ) → ℕ → Measured → Type 0
 IsMeasured gate digest lines end measure = (end ≡ gate + 17 + length (record_body lines)) × (end ≤ LAST_LOG_GATE)
@@ -31,7 +31,7 @@ pub record IsIdleLog (groups : List (List (List ℕ))) (place : LogEndPlace) (fi
   pub ends : IsLogEndAt groups place file.bytes
   pub still : IsSettled file
 
--- the end of a log behind a group that is appended at this one
+-- the end of a log after a group that is appended at this one
 abbrev pub end_behind : LogEndPlace → List (List ℕ) → LogEndPlace
 end_behind place group =
     record { at = place.at + 17 + length (record_body group); digest = digest_behind place.digest group }
@@ -40,15 +40,15 @@ end_behind place group =
 abbrev pub HasOldOrNew : List (List (List ℕ)) → List (List ℕ) → List ℕ → Type 0
 HasOldOrNew groups group file = HoldsGroups groups file ⊎ HoldsGroups (groups ++ group ∷ []) file
 
--- What an append of a group makes of a log: one that ends behind the group; at each moment a crash leaves the groups
--- before, or those and the new one; and where it is full, nothing changes.
+-- How an append of a group changes a log: it ends after the group; at each moment a crash leaves the groups before, or
+-- those and the new one; and if it is full, nothing changes.
 abbrev pub AppendsGroup : LogAppended → List (List (List ℕ)) → List (List ℕ) → History → History → Type 0
 AppendsGroup (Done place) groups group old new = IsIdleLog (groups ++ group ∷ []) place new.file
     × LeavesSince (HasOldOrNew groups group) old new
 AppendsGroup Failed groups group old new = LeavesSince (HasOldOrNew groups group) old new
 AppendsGroup Full groups group old new = new ≡ old
 
--- So it is whatever groups were before. Where the end isn't known the disk goes on by moments all the same.
+-- So it is whatever groups were before. If the end isn't known the disk moves on by moments all the same.
 pub record AppendsAfter (answer : LogAppended) (place : LogEndPlace) (group : List (List ℕ)) (old new : History) : Type 0
   where
     pub passed : HasGoneOn old new
@@ -64,13 +64,13 @@ pub record AppendsHere (did : DiskDid) (place : LogEndPlace) (group : List (List
   pub passed : HasGoneOn old new
   pub appends : (groups : List (List (List ℕ))) → IsIdleLog groups place old.file → AppendsBy did place groups group old new
 
--- A log is full exactly where the gate behind the group would stand past the last place.
+-- A log is full if and only if the gate after the group would be past the last place.
 abbrev pub HasRoomToAppend : LogAppended → LogEndPlace → List (List ℕ) → Type 0
 HasRoomToAppend (Done next) place group = (next ≡ end_behind place group) × (next.at ≤ LAST_LOG_GATE)
 HasRoomToAppend Failed place group = (end_behind place group).at ≤ LAST_LOG_GATE
 HasRoomToAppend Full place group = LAST_LOG_GATE < (end_behind place group).at
 
--- The disk's count of faults rises where an append fails, and stays elsewhere.
+-- The disk's count of faults rises if an append fails, and else stays.
 abbrev pub CountsLogAppended : LogAppended → ℕ → ℕ → Type 0
 CountsLogAppended (Done place) old new = new ≡ old
 CountsLogAppended Failed old new = Counted old new

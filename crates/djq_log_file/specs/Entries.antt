@@ -14,7 +14,7 @@ use Rattle.djq_log_file.specs.declared.head.Head.TheVariants.{Closed, Record, Da
 use Rattle.djq_log_file.specs.declared.record.Found.{Found}
 use Rattle.djq_log_file.specs.declared.record.Found.TheVariants.{End, Group, Bad, Failed as Unfound}
 
--- The entry of a line stands here, within so many bytes; or no line's does; or the file ends before them.
+-- The entry of a line is here, within so many bytes; or no line's is; or the file ends before them.
 abbrev pub IsEntry : Entry → ℕ → List ℕ → List ℕ → Type 0
 IsEntry (Line n) left buf rest = rest ≡ line_entry (take n buf) ++ drop (2 + n) rest
 IsEntry NoLine left buf rest = (line behind : List ℕ) → IsLogLine line → 2 + length line ≤ left
@@ -30,7 +30,7 @@ EntryFits NoLine at left buf = Unit {0}
 EntryFits Short at left buf = Unit {0}
 EntryFits Failed at left buf = Unit {0}
 
--- A body of this size stands here, of lines after which this is the digest; or no lines have one; or the file ends
+-- A body of this size is here, of lines after which this is the digest; or no lines have one; or the file ends
 -- in it.
 abbrev pub IsBody : Body → ℕ → ℕ → List ℕ → Type 0
 IsBody (Lines after) digest size rest = (lines : List (List ℕ)) × AllByRecursion IsLogLine lines
@@ -40,7 +40,7 @@ IsBody NoLines digest size rest = HasNoLines size rest
 IsBody ShortBody digest size rest = length rest < size
 IsBody UnreadBody digest size rest = Unit {0}
 
--- A closed gate stands here; or an open one, and the head of a record; or neither.
+-- A closed gate is here; or an open one, and the head of a record; or neither.
 abbrev pub IsRecordHead : Head → List ℕ → Type 0
 IsRecordHead Closed rest = IsLogEnd rest
 IsRecordHead (Record size digest) rest = (gate : ℕ) × (1 ≤ gate)
@@ -57,8 +57,8 @@ RecordHeadFits (Record size digest) at = (1 ≤ size) × (size * 257 < 184467440
 RecordHeadFits (Damaged reason) at = Unit {0}
 RecordHeadFits UnreadHead at = Unit {0}
 
--- What stands at a gate after this digest: the end of the list; or the record of a group, with the length of its body
--- and the digest after it; or neither, for this reason.
+-- What is at a gate after this digest: the end of the list; or the record of a group, with the length of its body and
+-- the digest after it; or neither, for this reason.
 abbrev pub StandsAtGate : Found → ℕ → List ℕ → Type 0
 StandsAtGate End digest rest = IsLogEnd rest
 StandsAtGate (Group size after) digest rest = (lines : List (List ℕ)) × IsLogRecord digest lines rest
@@ -73,7 +73,7 @@ GateFits (Group size after) at = (1 ≤ size) × (at + 17 ≤ 184467440737095516
 GateFits (Bad reason) at = Unit {0}
 GateFits Unfound at = Unit {0}
 
--- The disk's count of faults rises where an entry can't be read, and stays elsewhere;
+-- The disk's count of faults rises if an entry can't be read, and else stays;
 abbrev pub CountsEntry : Entry → ℕ → ℕ → Type 0
 CountsEntry (Line n) old new = new ≡ old
 CountsEntry NoLine old new = new ≡ old

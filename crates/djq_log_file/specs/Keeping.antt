@@ -26,7 +26,7 @@ pub record WasKeepingGroups (found groups : List (List (List ℕ))) (last : List
   pub leaves : LeavesSince (OpensToFirst found (groups ++ last ∷ []) 0) old new
   pub now : LeavesOnly (OpensToFirst found (groups ++ last ∷ []) (length groups)) new.file
 
--- An append of a group goes on from those before it, whatever was found and whenever it began.
+-- An append of a group continues from those before it, whatever was found and whenever it began.
 pub record AppendsOn (found groups : List (List (List ℕ))) (place : LogEndPlace) (start old : History) : Type 0 where
   pub now : LeavesOnly (OpensToFirst found groups (length groups)) old.file
   pub done : (group : List (List ℕ)) (next : LogEndPlace) (new : History)
@@ -36,7 +36,7 @@ pub record AppendsOn (found groups : List (List (List ℕ))) (place : LogEndPlac
   pub full : (group : List (List ℕ)) (new : History) → AppendsGroup Full (found ++ groups) group old new
       → IsKeepingGroups found groups place start new
 
--- Groups are in the log one after another: none at first, and each append goes on from those before it.
+-- Groups are in the log one after another: none at first, and each append continues from those before it.
 pub record KeepsGroups : Type 0 where
   pub none : (found : List (List (List ℕ))) (place : LogEndPlace) (h : History) → IsIdleLog found place h.file
       → IsKeepingGroups found [] place h h

@@ -18,7 +18,7 @@ pub record IsFixed (n : ℕ) (bytes : List ℕ) (file : File) : Type 0 where
 abbrev pub BeginsAs : ℕ → List ℕ → List ℕ → Type 0
 BeginsAs n bytes image = take n image ≡ take n bytes
 
--- A disk went on by some moments, and no path was opened.
+-- A disk moved on by some moments, and no path was opened.
 pub record HasGoneOn (old new : History) : Type 0 where
   pub moments : List File
   pub past : new.past ≡ old.past ++ moments
@@ -41,7 +41,7 @@ pub record Lays (start : ℕ) (laid : List ℕ) (writer : Gathering) (old new : 
   pub later : rest ≡ drop (start + length written) old.file.bytes
   pub leaves : LeavesSince (BeginsAs start old.file.bytes) old new
 
--- so it is where it was done; where it failed, what precedes the place is as it was
+-- so it is if it was done; if it failed, what precedes the place is as it was
 abbrev pub LaysBy : DiskDid → ℕ → List ℕ → Gathering → History → History → Type 0
 LaysBy Done start laid writer old new = Lays start laid writer old new
 LaysBy Failed start laid writer old new = LeavesSince (BeginsAs start old.file.bytes) old new
@@ -52,7 +52,7 @@ pub record LaysMore (did : DiskDid) (piece : List ℕ) (writer writer' : Gatheri
   pub lays : (first : History) (start : ℕ) (laid : List ℕ) → Lays start laid writer first old
       → LaysBy did start (laid ++ piece) writer' first new
 
--- what is laid next stands behind what is gathered
+-- what is written next follows what is gathered
 abbrev pub end_of_gathering : Gathering → ℕ
 end_of_gathering writer = writer.at + length writer.gathered
 
@@ -60,7 +60,7 @@ abbrev pub MovesEnd : DiskDid → List ℕ → Gathering → Gathering → Type 
 MovesEnd Done piece old new = end_of_gathering new ≡ end_of_gathering old + length piece
 MovesEnd Failed piece old new = Unit {0}
 
--- These bytes stand from a place on, where all was synced before and so much stood there; and what precedes it is as it
+-- These bytes are there from a place on, if all was synced before and so much was there; and what precedes it is as it
 -- was at each moment.
 abbrev pub StandsFrom : DiskDid → ℕ → List ℕ → History → History → Type 0
 StandsFrom Done start bytes old new = IsFixed start old.file.bytes new.file

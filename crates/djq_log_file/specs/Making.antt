@@ -30,7 +30,7 @@ pub record IsMadeUpTo (groups : List (List (List ℕ))) (place : LogEndPlace) (r
   pub is_at : place.at ≡ length (log_front stored)
   pub is_digest : place.digest ≡ digest_after seed stored
 
--- where the first record of a log begins
+-- the place of the first record of a log
 abbrev pub first_record_place : LogEndPlace
 first_record_place = record { at = 8; digest = seed }
 
@@ -50,7 +50,7 @@ pub record WritesBehind (did : DiskDid) (start : ℕ) (bytes : List ℕ) (old ne
   pub stands : (before rest : List ℕ) → old.file.bytes ≡ before ++ rest → start ≡ length before
       → StandsBehind did before bytes rest new.file.bytes
 
--- A group more is in a log that is being made. Where there is no room for it, nothing changes.
+-- A group more is in a log that is being made. If there is no room for it, nothing changes.
 abbrev pub PutsGroup : GroupPut → List (List (List ℕ)) → List (List ℕ) → List ℕ → History → History → Type 0
 PutsGroup (Put place) groups group rest old new =
     IsMadeUpTo (groups ++ group ∷ []) place (drop (17 + length (record_body group)) rest) new.file.bytes
@@ -64,7 +64,7 @@ pub record PutsAfter (answer : GroupPut) (place : LogEndPlace) (group : List (Li
     pub puts : (groups : List (List (List ℕ))) (rest : List ℕ) → IsMadeUpTo groups place rest old.file.bytes
         → PutsGroup answer groups group rest old new
 
--- There is no room exactly where the gate after the group would stand past the last place.
+-- There is no room if and only if the gate after the group would be past the last place.
 abbrev pub HasRoomToPut : GroupPut → LogEndPlace → List (List ℕ) → Type 0
 HasRoomToPut (Put next) place group = (next ≡ end_behind place group) × (next.at ≤ LAST_LOG_GATE)
 HasRoomToPut Unput place group = (end_behind place group).at ≤ LAST_LOG_GATE
@@ -77,7 +77,7 @@ pub record IsWholeLogOf (groups : List (List (List ℕ))) (file : List ℕ) : Ty
   pub are : groups ≡ stored_groups stored
 
 -- A log that was made is one of all the groups that were put, and ends after them; a crash leaves just these from then on.
--- It is closed whole where no bytes were left after its end.
+-- It is closed whole if no bytes were left after its end.
 abbrev pub MakesLog : LogMade → List (List (List ℕ)) → LogEndPlace → List ℕ → History → Type 0
 MakesLog (Made end) groups place left new = (end ≡ place) × IsIdleLog groups end new.file
     × (left ≡ [] → IsWholeLogOf groups new.file.bytes)
@@ -98,7 +98,7 @@ abbrev pub WritesNewLog : DiskDid → History → History → Type 0
 WritesNewLog Did old new = new ≡ with_next (settled (log_header ++ 0 ∷ [])) old
 WritesNewLog Failing old new = (next : File) × (new ≡ with_next next old)
 
--- A log without groups is created beside the file, and takes its place in one step. So at each moment a crash leaves the
+-- A log without groups is created beside the file, and replaces it in one step. So at each moment a crash leaves the
 -- file as it was, or that log.
 pub record CreatesLog (answer : LogMade) (old new : History) : Type 0 where
   pub passed : HasGoneOn old new
@@ -106,7 +106,7 @@ pub record CreatesLog (answer : LogMade) (old new : History) : Type 0 where
   pub leaves : (new.file ≡ old.file) ⊎ IsNewLog new.file
   pub makes : MakesLog answer [] first_record_place [] new
 
--- The disk's count of faults rises where a log isn't begun, and stays elsewhere;
+-- The disk's count of faults rises if a log isn't begun, and else stays;
 abbrev pub CountsLogBegun : LogBegun → ℕ → ℕ → Type 0
 CountsLogBegun (Begun place) old new = new ≡ old
 CountsLogBegun Unbegun old new = Counted old new

@@ -36,7 +36,7 @@ IsLogOf Failed file = Unit {0}
 abbrev pub synced_history : History → History
 synced_history h = moved_to (settled h.file.bytes) h
 
--- A log is opened after a sync, so that what is read outlives a crash. Where the disk failed nothing else changed.
+-- A log is opened after a sync, so that what is read outlives a crash. If the disk failed nothing else changed.
 abbrev pub OpensLogFile : LogOpened → History → History → Type 0
 OpensLogFile Failed old new = (new ≡ old) ⊎ (new ≡ synced_history old)
 OpensLogFile answer old new = (new ≡ synced_history old) × IsLogOf answer old.file.bytes
@@ -51,7 +51,7 @@ pub record OneLogAlone (file : List ℕ) : Type 0 where
   pub no_second : IsUnbegun file → BeginsWith log_header file → ⊥
   pub not_both : BeginsWith first_log_header file → BeginsWith log_header file → ⊥
 
--- The disk's count of faults rises where a log can't be opened, and stays elsewhere.
+-- The disk's count of faults rises if a log can't be opened, and else stays.
 abbrev pub CountsLogOpened : LogOpened → ℕ → ℕ → Type 0
 CountsLogOpened Unbegun old new = new ≡ old
 CountsLogOpened First old new = new ≡ old

@@ -1,4 +1,4 @@
--- Where a reader is in a log and what it has read, and where a log ends.
+-- The place of a reader in a log and what it has read, and the place at which a log ends.
 use Rattle.std.specs.Prelude.{◌≡◌, ℕ, ◌<◌, ◌≤◌, List, [], ◌∷◌, ◌++◌, length, take, map}
 use Rattle.std.specs.List.{flat_map, AllByRecursion}
 use Rattle.djq_io.specs.Faults.{Counted}
@@ -46,7 +46,7 @@ pub record IsWithinRecord (stored : List RecordStored) (lines to_come : List (Li
   pub is_gate : gate ≡ length (log_front earlier)
 
 -- A reader has read these lines of a log: those of whole records, but for the last lines of the last record, which
--- are still to come.
+-- are still to be read.
 pub record HasRead (lines : List (List ℕ)) (place : ReadingPlace) (file : List ℕ) : Type 0 where
   pub stored : List RecordStored
   pub are_stored : AllByRecursion IsRecordStored stored
@@ -61,7 +61,7 @@ pub record HasRead (lines : List (List ℕ)) (place : ReadingPlace) (file : List
   pub is_digest : place.digest ≡ digest_after seed stored
   pub within : 1 ≤ place.left → IsWithinRecord stored lines to_come place.gate
 
--- The last of these lines stands in the record whose gate is at a place, and those before it are those of the records
+-- The last of these lines is in the record whose gate is at a place, and those before it are those of the records
 -- before, and the first of this one.
 pub record IsLastInRecord (lines : List (List ℕ)) (at : ℕ) (file : List ℕ) : Type 0 where
   pub stored : List RecordStored
@@ -94,8 +94,8 @@ pub record IsDamagedAt (lines : List (List ℕ)) (at : ℕ) (reason : Damage) (f
   pub bad : IsBadLog (digest_after seed stored) rest
   pub damage : HasDamage reason (digest_after seed stored) rest
 
--- What comes after these lines: the next one, which is read then, and the reader knows the gate of its record; or the
--- end of the log; or a gate at which it is bad.
+-- What follows these lines: the next one, which is read then, and the reader knows the gate of its record; or the end
+-- of the log; or a gate at which it is bad.
 abbrev pub ReadsLine : LogLine → List (List ℕ) → ReadingPlace → List ℕ → List ℕ → Type 0
 ReadsLine (Got n) lines place buf file = HasRead (lines ++ take n buf ∷ []) place file
     × IsLastInRecord (lines ++ take n buf ∷ []) place.gate file
@@ -103,7 +103,7 @@ ReadsLine (End end) lines place buf file = HasRead lines place file × EndsRead 
 ReadsLine (Damaged at reason) lines place buf file = HasRead lines place file × IsDamagedAt lines at reason file
 ReadsLine Failed lines place buf file = HasRead lines place file
 
--- So it is where a reader has come before the next line of a record that is whole.
+-- So it is if a reader is before the next line of a record that is whole.
 abbrev pub EntersRecord : Found → List (List ℕ) → ReadingPlace → List ℕ → Type 0
 EntersRecord (Group size after) lines place file = HasRead lines place file
 EntersRecord Ends lines place file =
@@ -111,7 +111,7 @@ EntersRecord Ends lines place file =
 EntersRecord (Bad reason) lines place file = HasRead lines place file × IsDamagedAt lines place.at reason file
 EntersRecord Unfound lines place file = HasRead lines place file
 
--- where a line follows, bytes of a body are left
+-- if a line follows, bytes of a body are left
 abbrev pub EntersFits : Found → ReadingPlace → Type 0
 EntersFits (Group size after) place = 1 ≤ place.left
 EntersFits Ends place = Unit {0}
@@ -132,7 +132,7 @@ ReadsOnward (End end) old new = Unit {0}
 ReadsOnward (Damaged at reason) old new = Unit {0}
 ReadsOnward Failed old new = Unit {0}
 
--- The disk's count of faults rises where a line can't be read, and stays elsewhere.
+-- The disk's count of faults rises if a line can't be read, and else stays.
 abbrev pub CountsLogLine : LogLine → ℕ → ℕ → Type 0
 CountsLogLine (Got n) old new = new ≡ old
 CountsLogLine (End end) old new = new ≡ old

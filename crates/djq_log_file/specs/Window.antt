@@ -15,8 +15,8 @@ pub record FilePart : Type 0 where
 abbrev pub WindowHolds : FilePart → List ℕ → Type 0
 WindowHolds part bytes = part.held ≡ take (length part.held) (drop part.start bytes)
 
--- A look ahead changes nothing of the file. What is held is the file's, as it was before; and the file ends exactly
--- where no byte stands ahead.
+-- A look ahead changes nothing of the file. What is held is the file's, as it was before; and the file ends if and
+-- only if no byte is ahead.
 abbrev pub LooksAhead : DiskRead → ℕ → FilePart → FilePart → History → History → Type 0
 LooksAhead (Got n) at old new o h = (h ≡ o) × (WindowHolds old o.file.bytes → WindowHolds new o.file.bytes)
 LooksAhead End at old new o h = (h ≡ o) × (length o.file.bytes ≤ at)
@@ -29,7 +29,7 @@ ReachesAhead (Got n) at part =
 ReachesAhead End at part = part.held ≡ []
 ReachesAhead Failed at part = part.held ≡ []
 
--- Reading through a window changes nothing of the file. Where the window holds the file's bytes it still does, and
+-- Reading through a window changes nothing of the file. If the window holds the file's bytes it still does, and
 -- this is found in them.
 abbrev pub ReadsThrough : (List ℕ → Type 0) → FilePart → FilePart → History → History → Type 0
 ReadsThrough Found old new o n =

@@ -1,4 +1,4 @@
-/// Why no record stands at a gate's place.
+/// Why there is no record at a gate's place.
 #[derive(Clone, Copy, Debug, PartialEq, Eq)]
 pub enum Damage {
     /// The file ends before the record does, or before its gate.

@@ -77,7 +77,7 @@ impl PieceWriter {
         }
     }
 
-    /// Lays a piece behind what was laid.
+    /// Appends a piece to what was gathered.
     pub(crate) fn put<D: Disk>(&mut self, disk: &mut D, piece: &[u8]) -> DiskDid
         requires is_open { D.is_open disk.old ≡ true }
         requires short { length piece.now ≤ PIECE_BYTES }

@@ -1,34 +1,34 @@
 //! A log of the second format in the file of a disk: which log a file is, its lines, and groups that are appended.
 //!
-//! [`open_log`] tells which log the file of a disk is, after a sync. Of a log of the second format
-//! [`LogReader::next_line`] reads one line after another, through a [`Window`], which reads the file in pieces of up to
-//! 64 KiB. A record is read whole before its first line is: its digest has to be that of its body after all that
-//! precedes it. At the end the reader gives a [`LogWriter`], which appends groups.
+//! [`open_log`] returns which log the file of a disk is, after a sync. Of a log of the second format
+//! [`LogReader::next_line`] reads one line after another, through a [`Window`], which reads the file in pieces of up to 64
+//! KiB. A record is read whole before its first line is: its digest has to be that of its body after all that precedes it.
+//! At the end the reader gives a [`LogWriter`], which appends groups.
 //!
 //! ```text
 //! at a gate     0                                       the log ends here
 //!               another byte, a length, a digest, lines the record of a group
-//!               anything else                           the log is bad here: [`Damage`] says why
+//!               anything else                           the log is bad here, for a reason ([`Damage`])
 //! ```
 //!
-//! A group is appended after the closed gate that ends the log, whole, with another closed gate behind it, and synced;
-//! then its gate is opened and synced. Whatever a crash leaves of that one byte, it is 0, and the log has the groups
-//! before, or it isn't, and the log has those and the new one. So at every moment a crash leaves a log that opens to
-//! the groups before or to those and the whole new one. No digest is a premise of that.
+//! A group is appended after the closed gate that ends the log, whole, with another closed gate after it, and synced; then
+//! its gate is opened and synced. Whatever a crash leaves of that one byte, it is 0, and the log has the groups before, or
+//! it isn't, and the log has those and the new one. So at every moment a crash leaves a log that opens to the groups
+//! before or to those and the whole new one. No digest is a premise of that.
 //!
-//! A log is made by a [`LogMaker`], record by record, in a file whose bytes don't count: it is none before it is
-//! finished, and has exactly the groups that were put then. [`create_log`] makes one without groups beside the file, which
+//! A log is made by a [`LogMaker`], record by record, in a file whose bytes don't count: it is none before it is finished,
+//! and has the groups that were put, and no others, then. [`create_log`] makes one without groups beside the file, which
 //! it replaces in one step, if the file is unbegun: it has at most 8 bytes then, with which a header begins.
 //!
 //! What it isn't for: it knows nothing of what a line means, and reads no log of the first format. `djq_log` reads and
 //! appends both.
 //!
 //! What surprises: what follows the closed gate doesn't count, whatever it is. After an append that failed the end is
-//! lost, since nobody knows whether the group is there: the next start tells. A record is read twice. While a log is
+//! lost, since nobody knows whether the group is there: the next start finds out. A record is read twice. While a log is
 //! created a crash leaves the file as it was, or the new log.
 //!
-//! To read first: `specs/Standing.antt`, what was read and where a log ends, `specs/Damaged.antt`, why a log is bad,
-//! `specs/Appending.antt`, and `specs/Making.antt`.
+//! To read first: `specs/Standing.antt`, what was read and at which gate a log ends, `specs/Damaged.antt`, why a log is
+//! bad, `specs/Appending.antt`, and `specs/Making.antt`.
 #![tactic(auto)]
 
 mod appending;
@@ -60,7 +60,7 @@ pub use reader::{LogLine, LogReader};
 pub use window::Window;
 pub use writer::{LogAppended, LogWriter};
 
-/// Where one of the reasons holds no record stands.
+/// If one of the reasons holds there is no record.
 pub fn damage_is_seen()
     ensures { DamageIsSeen }
 {}

@@ -19,7 +19,7 @@ pub enum LogOpened {
     Failed,
 }
 
-/// Tells which log the file of up to 8 bytes is.
+/// Returns which log the file of up to 8 bytes is.
 fn identify_short<D: Disk>(disk: &mut D, size: usize) -> LogOpened
     requires is_open { D.is_open disk.old ≡ true }
     requires few { size ≤ 8 }
@@ -43,7 +43,7 @@ fn identify_short<D: Disk>(disk: &mut D, size: usize) -> LogOpened
     }
 }
 
-/// Tells which log the file of more bytes is.
+/// Returns which log the file of more bytes is.
 fn identify_long<D: Disk>(disk: &mut D) -> LogOpened
     requires { D.is_open disk.old ≡ true }
     ensures is_open { D.is_open disk.new ≡ true }
@@ -66,7 +66,7 @@ fn identify_long<D: Disk>(disk: &mut D) -> LogOpened
     }
 }
 
-/// Tells which log the file of the disk is, after a sync.
+/// Returns which log the file of the disk is, after a sync.
 pub fn open_log<D: Disk>(disk: &mut D) -> LogOpened
     requires { D.is_open disk.old ≡ true }
     ensures is_open { D.is_open disk.new ≡ true }

@@ -66,7 +66,7 @@ impl LogReader {
         self.gate
     }
 
-    /// Goes to the next line of the record, or into the record at the gate, all of which is read before its first line.
+    /// Enters the next line of the record, or the record at the gate, all of which is read before its first line.
     fn enter<D: Disk>(&mut self, disk: &mut D, window: &mut Window, buf: &mut [u8]) -> Found
         requires is_open { D.is_open disk.old ≡ true }
         requires room { 65535 ≤ length buf.old }

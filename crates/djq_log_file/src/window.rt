@@ -45,7 +45,7 @@ impl Window {
         })
     }
 
-    /// How many bytes are held from the place on. The disk is read only where none is.
+    /// How many bytes are held from the place on. The disk is read only if none is.
     pub fn look<D: Disk>(&mut self, disk: &mut D, at: u64) -> DiskRead
         requires { D.is_open disk.old ≡ true }
         ensures is_open { D.is_open disk.new ≡ true }

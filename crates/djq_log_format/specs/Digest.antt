@@ -26,7 +26,7 @@ carried digest word =
 abbrev pub chained : ℕ → List ℕ → ℕ
 chained digest bytes = fold carried digest (words_of bytes)
 
--- A digest on its way over bytes: carried on over their whole words, and the bytes behind these, fewer
+-- A digest in progress over bytes: carried on over their whole words, and the bytes after these, fewer
 -- than eight.
 pub record Digesting : Type 0 where
   pub digest : ℕ
@@ -42,7 +42,7 @@ absorbed so_far byte = if length so_far.pending == 7
     then record { digest = carried so_far.digest (digest_word (so_far.pending ++ byte ∷ [])); pending = [] }
     else record { digest = so_far.digest; pending = so_far.pending ++ byte ∷ [] }
 
--- the digest of all: carried on over what is pending, where anything is
+-- the digest of all: carried on over what is pending, if anything is
 abbrev pub finished : Digesting → ℕ
 finished so_far = if length so_far.pending == 0 then so_far.digest else carried so_far.digest (digest_word so_far.pending)
 
@@ -50,7 +50,7 @@ finished so_far = if length so_far.pending == 0 then so_far.digest else carried 
 abbrev pub DigestsInPieces : Type 0
 DigestsInPieces = (digest : ℕ) (bytes : List ℕ) → finished (fold absorbed (begun digest) bytes) ≡ chained digest bytes
 
--- A digest sees a change within one byte, whatever stands before it and behind it.
+-- A digest sees a change within one byte, whatever precedes it and follows it.
 abbrev pub ByteIsSeen : Type 0
 ByteIsSeen = (digest : ℕ) (before : List ℕ) (byte other : ℕ) (behind : List ℕ) → digest < 18446744073709551616
     → AllByRecursion (λ b. b < 256) (before ++ byte ∷ behind) → other < 256

@@ -9,7 +9,7 @@ pub record Measured : Type 0 where
   pub size : ℕ
   pub digesting : Digesting
 
--- the body of these lines, measured, where this is the digest of what stands before the record
+-- the body of these lines, measured, if this is the digest of what precedes the record
 abbrev pub measured : ℕ → List (List ℕ) → Measured
 measured digest lines =
     record { size = length (record_body lines); digesting = fold absorbed (begun digest) (record_body lines) }

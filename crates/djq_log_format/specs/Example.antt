@@ -9,7 +9,7 @@ example_groups =
     ∷ record { gate = 255; lines = (97 ∷ 100 ∷ 100 ∷ 32 ∷ 114 ∷ 32 ∷ 55 ∷ []) ∷ (97 ∷ 100 ∷ 100 ∷ 32 ∷ 114 ∷ 32 ∷ 56 ∷ []) ∷ [] }
     ∷ []
 
--- the header; a record behind its open gate, its length and its digest; another one; and the closed gate
+-- the header; a record after its open gate, its length and its digest; another one; and the closed gate
 unfoldable pub example_file : List ℕ
 example_file =
     68 ∷ 74 ∷ 81 ∷ 76 ∷ 79 ∷ 71 ∷ 50 ∷ 10 ∷ 255 ∷ 0 ∷ 0 ∷ 0 ∷ 0 ∷ 0 ∷ 0 ∷ 11 ∷ 11 ∷ 13 ∷ 157 ∷ 200 ∷ 107 ∷

@@ -12,13 +12,13 @@ log_header = 68 ∷ 74 ∷ 81 ∷ 76 ∷ 79 ∷ 71 ∷ 50 ∷ 10 ∷ []
 abbrev pub seed : ℕ
 seed = 1442695040888963407
 
--- A line of a log has 1 to 65,535 bytes, so two say its length.
+-- A line of a log has 1 to 65,535 bytes, so its length has two.
 pub record IsLogLine (line : List ℕ) : Type 0 where
   pub some : 1 ≤ length line
   pub short : length line ≤ 65535
   pub are_bytes : AllByRecursion (λ byte. byte < 256) line
 
--- a line behind its length
+-- a line after its length
 abbrev pub line_entry : List ℕ → List ℕ
 line_entry line = length line / 256 ∷ length line % 256 ∷ line
 
@@ -26,7 +26,7 @@ line_entry line = length line / 256 ∷ length line % 256 ∷ line
 abbrev pub record_body : List (List ℕ) → List ℕ
 record_body lines = flat_map line_entry lines
 
--- A group of lines has at least one, and a record's length can say that of its body.
+-- A group of lines has at least one, and the length of its body fits a record's length.
 pub record IsGroup (lines : List (List ℕ)) : Type 0 where
   pub some : 1 ≤ length lines
   pub are_lines : AllByRecursion IsLogLine lines
@@ -36,11 +36,11 @@ pub record IsGroup (lines : List (List ℕ)) : Type 0 where
 abbrev pub record_head : ℕ → List ℕ → List ℕ
 record_head digest body = to_be_bytes w64 (length body * 257) ++ to_be_bytes w64 (chained digest body)
 
--- what stands behind a record's gate, where this is the digest of what stood before it
+-- what follows a record's gate, if this is the digest of what precedes it
 abbrev pub content_of : ℕ → List (List ℕ) → List ℕ
 content_of digest lines = record_head digest (record_body lines) ++ record_body lines
 
--- A group as it is stored: behind a gate that is open, which any byte but 0 is.
+-- A group as it is stored: after a gate that is open, which any byte but 0 is.
 pub record RecordStored : Type 0 where
   pub gate : ℕ
   pub lines : List (List ℕ)
@@ -49,26 +49,26 @@ pub record IsRecordStored (stored : RecordStored) : Type 0 where
   pub gate_open : 1 ≤ stored.gate
   pub is_group : IsGroup stored.lines
 
--- the digest behind a group, where this is the one before it
+-- the digest after a group, if this is the one before it
 abbrev pub digest_behind : ℕ → List (List ℕ) → ℕ
 digest_behind digest lines = chained digest (record_body lines)
 
--- the records of groups, where this is the digest before them
+-- the records of groups, if this is the digest before them
 unfoldable pub records : ℕ → List RecordStored → List ℕ
 records digest [] = []
 records digest (stored ∷ later) =
     stored.gate ∷ content_of digest stored.lines ++ records (digest_behind digest stored.lines) later
 
--- the digest behind groups
+-- the digest after groups
 unfoldable pub digest_after : ℕ → List RecordStored → ℕ
 digest_after digest [] = digest
 digest_after digest (stored ∷ later) = digest_after (digest_behind digest stored.lines) later
 
--- a log up to the gate that stands behind these groups
+-- a log up to the gate after these groups
 abbrev pub log_front : List RecordStored → List ℕ
 log_front groups = log_header ++ records seed groups
 
--- A file opens to these groups: it is the header, their records, a closed gate, and anything behind that.
+-- A file opens to these groups: it is the header, their records, a closed gate, and anything after that.
 pub record LogOpensTo (groups : List RecordStored) (file : List ℕ) : Type 0 where
   pub are_stored : AllByRecursion IsRecordStored groups
   pub behind : List ℕ
@@ -79,7 +79,7 @@ pub record IsClosedWhole (groups : List RecordStored) (file : List ℕ) : Type 0
   pub are_stored : AllByRecursion IsRecordStored groups
   pub is : file ≡ log_front groups ++ 0 ∷ []
 
--- A record of these lines stands behind an open gate.
+-- A record of these lines follows an open gate.
 pub record IsLogRecord (digest : ℕ) (lines : List (List ℕ)) (rest : List ℕ) : Type 0 where
   pub is_group : IsGroup lines
   pub gate : ℕ
@@ -92,7 +92,7 @@ pub record IsLogEnd (rest : List ℕ) : Type 0 where
   pub behind : List ℕ
   pub is : rest ≡ 0 ∷ behind
 
--- A file is bad at a gate's place: the list doesn't end there, and no record stands there.
+-- A file is bad at a gate's place: the list doesn't end there, and there is no record.
 pub record IsBadLog (digest : ℕ) (rest : List ℕ) : Type 0 where
   pub no_end : IsLogEnd rest → ⊥
   pub no_record : (lines : List (List ℕ)) → IsLogRecord digest lines rest → ⊥

@@ -8,12 +8,12 @@ abbrev pub LogOpensOnce : Type 0
 LogOpensOnce = (groups others : List RecordStored) (file : List ℕ) → LogOpensTo groups file → LogOpensTo others file
     → groups ≡ others
 
--- At a gate's place one record stands at most, where it stands the list doesn't end.
+-- At a gate's place there is one record at most, and if there is one the list doesn't end.
 pub record RecordStandsOnce (digest : ℕ) (rest : List ℕ) : Type 0 where
   pub one : (lines others : List (List ℕ)) → IsLogRecord digest lines rest → IsLogRecord digest others rest → lines ≡ others
   pub no_end : (lines : List (List ℕ)) → IsLogRecord digest lines rest → IsLogEnd rest → ⊥
 
--- A file begins with a first part of these groups, whole, and is bad at the gate behind them.
+-- A file begins with a first part of these groups, whole, and is bad at the gate after them.
 pub record EndsBadly (groups : List RecordStored) (file : List ℕ) : Type 0 where
   pub whole : List RecordStored
   pub later : List RecordStored
@@ -22,20 +22,20 @@ pub record EndsBadly (groups : List RecordStored) (file : List ℕ) : Type 0 whe
   pub is : file ≡ log_front whole ++ rest
   pub bad : IsBadLog (digest_after seed whole) rest
 
--- Of a log that is closed whole each cut behind the header leaves a first part of its groups, and is
--- seen at the gate behind them.
+-- Of a log that is closed whole each cut after the header leaves a first part of its groups, and is seen
+-- at the gate after them.
 abbrev pub CutIsSeen : Type 0
 CutIsSeen = (groups : List RecordStored) (file : List ℕ) (n : ℕ) → IsClosedWhole groups file → 8 ≤ n → n < length file
     → EndsBadly groups (take n file)
 
--- Where a byte of a record is changed, behind its gate, the file is bad at that gate, whatever stands
--- behind the record.
+-- If a byte of a record is changed, after its gate, the file is bad at that gate, whatever follows the
+-- record.
 abbrev pub ChangeIsSeen : Type 0
 ChangeIsSeen = (digest gate : ℕ) (lines : List (List ℕ)) (before : List ℕ) (byte other : ℕ) (after behind : List ℕ)
     → digest < 18446744073709551616 → 1 ≤ gate → IsGroup lines → content_of digest lines ≡ before ++ byte ∷ after
     → other < 256 → (byte ≡ other → ⊥) → IsBadLog digest (gate ∷ (before ++ other ∷ after) ++ behind)
 
--- Where its gate is changed, and stays open, the same record stands there.
+-- If its gate is changed, and stays open, the same record is there.
 abbrev pub OpenGateIsFree : Type 0
 OpenGateIsFree = (digest gate other : ℕ) (lines : List (List ℕ)) (rest : List ℕ) → 1 ≤ other
     → IsLogRecord digest lines (gate ∷ rest) → IsLogRecord digest lines (other ∷ rest)

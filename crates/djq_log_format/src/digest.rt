@@ -21,7 +21,7 @@ fn carry(digest: u64, word: u64) -> u64
     exchange_halves(digest.wrapping_mul(STEP).wrapping_add(word))
 }
 
-/// A digest on its way over bytes that come in pieces.
+/// A digest in progress, over bytes that arrive in pieces.
 #[derive(Debug, Drop)]
 pub struct Digest {
     digest: u64,
@@ -37,7 +37,7 @@ impl Model for Digest {
 
     ghost view = { λ d. record { digest = d.digest; pending = take d.filled d.pending } };
 
-    // Behind the bytes that are pending zeros stand.
+    // After the bytes that are pending there are zeros.
     ghost invariant = { λ d. (d.filled < 8) × (d.pending ≡ take d.filled d.pending ++ replicate (8 - d.filled) 0) };
 }
 
@@ -53,7 +53,7 @@ impl Digest {
         }
     }
 
-    /// Takes one byte more.
+    /// Absorbs one byte more.
     fn push(&mut self, byte: u8)
         ensures { self.new ≡ absorbed self.old byte }
     {
@@ -66,7 +66,7 @@ impl Digest {
         }
     }
 
-    /// Takes a piece more, of any length.
+    /// Absorbs a piece more, of any length.
     pub fn update(&mut self, piece: &[u8])
         ensures { self.new ≡ fold absorbed self.old piece.now }
     {

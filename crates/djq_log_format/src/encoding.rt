@@ -22,7 +22,7 @@ impl Model for Measure {
 }
 
 impl Measure {
-    /// Of no lines yet, where this is the digest of what stands before the record.
+    /// Of no lines yet, after a prefix of the log with this digest.
     pub fn new(digest: u64) -> Self
         ensures { result ≡ measured digest [] }
     {

@@ -11,11 +11,11 @@
 //! bytes  DJQLOG2  255  0 0 0 0 0 0 11 11 13 157 200 107 208 142 127 110  0 9  rel r int  255 ..
 //! ```
 //!
-//! The digest reads the body by words of eight bytes: it is multiplied by an odd number, the word is added,
-//! modulo 2^64, and its halves are exchanged. Each is one to one, so a change within one byte gives another digest,
-//! whatever precedes it and follows it. The halves are exchanged since a product carries a change to higher bits alone. It isn't begun anew at a record: so a record is one only after those that stood
-//! before it when it was written. A length is stored as 257 times itself, and no change within one byte
-//! leaves it a multiple of 257: so a reader refuses a wrong length before it goes by it.
+//! The digest reads the body by words of eight bytes: it is multiplied by an odd number, the word is added, modulo 2^64, and
+//! its halves are exchanged. Each is one to one, so a change within one byte gives another digest, whatever precedes it and
+//! follows it. The halves are exchanged since a product carries a change to higher bits alone. It doesn't restart at a record:
+//! so a record is one only after those that preceded it when it was written. A length is stored as 257 times itself, and no
+//! change within one byte leaves it a multiple of 257: so a reader refuses a wrong length before it uses it.
 //!
 //! [`Measure`] measures the lines of a group and encodes the head of its record, [`encode_line`] encodes a line,
 //! and [`Digest`] is the digest over pieces. [`decode_length`] and [`decode_digest`] read what a head stores. None of them allocates.
@@ -23,8 +23,7 @@
 //! `djq_log_file` reads and appends the records over a disk. A log of the first format, which `djq_journal` reads and
 //! appends, has no digests.
 //!
-//! What it isn't for: it doesn't say what a line means. A digest is no protection against somebody who writes the
-//! log on purpose.
+//! What it isn't for: it doesn't interpret lines. A digest is no protection against somebody who writes the log on purpose.
 //!
 //! What surprises: an open gate that is changed to 0 ends the list, and all after it is lost in silence.
 //! No flip of one bit does that to 255.
@@ -60,7 +59,7 @@ pub fn a_file_opens_once()
     ensures { LogOpensOnce }
 {}
 
-/// At a gate's place stands one record at most, and where one stands the list doesn't end.
+/// At a gate's place there is one record at most, and if there is one the list doesn't end.
 pub fn a_record_stands_once()
     ensures { (digest : ℕ) (rest : List ℕ) → RecordStandsOnce digest rest }
 {}

@@ -8,7 +8,7 @@
 //! session 1, which holds add r 7 and then qu; the relation r without rows; 0 changes
 //!
 //! stepped 1     queued to 1: ok added 1 1    session 1 holds qu, r has the row (7), 1 change
-//!               cost: 0                      kept: the line
+//!               cost: 0                      logged: the line
 //! ```
 //!
 //! This crate has no way to compute anything, and knows nothing of how rows are stored.

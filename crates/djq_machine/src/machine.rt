@@ -80,7 +80,7 @@ pub trait Machine {
 
     /// Runs the next line of a session, and appends what it logs to the commit.
     ///
-    /// There is room for that in an empty commit, and where `has_room` said so last.
+    /// There is room for that in an empty commit, and if `has_room` was true last.
     fn step<L: Ledgers>(&mut self, id: u64, steps: &mut Steps<L>)
         requires ready { may_run (state self.old) id ≡ true }
         requires room { (commit self.old ≡ []) ⊎ (room self.old ≡ true) }

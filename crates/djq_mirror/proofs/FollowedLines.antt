@@ -405,10 +405,6 @@ ended_as f new bytes TooMany now held first h end (some, full) =
     let many = unfinished_bytes f new bytes first h full in omega (arith, many)
 ended_as f new bytes NoMem now held first h end (some, none) = absurd none
 
--- a source that is at its end has given all
-pub given_all : (old new : Option SourceReading) → HasGivenAll old → new ≡ old → HasGivenAll new
-given_all old new h same = subst HasGivenAll (sym same) h
-
 -- ---- What is to be written of what was read, by how reading ended.
 
 module _ (name : Bytes) (before now : Option SourceReading) (faults faults' : ℕ) where

@@ -9,9 +9,9 @@
 //! = 1          put in
 //! = 2          put in
 //! end                                        Live
-//! + q 3        put in
+//! + q 3        inserted
 //! at q 3
-//! - q 1        taken out
+//! - q 1        removed
 //! stale c r 5                                Idle: the answers aren't known any more
 //! ```
 //!
@@ -33,7 +33,7 @@
 //! bytes that were read, however they are cut into pieces.
 //!
 //! ```text
-//! read    ok watch 0, ok open, = 2, = 1, e     the front of a line is kept
+//! read    ok watch 0, ok open, = 2, = 1, e     the front of a line waits
 //! read    nd, + q 3                            the last line lacks its LF
 //! end
 //! write   mirror 6                             Mirrored::Outside(6)

@@ -59,7 +59,7 @@ pub fn watchers_are_told_exactly()
 
 /// A session begins to watch a query or a union and then reads it through one cursor at a time. A mirror of
 /// it, of what that session was sent, refuses nothing. If it is live, it holds the answers over
-/// the present rows, or over those that were present as the session said `quit` or `stop`, its input ended,
+/// the present rows, or over those that were present as the session sent `quit` or `stop`, its input ended,
 /// or it was closed. What it is sent then is covered too: that a line was cut, that lines which its batch held
 /// are dropped, and `bye`. This is stated of replies by their forms. From a start whose names and values a line
 /// can express it is also stated of the whole of the bytes that the session was sent. And it is stated after

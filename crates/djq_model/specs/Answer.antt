@@ -24,27 +24,27 @@ use Rattle.djq_model.specs.Data.{Bytes, Tuple, value_eq, rows_of}
 abbrev pub Assignment : Type 0
 Assignment = Bytes → Value
 
--- What a term stands for. Each hole is a variable of its own, so it may stand for any value.
+-- The value of a term. Each hole is a variable of its own, so it may have any value.
 abbrev pub StandsFor : Assignment → Term → Value → Type 0
 StandsFor a (Variable x) v = a x ≡ v
 StandsFor a Hole v = Unit {0}
 StandsFor a (Constant c) v = c ≡ v
 
--- Terms stand for a tuple, one by one.
+-- Terms have the values of a tuple, one by one.
 abbrev pub StandForAll : Assignment → List Term → Tuple → Type 0
 StandForAll a [] [] = Unit {0}
 StandForAll a (t ∷ ts) (v ∷ vs) = StandsFor a t v × StandForAll a ts vs
 StandForAll a [] (v ∷ vs) = ⊥
 StandForAll a (t ∷ ts) [] = ⊥
 
--- An assignment satisfies an atom where the atom's terms stand for a row of its relation.
+-- An assignment satisfies an atom if the values of the atom's terms are a row of its relation.
 pub record Satisfies (relations : List Relation) (a : Assignment) (atom : Atom) : Type 0 where
   pub row : Tuple
   pub is_there : Contains (rows_of relations atom.relation) row
   pub stands : StandForAll a atom.terms row
 
--- Whether a value stands to a constant as the operator says. Integers are compared as numbers; of
--- texts it is only asked whether they are equal.
+-- Whether an operator holds of a value and a constant. Integers are compared as numbers; texts only
+-- for equality.
 abbrev pub compares : Operator → Value → Value → Bool
 compares Equal v c = value_eq v c
 compares NotEqual v c = not (value_eq v c)

@@ -64,12 +64,12 @@ plain_of rows = map (λ (c : CountedRow). c.row) rows
 abbrev pub tuples_in : Relation → List Tuple
 tuples_in r = plain_of r.rows
 
--- the rows of the relation that was found, with their copies; none where none was
+-- the rows of the relation that was found, with their copies; none if none was
 abbrev pub counted_in : Option Relation → List CountedRow
 counted_in None = []
 counted_in (Some r) = r.rows
 
--- its rows with their copies; none where there is no such relation
+-- its rows with their copies; none if there is no such relation
 abbrev pub counted_of : List Relation → Bytes → List CountedRow
 counted_of relations name = counted_in (relation_of relations name)
 
@@ -77,12 +77,12 @@ counted_of relations name = counted_in (relation_of relations name)
 abbrev pub rows_of : List Relation → Bytes → List Tuple
 rows_of relations name = plain_of (counted_of relations name)
 
--- how many copies of a row are among these; none where it isn't there
+-- how many copies of a row are among these; 0 if it isn't there
 abbrev pub copies_among : List CountedRow → Tuple → ℕ
 copies_among [] row = 0
 copies_among (c ∷ cs) row = if tuple_eq c.row row then c.copies else copies_among cs row
 
--- the rows behind which a row comes, with one copy
+-- the rows and a new row after them, with one copy
 abbrev pub with_row : List CountedRow → Tuple → List CountedRow
 with_row rows row = rows ++ record { row = row; copies = 1 } ∷ []
 

@@ -24,7 +24,7 @@ abbrev pub knows_all : List Bytes → List Bytes → Bool
 knows_all known [] = true
 knows_all known (t ∷ ts) = knows known t && knows_all known ts
 
--- the known texts once this one is known: it comes behind them, unless it was known
+-- the known texts once this one is known: it is appended to them, unless it was known
 abbrev pub learned : List Bytes → Bytes → List Bytes
 learned known text = if knows known text then known else known ++ text ∷ []
 

@@ -7,7 +7,7 @@ abbrev pub before : ℕ → Bytes → Bytes
 before sign [] = []
 before sign (b ∷ bytes) = if b == sign then [] else b ∷ before sign bytes
 
--- the bytes behind it, where there is one
+-- the bytes after it, if there is one
 abbrev pub behind : ℕ → Bytes → Option Bytes
 behind sign [] = None
 behind sign (b ∷ bytes) = if b == sign then Some bytes else behind sign bytes

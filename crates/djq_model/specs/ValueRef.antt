@@ -1,4 +1,4 @@
--- A value that is lent: its text stands elsewhere.
+-- A value that is lent: its text is elsewhere.
 use Rattle.djq_model.specs.declared.value.Value.{Value}
 use Rattle.djq_model.specs.declared.value.Value.TheVariants.{Int, Text}
 use Rattle.djq_model.specs.declared.value_ref.ValueRef.{ValueRef}

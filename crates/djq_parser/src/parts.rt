@@ -136,7 +136,7 @@ pub(crate) fn read_number_if_any(lexer: &mut Lexer<'_>) -> Result<Option<u32>, L
     }
 }
 
-/// The number that a word is: digits alone. The last number stands for each larger one.
+/// The number that a word is: digits alone. A larger one is read as the last number.
 fn number_in(word: &[u8]) -> Option<u32>
     ensures { result ≡ option_map number_or_last (natural_of word.now) }
 {

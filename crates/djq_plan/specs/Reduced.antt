@@ -1,4 +1,4 @@
--- What a reduction of acyclic edges comes to.
+-- The result of a reduction of acyclic edges.
 use Rattle.std.specs.Prelude.{ℕ, List}
 use Rattle.djq_hypergraph.specs.declared.step.Step.{Step}
 use Rattle.djq_hypergraph.specs.Gyo.{Leads, HasNoVariables}

@@ -1,10 +1,10 @@
--- How a stage of the planner goes.
+-- A stage of the planner.
 use Rattle.std.specs.Prelude.{◌≡◌, ◌≢◌, ℕ, ◌<◌, Bool, true, false, List, [], length}
 use Rattle.djq_tree.specs.declared.choice.Choice.TheVariants.{Stuck}
 use Rattle.djq_tree.specs.Choosing.{choose}
 use Rattle.djq_tree.specs.Growing.{Growth, grown, grow, is_root, marks_below, IsStage}
 
--- a step was taken by the choice rule, or there is none and nothing changed
+-- a step was made by the choice rule, or there is none and nothing changed
 abbrev pub Steps : List ℕ → Growth → Growth → Bool → Type 0
 Steps keep s t true = (t ≡ grown s (choose keep s.current)) × (choose keep s.current ≢ Stuck)
 Steps keep s t false = (t ≡ s) × (choose keep s.current ≡ Stuck)
@@ -18,7 +18,7 @@ pub record IsStuckAt (is_over : List (List ℕ) → Bool) (keep : List ℕ) (s t
   pub goes_on : is_over t.current ≡ false
   pub stuck : choose keep t.current ≡ Stuck
 
--- a stage comes to its end, or is stuck
+-- a stage ends, or is stuck
 abbrev pub IsStageEnd : (List (List ℕ) → Bool) → List ℕ → Growth → Growth → Bool → Type 0
 IsStageEnd is_over keep s t true = IsStage is_over keep s t
 IsStageEnd is_over keep s t false = IsStuckAt is_over keep s t

@@ -12,7 +12,7 @@
 //! ```
 //!
 //! What surprises: help and version words are no command, and are answered by the usage line. Under `serve`
-//! replies come a commit at a time: to all sessions, once what its lines log is in the log. What the
+//! replies are sent a commit at a time: to all sessions, once what its lines log is in the log. What the
 //! theorem states of bytes holds if the source, sink or hub records them, as the real sink and hub do; of
 //! the real source and disk it states which calls were made and what their answers did.
 //!

@@ -41,9 +41,9 @@ const USAGE: &[u8] =
 /// listings than the part that was done may cost.
 ///
 /// Sessions are served in rounds, of at most [`ROUND_TURNS`] turns under `serve` and of one under `replay`.
-/// `ServeEnds` of djq_serve, which is part of the contract, says what rounds promise. Between two lines of a
-/// session each other one that has a line runs one (`fair`). No line waits for the next round (`prompt`). And
-/// what lines log is cut into commits, each of which is logged as one group (`committed`).
+/// `ServeEnds` of djq_serve, which is part of the contract, defines what rounds promise. Between two lines of
+/// a session each other one that has a line runs one (`fair`). No line waits for the next round (`prompt`).
+/// And what lines log is cut into commits, each of which is logged as one group (`committed`).
 ///
 /// The hub has opened no session before, and words other than those of `serve` leave it as it is.
 /// Words without a log leave the disk as it is.

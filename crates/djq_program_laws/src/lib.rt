@@ -18,7 +18,7 @@
 //! lemmas in `proofs/` of how logs open and how runs continue.
 //!
 //! Inside, `laws` has the laws, `served` those that hold of every serving, under whichever command, and `limits`
-//! how many turns a round of `serve` takes.
+//! how many turns a round of `serve` has.
 #![tactic(auto)]
 
 mod laws;

@@ -18,13 +18,13 @@ use djq_reduct::{Cells, Reducts};
 use std::alloc::AllocError;
 use std::sync::ledger::Ledger;
 
-/// Puts tuples into a leaf's table at once, and what they bring into the tables above. They and what they
-/// bring are marked until the update is ended by [`finish_insertion`](crate::finish_insertion) or taken back
-/// by [`undo_insertion`](crate::undo_insertion). Without tuples it marks nothing, and is to be ended, too. It
-/// fails only for want of memory, and then all tables hold what they held, without marks.
+/// Inserts tuples into a leaf's table at once, and what follows from them into the tables above. All of these are marked
+/// until the update is ended by [`finish_insertion`](crate::finish_insertion) or undone by
+/// [`undo_insertion`](crate::undo_insertion). Without tuples it marks nothing, and is to be ended, too. It fails only
+/// out of memory, and then all tables hold what they held, without marks.
 ///
-/// Its bound is that of [`insert_leaf`](crate::insert_leaf), with all tuples that are to come counted in. Over a tree of
-/// equal meets it is what it would be if no leaf had more tuples than come.
+/// Its bound is that of [`insert_leaf`](crate::insert_leaf), with all new tuples counted in. Over a tree of equal meets
+/// it is what it would be if no leaf had more tuples than are new.
 pub fn insert_leaf_many<L: Ledger>(
     reducts: &mut Reducts,
     leaf: usize,
@@ -93,8 +93,8 @@ pub fn add_leaf_many<L: Ledger>(
     Ok(())
 }
 
-/// Takes tuples out of a leaf's table at once, and what goes with them out of the tables above, without
-/// marks: the update ends at once. It takes no memory.
+/// Deletes tuples from a leaf's table at once, and what depends on them from the tables above, without marks: the update
+/// ends at once. It needs no memory.
 pub fn drop_leaf_many<L: Ledger>(
     reducts: &mut Reducts,
     leaf: usize,

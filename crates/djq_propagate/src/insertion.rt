@@ -1,4 +1,4 @@
-//! A tuple comes to a node, and what it brings comes to the nodes above it.
+//! A tuple is inserted into a node, and what follows from it into the nodes above.
 
 ghost use Rattle.std.specs.Prelude.{◌≡◌, ℕ, ◌+◌, ◌-◌, ◌*◌, ◌<◌, ◌≤◌, false, length, IfOk, OnErr};
 ghost use Rattle.djq_index.specs.Entries.{count_of};
@@ -21,8 +21,8 @@ use djq_tree::{Node, Tree};
 use std::alloc::AllocError;
 use std::sync::ledger::Ledger;
 
-/// Puts a tuple into the table of a node, and what it brings into the tables above; they come marked or
-/// not. Where there is no memory, all tables hold the same tuples as before.
+/// Inserts a tuple into the table of a node, and what follows from it into the tables above; all are marked or
+/// none. Out of memory, all tables hold the same tuples as before.
 #[cycle(insert_tuple)]
 pub(crate) fn insert_tuple<L: Ledger>(
     tree: &Tree,
@@ -173,7 +173,7 @@ fn insert_above_part<L: Ledger>(
     }
 }
 
-/// To a meet a tuple of its guard brings itself, where the side has its projection.
+/// A tuple of a meet's guard is inserted into the meet, if the side has its projection.
 #[cycle(insert_tuple)]
 fn insert_above_guard<L: Ledger>(
     tree: &Tree,

@@ -1,13 +1,14 @@
-//! Updates of reducts: a tuple comes to a leaf or goes from it, and each table is its node's reduct
-//! again (Idris, Ugarte, Vansummeren, *The dynamic Yannakakis algorithm*, SIGMOD 2017).
+//! Updates of reducts: a tuple is inserted into a leaf or deleted from it, and each table is its
+//! node's reduct again (Idris, Ugarte, Vansummeren, *The dynamic Yannakakis algorithm*, SIGMOD
+//! 2017).
 //!
-//! An update has two calls. [`insert_leaf`] puts a tuple into a leaf's table and what it brings
-//! into the tables above, and [`finish_insertion`] ends it, or [`undo_insertion`] takes it back.
-//! [`mark_removal`] marks a tuple and what goes with it, and [`finish_removal`] takes them out. In
-//! between, the marks on the leaf's path say what the update changes: up to the lowest node in
-//! `out` the marked tuples are those that would not be there without the leaf's marked one, above
-//! it those that agree with a marked tuple of the path's next lower node. From these a query's new
-//! or lost answers are listed.
+//! An update has two calls. [`insert_leaf`] inserts a tuple into a leaf's table and what follows
+//! from it into the tables above, and [`finish_insertion`] ends it, or [`undo_insertion`] undoes it.
+//! [`mark_removal`] marks a tuple and what depends on it, and [`finish_removal`] removes them. In
+//! between, the marks on the leaf's path show what the update changes: up to the lowest node in
+//! `out` the marked tuples are those that would not be there without the leaf's marked one, above it
+//! those that agree with a marked tuple of the path's next lower node. From these a query's new or
+//! lost answers are listed.
 //!
 //! ```text
 //! q(x,y) <- r(x,y), s(y)     before                insert_leaf(1, (7))
@@ -18,27 +19,28 @@
 //! 0   leaf r(x,y)            1,5    2,7    3,5     as before: 2,7 is an answer now
 //! ```
 //!
-//! Where nobody wants to know what an update changes, [`add_leaf`] and [`drop_leaf`] do it at once,
-//! by the same steps, and mark nothing.
+//! If nobody wants to know what an update changes, [`add_leaf`] and [`drop_leaf`] do it at once, by
+//! the same steps, and mark nothing.
 //!
-//! Many tuples of one leaf may come in one update: [`insert_leaf_many`] puts them in, and it ends as
-//! that of one tuple does; [`add_leaf_many`] and [`drop_leaf_many`] mark nothing. Many go where
-//! [`mark_tuple`] marks them one by one, [`mark_above`] then marks what goes with them all, and
-//! [`finish_removal`] takes them out.
+//! Many tuples of one leaf may be inserted in one update: by [`insert_leaf_many`], and it ends as
+//! that of one tuple does; [`add_leaf_many`] and [`drop_leaf_many`] mark nothing. To delete many,
+//! [`mark_tuple`] marks them one by one, [`mark_above`] then marks what depends on them all, and
+//! [`finish_removal`] removes them.
 //!
-//! It lists no answer, and it knows no relation: a self-join's row goes into its leaves one after
-//! another.
+//! It lists no answer, and it knows no relation: a self-join's row is inserted into its leaves one
+//! after another.
 //!
-//! What surprises: only the calls that put tuples in ask for memory. Where they get none, all tables
+//! What surprises: only the calls that insert tuples ask for memory. If they get none, all tables
 //! hold what they held, though the order in groups may differ. A removal does nothing to the tables
 //! until it is finished. What an update counts is bounded by the tuples of the leaves
-//! ([`counts_add_up`]), whether one tuple comes or many.
+//! ([`counts_add_up`]), for one tuple or many.
 //!
-//! Inside, one tuple goes up the path at a time, depth first. What comes to a trim raises a support
-//! or comes there too; what comes to a guard comes to its meet where the side has its projection;
-//! what comes to a side brings the guard's group. What goes takes the same way, with no memory, so
-//! that it also serves to give back. A table's equation with its children is a sum over its tuples,
-//! and no call shows more than that each sum gains or loses one.
+//! Inside, one tuple is propagated up the path at a time, depth first. A tuple that is new below a
+//! trim raises a support or is new there, too; one that is new in a guard is new in its meet if the
+//! side has its projection; one that is new in a side adds the guard's group. A deletion is
+//! propagated the same way, without memory, so that it also serves to undo. A table's equation with
+//! its children is a sum over its tuples, and no call shows more than that each sum gains or loses
+//! one.
 #![tactic(auto)]
 
 mod batch;

@@ -1,4 +1,4 @@
-//! Many tuples come to a leaf, one after another, or go from it.
+//! Many tuples are inserted into a leaf, one after another, or deleted from it.
 
 ghost use Rattle.std.specs.Prelude.{◌≡◌, ℕ, ◌+◌, ◌*◌, ◌<◌, ◌≤◌, length, take, IfOk, OnErr};
 ghost use Rattle.djq_tree.specs.Flat.{HasEqualMeets};
@@ -21,8 +21,8 @@ use djq_tree::Tree;
 use std::alloc::AllocError;
 use std::sync::ledger::Ledger;
 
-/// Puts tuples into a leaf, and what they bring into the tables above; they come marked or not. Where one
-/// is refused for want of memory, those before it are taken out again.
+/// Inserts tuples into a leaf, and what follows from them into the tables above; all are marked or none.
+/// If one is refused for want of memory, those before it are removed again.
 pub(crate) fn insert_all<L: Ledger>(
     tree: &Tree,
     tables: &mut Vec<Table>,
@@ -60,7 +60,7 @@ pub(crate) fn insert_all<L: Ledger>(
     Ok(())
 }
 
-/// Takes the first `count` of some tuples out of a leaf, and what goes with them out of the tables above.
+/// Removes the first `count` of some tuples from a leaf, and what depends on them from the tables above.
 pub(crate) fn remove_all<L: Ledger>(
     tree: &Tree,
     tables: &mut Vec<Table>,

@@ -21,8 +21,8 @@ use djq_reduct::Cells;
 use djq_tree::Tree;
 use std::sync::ledger::Ledger;
 
-/// Where a node is above the one that a path has come to: marks what follows there from the marks below,
-/// and goes on. Before the second stage that is for a removal alone, and then what goes with them.
+/// If a node is above the last one of a path: marks what follows there from the marks below, and
+/// continues. Before the second stage that is for a removal alone, and then what depends on them.
 fn touch_above<L: Ledger>(
     tree: &Tree,
     tables: &mut Vec<Table>,
@@ -89,7 +89,7 @@ pub(crate) fn touch_path<L: Ledger>(
     }
 }
 
-/// Where a node is above the one that a path has come to: clears its marks, and goes on.
+/// If a node is above the last one of a path: clears its marks, and continues.
 fn clear_above<L: Ledger>(
     tree: &Tree,
     tables: &mut Vec<Table>,
@@ -139,7 +139,7 @@ pub(crate) fn clear_path<L: Ledger>(
     }
 }
 
-/// Takes the marked tuples of a leaf out, and what stands by them out of the tables above.
+/// Removes the marked tuples of a leaf, and what depends on them from the tables above.
 pub(crate) fn take_marked<L: Ledger>(
     tree: &Tree,
     tables: &mut Vec<Table>,

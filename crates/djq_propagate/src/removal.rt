@@ -1,4 +1,4 @@
-//! A tuple goes from a node, and what it took along goes from the nodes above it. This takes no memory.
+//! A tuple is removed from a node, and what depends on it from the nodes above. This needs no memory.
 
 ghost use Rattle.std.specs.Prelude.{◌≡◌, ◌+◌, ◌*◌, ◌<◌, ◌≤◌, length, take};
 ghost use Rattle.djq_index.specs.Entries.{count_of, group_of};
@@ -17,8 +17,7 @@ use djq_reduct::Cells;
 use djq_tree::{Node, Tree};
 use std::sync::ledger::Ledger;
 
-/// Takes a tuple out of the table of a node, at its place, and out of the tables above what stands by it
-/// alone.
+/// Removes a tuple from the table of a node, at its place, and what depends on it alone from the tables above.
 #[cycle(remove_tuple)]
 pub(crate) fn remove_tuple<L: Ledger>(
     tree: &Tree,
@@ -67,8 +66,8 @@ fn remove_above<L: Ledger>(
     }
 }
 
-/// From a trim a tuple takes a support of its projection, and the last one with it. Most projections have one cell
-/// or none, and need no room.
+/// In a trim the projection of a removed tuple loses a support, and is removed with the last one. Most projections
+/// have one cell or none, and need no room.
 #[cycle(remove_tuple)]
 fn remove_above_trim<L: Ledger>(
     tree: &Tree,
@@ -146,7 +145,7 @@ fn remove_above_part<L: Ledger>(
     }
 }
 
-/// From a meet a tuple of its guard takes itself.
+/// A removed tuple of a meet's guard is removed from the meet.
 #[cycle(remove_tuple)]
 fn remove_above_guard<L: Ledger>(
     tree: &Tree,
@@ -167,7 +166,7 @@ fn remove_above_guard<L: Ledger>(
     }
 }
 
-/// From a meet a tuple of its side takes the guard's tuples that project to it.
+/// With a removed tuple of a meet's side the guard's tuples that project to it are removed from the meet.
 #[cycle(remove_tuple)]
 fn remove_above_side<L: Ledger>(
     tree: &Tree,
@@ -186,7 +185,7 @@ fn remove_above_side<L: Ledger>(
     remove_group_from_meet(tree, tables, guard, up, tuple, count, tally);
 }
 
-/// Takes the first `count` tuples of a group of a meet's guard out of the meet.
+/// Removes the first `count` tuples of a group of a meet's guard from the meet.
 #[cycle(remove_tuple)]
 pub(crate) fn remove_group_from_meet<L: Ledger>(
     tree: &Tree,
@@ -224,7 +223,7 @@ pub(crate) fn remove_group_from_meet<L: Ledger>(
     }
 }
 
-/// Takes a tuple out of the table of a node, as `remove_tuple` does.
+/// Removes a tuple from the table of a node, as `remove_tuple` does.
 #[cycle(remove_tuple)]
 pub(crate) fn find_and_remove<L: Ledger>(
     tree: &Tree,

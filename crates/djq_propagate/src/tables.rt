@@ -17,7 +17,7 @@ use djq_reduct::Cells;
 use std::alloc::AllocError;
 use std::sync::ledger::Ledger;
 
-/// Where a tuple lies in the table of a node.
+/// The place of a tuple in the table of a node.
 pub(crate) fn find_at<L: Ledger>(
     tables: &Vec<Table>,
     at: usize,
@@ -58,7 +58,7 @@ pub(crate) fn part_of(tables: &Vec<Table>, at: usize, tuple: &[u64], cells: &mut
     cells.take_part(tuple, table.key());
 }
 
-/// The column of a node's key, where it has one alone.
+/// The column of a node's key, if it has one alone.
 pub(crate) fn column_of(tables: &Vec<Table>, at: usize) -> Option<usize>
     requires { at < length tables.now.items }
     ensures key { IfSome result (λ column. key_at tables.now.items at ≡ column ∷ []) }
@@ -72,8 +72,8 @@ pub(crate) fn column_of(tables: &Vec<Table>, at: usize) -> Option<usize>
     }
 }
 
-/// Where the part of a tuple at the columns of a node's key lies in the table of another node. Most keys have one
-/// column, and need no room for their cells.
+/// The place in the table of another node of the part of a tuple at the columns of a node's key. Most keys have
+/// one column, and need no room for their cells.
 pub(crate) fn find_part<L: Ledger>(
     tables: &Vec<Table>,
     at: usize,
@@ -147,7 +147,7 @@ pub(crate) fn insert_at<L: Ledger>(
     table.insert_as(tuple, marked, tally)
 }
 
-/// Takes the tuple at a place out of the table of a node.
+/// Removes the tuple at a place from the table of a node.
 pub(crate) fn remove_at<L: Ledger>(
     tables: &mut Vec<Table>,
     at: usize,

@@ -18,7 +18,7 @@ use djq_reduct::Cells;
 use djq_tree::{Node, Tree};
 use std::sync::ledger::Ledger;
 
-/// Marks a tuple of the table of a node, where it is there.
+/// Marks a tuple of the table of a node, if it is there.
 pub(crate) fn touch_tuple<L: Ledger>(
     tree: &Tree,
     tables: &mut Vec<Table>,
@@ -43,7 +43,7 @@ pub(crate) fn touch_tuple<L: Ledger>(
     }
 }
 
-/// Whether a trim's tuple is to be marked; where its child's tuples are to go, only if all are marked.
+/// Whether a trim's tuple is to be marked; if its child's tuples are to be removed, only if all are marked.
 fn is_to_be_marked<L: Ledger>(
     tree: &Tree,
     tables: &Vec<Table>,

@@ -27,9 +27,9 @@ use djq_tree::Tree;
 use std::alloc::AllocError;
 use std::sync::ledger::Ledger;
 
-/// Puts a tuple into a leaf's table, and what it brings into the tables above. It and what it brings are
-/// marked until the update is ended by [`finish_insertion`] or taken back by [`undo_insertion`]. It fails
-/// only for want of memory, and then all tables hold what they held, without marks.
+/// Inserts a tuple into a leaf's table, and what follows from it into the tables above. All of these are
+/// marked until the update is ended by [`finish_insertion`] or undone by [`undo_insertion`]. It fails only out
+/// of memory, and then all tables hold what they held, without marks.
 pub fn insert_leaf<L: Ledger>(
     reducts: &mut Reducts,
     leaf: usize,
@@ -95,8 +95,8 @@ pub fn add_leaf<L: Ledger>(
     Ok(())
 }
 
-/// Takes a tuple out of a leaf's table, and what goes with it out of the tables above, without marks: the
-/// update ends at once. It takes no memory.
+/// Deletes a tuple from a leaf's table, and what depends on it from the tables above, without marks: the
+/// update ends at once. It needs no memory.
 pub fn drop_leaf<L: Ledger>(reducts: &mut Reducts, leaf: usize, tuple: &[u64], tally: &mut Tally<L>)
     requires leaf { leaf < reducts.old.tree.leaves }
     requires there { 0 < count_of (entries_at reducts.old.tables leaf) tuple.now }
@@ -108,7 +108,7 @@ pub fn drop_leaf<L: Ledger>(reducts: &mut Reducts, leaf: usize, tuple: &[u64], t
     find_and_remove(&reducts.tree, &mut reducts.tables, leaf, tuple, tally);
 }
 
-/// Marks a tuple of a leaf, and what goes with it, for a removal that [`finish_removal`] ends. It takes no
+/// Marks a tuple of a leaf, and what depends on it, for a removal that [`finish_removal`] ends. It needs no
 /// memory.
 pub fn mark_removal<L: Ledger>(
     reducts: &mut Reducts,
@@ -128,7 +128,7 @@ pub fn mark_removal<L: Ledger>(
     touch_path(&reducts.tree, &mut reducts.tables, leaf, true, tally);
 }
 
-/// Marks one tuple more of a leaf for a removal of many, where no other node has marks. It takes no memory.
+/// Marks one tuple more of a leaf for a removal of many, if no other node has marks. It needs no memory.
 pub fn mark_tuple<L: Ledger>(
     reducts: &mut Reducts,
     leaf: usize,
@@ -144,8 +144,8 @@ pub fn mark_tuple<L: Ledger>(
     touch_tuple(&reducts.tree, &mut reducts.tables, leaf, tuple, tally);
 }
 
-/// Marks what goes with the marked tuples of a leaf, however many, for a removal that [`finish_removal`] ends.
-/// It takes no memory.
+/// Marks what depends on the marked tuples of a leaf, however many, for a removal that [`finish_removal`]
+/// ends. It needs no memory.
 pub fn mark_above<L: Ledger>(reducts: &mut Reducts, leaf: usize, tally: &mut Tally<L>)
     requires leaf { leaf < reducts.old.tree.leaves }
     requires only { HaveMarksOnlyAt reducts.old.tables leaf }
@@ -159,7 +159,7 @@ pub fn mark_above<L: Ledger>(reducts: &mut Reducts, leaf: usize, tally: &mut Tal
     touch_path(&reducts.tree, &mut reducts.tables, leaf, true, tally);
 }
 
-/// Ends an insertion into a leaf: the marks are cleared. It takes no memory.
+/// Ends an insertion into a leaf: the marks are cleared. It needs no memory.
 pub fn finish_insertion<L: Ledger>(reducts: &mut Reducts, leaf: usize, tally: &mut Tally<L>)
     requires leaf { leaf < reducts.old.tree.leaves }
     requires path { AreOnPath reducts.old.tree reducts.old.tables leaf }
@@ -170,7 +170,7 @@ pub fn finish_insertion<L: Ledger>(reducts: &mut Reducts, leaf: usize, tally: &m
     clear_path(&reducts.tree, &mut reducts.tables, leaf, tally);
 }
 
-/// Ends a removal from a leaf: its marked tuples go, and what stood by them. It takes no memory.
+/// Ends a removal from a leaf: its marked tuples are removed, and what depended on them. It needs no memory.
 pub fn finish_removal<L: Ledger>(reducts: &mut Reducts, leaf: usize, tally: &mut Tally<L>)
     requires leaf { leaf < reducts.old.tree.leaves }
     requires path { AreOnPath reducts.old.tree reducts.old.tables leaf }
@@ -183,8 +183,8 @@ pub fn finish_removal<L: Ledger>(reducts: &mut Reducts, leaf: usize, tally: &mut
     clear_path(&reducts.tree, &mut reducts.tables, leaf, tally);
 }
 
-/// Takes an insertion into a leaf back, and ends the update: all tables hold what they held before it. It
-/// takes no memory.
+/// Undoes an insertion into a leaf, and ends the update: all tables hold what they held before it. It needs no
+/// memory.
 pub fn undo_insertion<L: Ledger>(reducts: &mut Reducts, leaf: usize, tally: &mut Tally<L>)
     requires leaf { leaf < reducts.old.tree.leaves }
     requires path { AreOnPath reducts.old.tree reducts.old.tables leaf }
@@ -198,8 +198,8 @@ pub fn undo_insertion<L: Ledger>(reducts: &mut Reducts, leaf: usize, tally: &mut
     finish_removal(reducts, leaf, tally);
 }
 
-/// The law that the calls of an update of one leaf add up. With at most `n` tuples in each leaf, the one
-/// that comes or goes counted in, an insertion with its end, and a removal with its end, count at most 16
+/// The law that the calls of an update of one leaf add up. With at most `n` tuples in each leaf, the one that
+/// is inserted or deleted counted in, an insertion with its end, and a removal with its end, count at most 16
 /// times the leaves and the variables for each of the `n`; an insertion that is undone, or refused, at most
 /// twice that. So does an update without marks, at most that once. It does nothing.
 pub fn counts_add_up(tree: &Tree)

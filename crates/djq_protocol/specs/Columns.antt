@@ -5,7 +5,7 @@ use Rattle.djq_model.specs.declared.relation.Relation.{Relation}
 use Rattle.djq_model.specs.Data.{Bytes, relation_of}
 pub use Rattle.djq_model.specs.Typed.{is_of, same_type}
 
--- the column types of a relation; none where there is no relation
+-- the column types of a relation; none if there is no relation
 abbrev pub types_of : Option Relation → List ColumnType
 types_of None = []
 types_of (Some r) = r.types

@@ -1,4 +1,4 @@
--- The lines of the protocol: what command a line says.
+-- The lines of the protocol: which command a line is.
 --
 --     line  = "rel" name type *type           type = "int" | "text"
 --           | "add" name literal *literal     | "del" name literal *literal
@@ -15,8 +15,8 @@
 --     term  = name | "_" | literal
 --
 -- A literal is an integer or a text; a count is an integer of digits alone, from 1 to 1000, and a
--- number one of any size. Keywords and types may be names too: the place tells them apart. Signs are
--- taken as long as they can be, so `x<-5` isn't a comparison, and `x < -5` is one. The bytes of a line
+-- number one of any size. Keywords and types may be names too: the place distinguishes them. Signs are
+-- read as long as they can be, so `x<-5` isn't a comparison, and `x < -5` is one. The bytes of a line
 -- are UTF-8.
 use Rattle.std.specs.Prelude.{
   ℕ,
@@ -110,7 +110,7 @@ use Rattle.djq_protocol.specs.declared.command.Command.TheVariants.{
   Stop,
 }
 
--- Items: what one token says.
+-- Items: the token of each.
 
 -- a name
 abbrev pub name_of : Token → Option Bytes
@@ -145,20 +145,20 @@ abbrev pub all_of : {A : Type 0} → (Token → Option A) → List Token → Opt
 all_of item [] = Some []
 all_of item (t ∷ ts) = in_front (item t) (all_of item ts)
 
--- one item in front of others, and what is behind them
+-- one item in front of others, and what follows them
 abbrev pub put_first : {A : Type 0} → Option A → Option (List A × List Token)
     → Option (List A × List Token)
 put_first (Some a) (Some r) = Some (a ∷ r.0, r.1)
 put_first (Some a) None = None
 put_first None _ = None
 
--- the items of a list behind its first, to its `)`, and what is behind that
+-- the items of a list after its first, to its `)`, and what follows that
 abbrev pub more_in : {A : Type 0} → (Token → Option A) → List Token → Option (List A × List Token)
 more_in item (close_paren ∷ ts) = Some ([], ts)
 more_in item (comma ∷ t ∷ ts) = put_first (item t) (more_in item ts)
 more_in item _ = None
 
--- a list in parentheses, with commas between its items, and what is behind it
+-- a list in parentheses, with commas between its items, and what follows it
 abbrev pub list_in : {A : Type 0} → (Token → Option A) → List Token → Option (List A × List Token)
 list_in item (open_paren ∷ close_paren ∷ ts) = Some ([], ts)
 list_in item (open_paren ∷ t ∷ ts) = put_first (item t) (more_in item ts)
@@ -166,31 +166,31 @@ list_in item _ = None
 
 -- Queries.
 
--- an atom over a relation, and what is behind it
+-- an atom over a relation, and what follows it
 abbrev pub atom_over : Bytes → List Term × List Token → Atom × List Token
 atom_over relation r = (record { relation = relation; terms = r.0 }, r.1)
 
--- an atom, and what is behind it
+-- an atom, and what follows it
 abbrev pub atom_in : List Token → Option (Atom × List Token)
 atom_in (word r ∷ ts) = if is_name r then option_map (atom_over r) (list_in term_of ts) else None
 atom_in _ = None
 
--- What stands between the commas of a body.
+-- What is between the commas of a body.
 pub data Item : Type 0 where
   atom : Atom → Item
   comparison : Comparison → Item
 
--- a comparison that stands behind so many atoms
+-- a comparison that follows so many atoms
 abbrev pub compared : ℕ → Bytes → Operator → Value → Comparison
 compared n x o v = record { variable = x; operator = o; constant = v; behind = n }
 
--- a comparison of a variable, and what is behind it
+-- a comparison of a variable, and what follows it
 abbrev pub comparison_of : ℕ → Bytes → Operator → List Token → Option (Item × List Token)
 comparison_of n x o (t ∷ ts) =
     if is_name x then option_map (λ v. (comparison (compared n x o v), ts)) (literal_of t) else None
 comparison_of n x o [] = None
 
--- an item that stands behind so many atoms, and what is behind it: a comparison where its second
+-- an item that follows so many atoms, and what follows it: a comparison where its second
 -- token is a comparison's sign, and else an atom
 abbrev pub item_in : ℕ → List Token → Option (Item × List Token)
 item_in n (word x ∷ operator o ∷ ts) = comparison_of n x o ts
@@ -206,12 +206,12 @@ put_item (atom a) (Some b) = Some (a ∷ b.0, b.1)
 put_item (comparison c) (Some b) = Some (b.0, c ∷ b.1)
 put_item _ None = None
 
--- how many atoms stand before what is behind an item
+-- how many atoms precede what follows an item
 abbrev pub past_item : ℕ → Item → ℕ
 past_item n (atom a) = suc n
 past_item n (comparison c) = n
 
--- an item, and the items that stand behind a comma
+-- an item, and the items after a comma
 abbrev pub behind_item : (ℕ → List Token → Option Body) → ℕ → Option (Item × List Token)
     → Option Body
 behind_item more n None = None
@@ -224,7 +224,7 @@ abbrev pub items_within : ℕ → ℕ → List Token → Option Body
 items_within zero n ts = None
 items_within (suc k) n ts = behind_item (items_within k) n (item_in n ts)
 
--- items with commas between, to the line's end, so many atoms standing before them
+-- items with commas between, to the line's end, so many atoms before them
 unfoldable pub items_in : ℕ → List Token → Option Body
 items_in n ts = items_within (length ts) n ts
 
@@ -234,12 +234,12 @@ with_atoms None = None
 with_atoms (Some ([], comparisons)) = None
 with_atoms (Some (a ∷ atoms, comparisons)) = Some (a ∷ atoms, comparisons)
 
--- behind the head of a query
+-- after the head of a query
 abbrev pub body_in : List Token → Option Body
 body_in (arrow ∷ ts) = with_atoms (items_in 0 ts)
 body_in _ = None
 
--- behind the name of a query
+-- after the name of a query
 abbrev pub query_of : Bytes → Option (List Bytes × List Token) → Option Query
 query_of name None = None
 query_of name (Some head) = option_map (λ body. record {
@@ -254,7 +254,7 @@ abbrev pub query_of_tokens : List Token → Option Query
 query_of_tokens (word n ∷ ts) = if is_name n then query_of n (list_in name_of ts) else None
 query_of_tokens _ = None
 
--- What stands behind a keyword.
+-- What follows a keyword.
 
 -- a name and items, if any, to the line's end
 abbrev pub named_any : {A : Type 0} → (Token → Option A) → List Token → Option (Bytes × List A)
@@ -286,7 +286,7 @@ two_names _ = None
 abbrev pub is_count : ℕ → Bool
 is_count k = nat_le 1 k && nat_le k NEXT_COUNT
 
--- a number, where it is a count of answers
+-- a number, if it is a count of answers
 abbrev pub answer_count : Option ℕ → Option ℕ
 answer_count (Some k) = if is_count k then Some k else None
 answer_count None = None
@@ -302,7 +302,7 @@ abbrev pub at_line_end : Command → List Token → Option Command
 at_line_end command [] = Some command
 at_line_end command (t ∷ ts) = None
 
--- a number, where each one past the last stands for the last
+-- a number, or the last number for each one past it
 abbrev pub number_or_last : ℕ → ℕ
 number_or_last n = if nat_le n LAST_COUNT then n else LAST_COUNT
 
@@ -338,7 +338,7 @@ keyword_of w =
     else (if bytes_eq w (codes "stop") then Some StopWord
     else None))))))))))))))))))
 
--- the command that stands behind a keyword
+-- the command that follows a keyword
 abbrev pub command_behind : Keyword → List Token → Option Command
 command_behind RelWord ts = option_map (λ p. Rel p.0 p.1) (named_some type_of ts)
 command_behind AddWord ts = option_map (λ p. Add p.0 p.1) (named_some literal_of ts)
@@ -360,17 +360,17 @@ command_behind AbandonWord ts = at_line_end Abandon ts
 command_behind QuitWord ts = at_line_end Quit ts
 command_behind StopWord ts = at_line_end Stop ts
 
--- the command that a keyword and what stands behind it say; none where there is no keyword
+-- the command of a keyword and what follows it; none if there is no keyword
 abbrev pub command_with : Option Keyword → List Token → Option Command
 command_with None ts = None
 command_with (Some k) ts = command_behind k ts
 
--- a keyword, and what stands behind it
+-- a keyword, and what follows it
 abbrev pub command_in : List Token → Option Command
 command_in (word w ∷ ts) = command_with (keyword_of w) ts
 command_in _ = None
 
--- The command that a line says; none where it is outside the grammar.
+-- The command of a line; none if it is outside the grammar.
 unfoldable pub command_of : Bytes → Option Command
 command_of line = if is_utf8 line then command_in (tokens line) else None
 
@@ -404,7 +404,7 @@ takes_memory_to_read (Register q) = true
 takes_memory_to_read (Union n qs) = true
 takes_memory_to_read _ = false
 
--- What a line says.
+-- How a line is read.
 pub data Reading : Type 0 where
   -- nothing, as it is outside the grammar
   outside : Reading
@@ -413,11 +413,11 @@ pub data Reading : Type 0 where
   -- a command whose literals are within their limits
   says_command : Command → Reading
 
--- what a line says, by the command that it says, if it says one
+-- how a line is read, by its command, if it has one
 abbrev pub reading_in : Option Command → Reading
 reading_in None = outside
 reading_in (Some c) = if is_in_range c then says_command c else past_limit c
 
--- what a line says
+-- how a line is read
 abbrev pub reading_of : Bytes → Reading
 reading_of line = reading_in (command_of line)

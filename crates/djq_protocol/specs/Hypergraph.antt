@@ -10,11 +10,11 @@ use Rattle.djq_model.specs.declared.query.Term.TheVariants.{Variable, Hole, Cons
 use Rattle.djq_model.specs.Data.{Bytes}
 use Rattle.djq_protocol.specs.Variables.{Label, is_named, with_term, with_atom, variables_of}
 
--- the number of a name where these variables are known; the next number where it isn't among them
+-- the number of a name if these variables are known; the next number if it isn't among them
 abbrev pub number_of : List Label → Bytes → ℕ
 number_of known x = position_or_len (is_named x) known
 
--- the numbers of the variables that stand in terms, where these are known in front of them
+-- the numbers of the variables of terms, if these are known before them
 unfoldable pub numbers_in : List Label → List Term → List ℕ
 numbers_in known [] = []
 numbers_in known (Variable x ∷ ts) =
@@ -22,7 +22,7 @@ numbers_in known (Variable x ∷ ts) =
 numbers_in known (Hole ∷ ts) = length known ∷ numbers_in (with_term known Hole) ts
 numbers_in known (Constant v ∷ ts) = numbers_in known ts
 
--- the edges of atoms, where these variables are known in front of them and there are n in all
+-- the edges of atoms, if these variables are known before them and there are n in all
 unfoldable pub edges_from : ℕ → List Label → List Atom → List (List ℕ)
 edges_from n known [] = []
 edges_from n known (a ∷ atoms) =
@@ -37,7 +37,7 @@ abbrev pub head_of : Query → List ℕ
 head_of q =
     set_below (length (variables_of q.atoms)) (map (number_of (variables_of q.atoms)) q.head)
 
--- a variable's name, where it has one
+-- a variable's name, if it has one
 abbrev pub label_name : Label → Bytes
 label_name (Some x) = x
 label_name None = codes "_"

@@ -84,12 +84,12 @@ abbrev pub is_clash : Term → ColumnType → Term → ColumnType → Bool
 is_clash (Variable x) c (Variable y) d = bytes_eq y x && not (same_type d c)
 is_clash _ c _ d = false
 
--- A variable stands at columns of two types.
+-- A variable is at columns of two types.
 abbrev pub has_clash : List Relation → Query → Bool
 has_clash relations q =
     any_place (λ t c. any_place (is_clash t c) relations q.atoms) relations q.atoms
 
--- A comparison is of a variable that stands in no atom.
+-- A comparison is of a variable that occurs in no atom.
 abbrev pub compares_unbound : Query → Bool
 compares_unbound q = list_any (λ c. not (stands_in q.atoms c.variable)) q.comparisons
 
@@ -100,8 +100,8 @@ has_order NotEqual c = true
 has_order o IntColumn = true
 has_order o TextColumn = false
 
--- the variable of a comparison at a column of another type than its constant, or at one where its
--- operator has no meaning
+-- the variable of a comparison at a column of another type than its constant, or at one for which
+-- its operator has no meaning
 abbrev pub is_miscompared : Comparison → Term → ColumnType → Bool
 is_miscompared c (Variable x) column =
     bytes_eq x c.variable && not (is_of column c.constant && has_order c.operator column)
@@ -113,11 +113,11 @@ abbrev pub has_miscompared : List Relation → Query → Bool
 has_miscompared relations q =
     list_any (λ c. any_place (is_miscompared c) relations q.atoms) q.comparisons
 
--- A variable stands in the head twice.
+-- A variable occurs in the head twice.
 abbrev pub repeats_head : Query → Bool
 repeats_head q = not (are_different q.head)
 
--- A variable of the head stands in no atom.
+-- A variable of the head occurs in no atom.
 abbrev pub has_unbound_head : Query → Bool
 has_unbound_head q = list_any (λ x. not (stands_in q.atoms x)) q.head
 
@@ -142,11 +142,11 @@ query_faults relations q =
     ∷ (is_too_large q, Limit)
     ∷ []
 
--- The first fault of a query; none where it can be asked over these relations.
+-- The first fault of a query; none if it can be asked over these relations.
 abbrev pub query_fault : List Relation → Query → Option Refusal
 query_fault relations q = first_refusal (query_faults relations q)
 
--- Why a query isn't registered beside others: its name is taken, a fault, or the number of queries.
+-- Why a query isn't registered beside others: its name is in use, a fault, or the number of queries.
 abbrev pub whole_query_refusal : List Relation → List Listed → Query → Option Refusal
 whole_query_refusal relations queries q = first_refusal (
     (is_some (listed_of queries q.name), Taken)

@@ -109,11 +109,11 @@ end_slow = line (codes "end slow")
 abbrev pub end_memory : Bytes
 end_memory = line (codes "end memory")
 
--- the line that ends a session where too many are open
+-- the line that ends a session if too many are open
 abbrev pub end_full : Bytes
 end_full = line (codes "end full")
 
--- the line that says that input ended within a line
+-- the line that reports that input ended within a line
 abbrev pub input_cut : Bytes
 input_cut = line (codes "err 13 cut")
 
@@ -126,14 +126,14 @@ cut_line (b ∷ bs) = input_cut
 abbrev pub bye : Bytes
 bye = line (codes "bye")
 
--- the line that says why a session is ended
+-- the line that reports why a session is ended
 abbrev pub end_line : EndLine → Bytes
 end_line Long = end_long
 end_line Slow = end_slow
 end_line Memory = end_memory
 end_line Full = end_full
 
--- values, each behind a space
+-- values, each after a space
 abbrev pub cells_text : Tuple → Bytes
 cells_text t = flat_map (λ v. 32 ∷ value_text v) t
 
@@ -149,7 +149,7 @@ last_line end = if end then line (codes "end") else line (codes "more")
 abbrev pub listing_lines : List Tuple → Bool → List Bytes
 listing_lines told end = map answer_line told ++ last_line end ∷ []
 
--- the bytes of lines, one line behind the other
+-- the bytes of lines, one line after the other
 abbrev pub text_of : List Bytes → Bytes
 text_of lines = flat_map (λ l. l) lines
 
@@ -159,7 +159,7 @@ abbrev pub stale_line : Bytes → Bytes → ℕ → Bytes
 stale_line cursor relation n =
     numbered_line (codes "stale " ++ cursor ++ codes " " ++ relation ++ codes " ") n
 
--- what a command is answered: these words where it was done, else why it was refused
+-- the reply to a command: these words if it was done, else why it was refused
 abbrev pub ok_reply : {A : Type 0} → Bytes → Result A Refusal → Bytes
 ok_reply words (Ok a) = line words
 ok_reply words (Err r) = refusal_line r
@@ -181,7 +181,7 @@ delete_reply (Ok (Left copies)) n = numbered_twice (codes "ok removed ") n copie
 delete_reply (Ok WasAbsent) n = numbered_line (codes "ok absent ") n
 delete_reply (Err r) n = refusal_line r
 
--- edges, each behind a space
+-- edges, each after a space
 abbrev pub edges_text : List Bytes → List (List ℕ) → Bytes
 edges_text names edges = flat_map (λ e. 32 ∷ edge_text names e) edges
 
@@ -189,15 +189,15 @@ edges_text names edges = flat_map (λ e. 32 ∷ edge_text names e) edges
 abbrev pub rest_line : Bytes → NamedRest → Bytes
 rest_line words rest = line (words ++ edges_text rest.names rest.edges)
 
--- what `query` answers: where it registers, the most lookups and links for one of its answers; and
--- where the query isn't free-connex, a rest that shows it
+-- the reply to `query`: if it registers, the most lookups and links for one of its answers; and if
+-- the query isn't free-connex, a rest that shows it
 abbrev pub query_reply : Result QueryOutcome Refusal → Bytes
 query_reply (Ok (Registered most)) = numbered_line (codes "ok query ") most
 query_reply (Ok (Cyclic rest)) = rest_line (codes "no cyclic") rest
 query_reply (Ok (NotConnex rest)) = rest_line (codes "no connex") rest
 query_reply (Err r) = refusal_line r
 
--- what `union` answers where it registers: the most lookups and links for one of its answers
+-- the reply to `union` if it registers: the most lookups and links for one of its answers
 abbrev pub union_reply : Result ℕ Refusal → Bytes
 union_reply (Ok most) = numbered_line (codes "ok union ") most
 union_reply (Err r) = refusal_line r
@@ -241,21 +241,21 @@ done_word (Line r) = line_word r.refusal
 done_word LastChange = Limit
 done_word NoneLeft = NoMemory
 
--- what `done` answers, at a number of changes: it, then how many rows came and went
+-- the reply to `done`, at a number of changes: it, then how many rows were inserted and deleted
 abbrev pub done_reply : Result ℕ DoneRefusal → ℕ → Bytes
 done_reply (Ok rows) n = numbered_twice (codes "ok done ") n rows
 done_reply (Err r) n = refusal_line (done_word r)
 
--- the sign of an answer that came, and of one that went
+-- the sign of an answer that was added, and of one that was removed
 abbrev pub sign_text : Sign → Bytes
 sign_text Came = codes "+ "
 sign_text Went = codes "- "
 
--- what a watch reports of an answer that came or went: the sign, the query, then the answer's
--- values
+-- what a watch reports of an answer that was added or removed: the sign, the query, then the
+-- answer's values
 abbrev pub change_line : Sign → Bytes → Tuple → Bytes
 change_line s query t = line (sign_text s ++ query ++ cells_text t)
 
--- the line behind the answers that came or went: the query, and the number of the change
+-- the line after the answers that were added or removed: the query, and the number of the change
 abbrev pub at_line : Bytes → ℕ → Bytes
 at_line query n = numbered_line (codes "at " ++ query ++ codes " ") n

@@ -1,4 +1,4 @@
--- Rests, as they are told.
+-- Rests, as they are printed.
 use Rattle.std.specs.Prelude.{
   ℕ,
   List,
@@ -20,7 +20,7 @@ use Rattle.djq_model.specs.declared.query.Query.{Query}
 use Rattle.djq_protocol.specs.declared.rest.NamedRest.{NamedRest}
 use Rattle.djq_protocol.specs.Hypergraph.{variable_names}
 
--- whether an edge comes before another one in the lexical order of their variables' numbers
+-- whether an edge precedes another one in the lexical order of their variables' numbers
 abbrev pub is_before : List ℕ → List ℕ → Bool
 is_before [] [] = false
 is_before [] (y ∷ ys) = true

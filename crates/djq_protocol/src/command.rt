@@ -91,8 +91,8 @@ pub enum Command {
     Batch,
     /// `done [COUNT]`: the lines that are held are carried out as one change.
     Done {
-        /// The number of lines that it says are held, where it says one; at most
-        /// [`LAST_COUNT`](crate::limits::LAST_COUNT), which stands for each larger one.
+        /// The number of held lines that it gives, if it gives one; at most
+        /// [`LAST_COUNT`](crate::limits::LAST_COUNT), as which each larger one is read.
         count: Option<u32>,
     },
     /// `abandon`: they are dropped.

@@ -28,8 +28,8 @@ pub fn places_of<'a>(readers: &'a [QueryPlaces], group: &Group) -> &'a [usize]
     readers[group.relation.at].as_slice()
 }
 
-/// Deletes rows from the query in a place. If it is watched, its log says, after what it said, which
-/// answers were removed.
+/// Deletes rows from the query in a place. If it is watched, the answers that were removed are appended to
+/// its log.
 fn delete_rows_at<L: Ledgers>(
     queries: &mut Vec<Option<LiveQuery>>,
     watchers: &[u32],
@@ -62,8 +62,8 @@ fn delete_rows_at<L: Ledgers>(
     }
 }
 
-/// Deletes rows of a relation at once, each given by its cells, from the queries in these places. The logs
-/// of those that are watched say, after what they said, which answers were removed.
+/// Deletes rows of a relation at once, each given by its cells, from the queries in these places. The
+/// answers that were removed are appended to the logs of those that are watched.
 fn delete_all_from_readers<L: Ledgers>(
     queries: &mut Vec<Option<LiveQuery>>,
     watchers: &[u32],
@@ -95,8 +95,8 @@ fn delete_all_from_readers<L: Ledgers>(
 }
 
 /// Deletes the groups' rows from the queries that read one of their relations, group after group. The
-/// readers list in which places the queries are that read a relation. The log of each watched one of these
-/// queries says, after what it said, which answers all groups together removed, each once. It asks for no
+/// readers list in which places the queries are that read a relation. To the log of each watched one of
+/// these queries the answers that all groups together removed are appended, each once. It asks for no
 /// memory but the logs', and can't be refused.
 ///
 /// For each group and each query that reads its relation the update count rises by at most as much as

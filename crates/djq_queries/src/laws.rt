@@ -18,7 +18,7 @@ pub fn groups_settle()
     net_deltas();
 }
 
-/// So what a log that isn't lost says of a change, without the opposites of one another, is the delta of its
+/// So what a log that isn't lost has of a change, without the opposites of one another, is the delta of its
 /// query.
 pub fn changed_logs_settle()
     ensures { ChangedLogsSettle }

@@ -19,7 +19,7 @@
 //! log that finds none is lost. A log with both signs is sorted in place to be settled, so its lines are in another
 //! order than that of listing; a log of one sign stays as it is.
 //!
-//! Inside, it is said over a chain of catalogs, one for each group, which the proofs alone have. The first half only
+//! Inside, it is stated over a chain of catalogs, one for each group, which the proofs alone have. The first half only
 //! adds answers and the second only removes some, so the deltas of the steps of each, one after another, are one. Only
 //! a query that a deletion reaches has both signs in its log, so the others aren't settled. Equal values have equal
 //! cells, so lines that cancel out are changes that do.

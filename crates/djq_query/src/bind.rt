@@ -25,14 +25,14 @@ fn members(label: VarSet) -> Cells
     members
 }
 
-/// The place of a variable among these, where it is one of them.
+/// The place of a variable among these, if it is one of them.
 fn find(members: &[u64], variable: u64) -> Option<usize>
     ensures { result ≡ position (λ y. y == variable) members.now }
 {
     members.iter().position(|member| *member == variable)
 }
 
-/// What stands at a column: the place of a variable, or the cell of a constant.
+/// The slot of a column: the place of a variable, or the cell of a constant.
 fn slot_of(members: &[u64], term: &NumberedTerm, cell: u64) -> Slot
     ensures { result ≡ slot_of members.now term.now cell }
 {
@@ -44,7 +44,7 @@ fn slot_of(members: &[u64], term: &NumberedTerm, cell: u64) -> Slot
     }
 }
 
-/// What stands at each column.
+/// The slot of each column.
 fn slots_of(
     alloc: Global,
     members: &[u64],
@@ -88,7 +88,7 @@ fn tests_of(
 impl NumberedAtom {
     /// The atom with its constants bound to cells, and the body's comparisons of its variables as
     /// tests. The label is the set of its variables; there is a cell for each term, which is read
-    /// where the term is a constant, and one for the constant of each comparison.
+    /// if the term is a constant, and one for the constant of each comparison.
     pub fn bind(
         &self,
         alloc: Global,

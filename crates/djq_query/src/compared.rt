@@ -39,7 +39,7 @@ fn is_miscompared(comparison: &Comparison, term: &Term, column: ColumnType) -> b
     }
 }
 
-/// Whether a comparison doesn't suit the type of some column of these, where its variable stands.
+/// Whether a comparison doesn't suit the type of some column of these that has its variable.
 fn any_miscompared(comparison: &Comparison, terms: &[Term], columns: &[ColumnType]) -> bool
     ensures { result ≡ any_column (is_miscompared comparison.now) terms.now columns.now }
 {
@@ -51,7 +51,7 @@ fn any_miscompared(comparison: &Comparison, terms: &[Term], columns: &[ColumnTyp
     false
 }
 
-/// Whether a comparison doesn't suit the type of a column where its variable stands.
+/// Whether a comparison doesn't suit the type of a column that has its variable.
 fn miscompares<R: Relations>(relations: &R, atoms: &[Atom], comparison: &Comparison) -> bool
     ensures { result ≡ any_place (is_miscompared comparison.now) (R.relations relations.now)
         atoms.now }
@@ -65,7 +65,7 @@ fn miscompares<R: Relations>(relations: &R, atoms: &[Atom], comparison: &Compari
     false
 }
 
-/// Whether a comparison is of a variable that stands in no atom.
+/// Whether a comparison is of a variable that occurs in no atom.
 pub(crate) fn compares_unbound(atoms: &[Atom], comparisons: &[Comparison]) -> bool
     ensures { result ≡ list_any (λ c. not (stands_in_atoms atoms.now c.variable)) comparisons.now }
 {

@@ -9,19 +9,19 @@ use djq_model::Query;
 use djq_protocol::Refusal;
 use djq_protocol::limits::{ATOMS, COMPARISONS, HEAD_VARIABLES};
 
-/// Why a query can't be asked over relations: the first of these that holds, and none where none
-/// does. It takes no memory.
+/// Why a query can't be asked over relations: the first of these that holds, and none if none does. It
+/// needs no memory.
 ///
 /// | refusal | an atom, a term, a comparison or the head |
 /// |---|---|
 /// | `NoRelation` | an atom's relation isn't there |
 /// | `Arity` | an atom has another number of terms than its relation has columns |
 /// | `WrongType` | a constant is of another type than its column |
-/// | `VariableType` | a variable stands at columns of two types |
-/// | `Unbound` | the variable of a comparison stands in no atom |
+/// | `VariableType` | a variable is at columns of two types |
+/// | `Unbound` | the variable of a comparison occurs in no atom |
 /// | `WrongType` | a comparison's constant is of another type than its variable, or it orders a text |
-/// | `HeadRepeated` | a variable stands in the head twice |
-/// | `HeadUnbound` | a variable of the head stands in no atom |
+/// | `HeadRepeated` | a variable occurs in the head twice |
+/// | `HeadUnbound` | a variable of the head occurs in no atom |
 /// | `Limit` | there are too many atoms, variables, head variables or comparisons |
 pub fn query_fault<R: Relations>(relations: &R, query: &Query) -> Option<Refusal>
     ensures { result ≡ query_fault (R.relations relations.now) query.now }

@@ -9,11 +9,11 @@ use std::marker::Model;
 pub struct Variable {
     /// Its name.
     pub name: Option<Name>,
-    /// The type of the columns where it stands.
+    /// The type of its columns.
     pub column: ColumnType,
 }
 
-/// What stands in an atom for a column.
+/// A column of an atom.
 #[derive(Debug, Drop)]
 pub enum NumberedTerm {
     /// A variable or a hole, by its number.
@@ -36,13 +36,13 @@ pub struct NumberedAtom {
 pub struct NumberedComparison {
     /// The number of its variable.
     pub variable: usize,
-    /// How the variable has to stand to the constant.
+    /// The comparison of the variable with the constant.
     pub operator: Operator,
     /// The constant.
     pub constant: Value,
 }
 
-/// A query whose variables are numbered from 0 in the order in which they first stand in an atom,
+/// A query whose variables are numbered from 0 in the order in which they first occur in an atom,
 /// each hole one of its own. Every number is below that of the variables, and these are at most
 /// [`VARIABLES`](djq_protocol::limits::VARIABLES).
 #[derive(Debug, Drop)]

@@ -67,7 +67,7 @@ fn is_named(variable: &Variable, name: &Name) -> bool
     }
 }
 
-/// The number of a name, which is known then, behind the others if it wasn't.
+/// The number of a name, which is known then, after the others if it wasn't.
 fn number_name(
     known: &mut Sequence<Variable>,
     name: &Name,
@@ -94,7 +94,7 @@ fn place_of(known: &[Variable], name: &Name) -> Option<usize>
     known.iter().position(|variable| is_named(variable, name))
 }
 
-/// A term by number; a variable that wasn't known is, behind the others.
+/// A term by number; a variable that wasn't known is, after the others.
 fn number_term(
     alloc: Global,
     known: &mut Sequence<Variable>,
@@ -225,7 +225,7 @@ fn number_comparisons(
 ///
 /// # Errors
 ///
-/// Each refusal of [`query_fault`] exactly where that gives it; `NoMemory` out of memory.
+/// Each refusal that [`query_fault`] gives; `NoMemory` out of memory.
 pub fn number<R: Relations>(
     alloc: Global,
     relations: &R,

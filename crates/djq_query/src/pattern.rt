@@ -31,7 +31,7 @@ use djq_model::Operator;
 use smallvec::SmallVec;
 use std::marker::Model;
 
-/// What stands at a column of a pattern.
+/// A column of a pattern.
 #[derive(Clone, Copy, Debug)]
 pub enum Slot {
     /// A variable, by its place among the atom's variables in rising order.
@@ -45,7 +45,7 @@ pub enum Slot {
 pub struct Test {
     /// The variable, by its place among the atom's variables in rising order.
     pub place: usize,
-    /// How the variable's cell has to stand to the constant's.
+    /// The comparison of the variable's cell with the constant's.
     pub operator: Operator,
     /// The constant's cell.
     pub cell: u64,
@@ -83,7 +83,7 @@ pub(crate) type Tests = SmallVec<Test, 1>;
 /// An atom whose constants are cells, with the comparisons of its variables: it turns a row into a
 /// tuple over the atom's variables, in rising order of their numbers, or into nothing.
 ///
-/// Contracts see how many variables the atom has, what stands at each column, and the tests.
+/// Contracts see how many variables the atom has, the slot of each column, and the tests.
 #[derive(Debug, Drop)]
 pub struct Pattern {
     width: usize,
@@ -113,7 +113,7 @@ fn cell_of(tuple: &[u64], slot: Slot) -> u64
     }
 }
 
-/// Writes the cell of a row's column into a tuple, where a variable stands at the column.
+/// Writes the cell of a row's column into a tuple, if the column has a variable.
 fn put(tuple: &mut Cells, slot: Slot, cell: u64)
     requires { slot_is_within (length tuple.old) slot ≡ true }
     ensures { tuple.new ≡ put_cell tuple.old slot cell }
@@ -124,7 +124,7 @@ fn put(tuple: &mut Cells, slot: Slot, cell: u64)
     }
 }
 
-/// Whether a cell stands to a constant's cell as an operator says.
+/// Whether an operator holds of a cell and a constant's cell.
 fn passes(operator: Operator, cell: u64, constant: u64) -> bool
     ensures { result ≡ passes operator cell constant }
 {
@@ -138,7 +138,7 @@ fn passes(operator: Operator, cell: u64, constant: u64) -> bool
     }
 }
 
-/// Whether a variable's place stands at the column of the same number.
+/// Whether the column of the same number has this variable's place.
 fn is_at(slot: Slot, column: usize) -> bool
     ensures { (u : List ℕ) → result ≡ true → cell_of u slot ≡ slice_index u column }
 {
@@ -148,7 +148,7 @@ fn is_at(slot: Slot, column: usize) -> bool
     }
 }
 
-/// Whether the variables stand at the columns in their order, and nothing else does.
+/// Whether the columns have the variables in their order, and nothing else.
 fn is_plain(width: usize, slots: &[Slot]) -> bool
     ensures { result ≡ true → IsPlain width slots.now }
 {
@@ -192,10 +192,9 @@ impl Pattern {
         self.slots.len()
     }
 
-    /// The tuple of a row: its cells at the variables, where its constants are the atom's, a
-    /// variable that stands twice has one cell, and each comparison holds. `None` exactly where no
-    /// tuple gives the row. Most often the tuple is the row itself; else it is written into the room.
-    /// It takes no memory.
+    /// The tuple of a row: its cells at the variables, if its constants are the atom's, a variable
+    /// that occurs twice has one cell, and each comparison holds. `None` if no tuple gives the row.
+    /// Most often the tuple is the row itself; else it is written into the room. It needs no memory.
     pub fn lend<'a>(&self, row: &'a [u64], room: &'a mut Cells) -> Option<&'a [u64]>
         requires { length row.now ≡ length self.now.slots }
         ensures wide { IfSome result (λ t. length t.now ≡ self.now.width) }

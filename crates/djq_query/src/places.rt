@@ -44,7 +44,7 @@ fn any_misfit(terms: &[Term], columns: &[ColumnType]) -> bool
     false
 }
 
-/// Whether a variable stands at a column of another type.
+/// Whether a column of another type has this variable.
 fn any_clash(name: &Name, of: ColumnType, terms: &[Term], columns: &[ColumnType]) -> bool
     ensures { result ≡ any_column (clashes_with name.now of) terms.now columns.now }
 {
@@ -56,7 +56,7 @@ fn any_clash(name: &Name, of: ColumnType, terms: &[Term], columns: &[ColumnType]
     false
 }
 
-/// Whether a variable of a column of this type stands at a column of another type.
+/// Whether a variable of a column of this type is also at a column of another type.
 fn clashes<R: Relations>(relations: &R, atoms: &[Atom], name: &Name, of: ColumnType) -> bool
     ensures { result ≡ any_place (clashes_with name.now of) (R.relations relations.now) atoms.now }
 {
@@ -73,7 +73,7 @@ fn clashes<R: Relations>(relations: &R, atoms: &[Atom], name: &Name, of: ColumnT
     false
 }
 
-/// Whether a term is a variable that stands at a column of another type too.
+/// Whether a term is a variable that is at a column of another type too.
 fn is_mixed<R: Relations>(relations: &R, atoms: &[Atom], term: &Term, column: ColumnType) -> bool
     ensures { result ≡ mixes (R.relations relations.now) atoms.now term.now column }
 {
@@ -84,7 +84,7 @@ fn is_mixed<R: Relations>(relations: &R, atoms: &[Atom], term: &Term, column: Co
     }
 }
 
-/// Whether a variable among these terms stands at a column of another type too.
+/// Whether a variable among these terms is at a column of another type too.
 fn any_mixed<R: Relations>(
     relations: &R,
     atoms: &[Atom],
@@ -140,9 +140,9 @@ pub(crate) fn has_misfit<R: Relations>(relations: &R, atoms: &[Atom]) -> bool
     false
 }
 
-/// Whether a variable stands at columns of two types.
+/// Whether a variable is at columns of two types.
 ///
-/// It compares each place with each other one, which takes no memory; a line's length bounds both.
+/// It compares each place with each other one, which needs no memory; a line's length bounds both.
 pub(crate) fn has_clash<R: Relations>(relations: &R, atoms: &[Atom]) -> bool
     ensures { result ≡ any_place (mixes (R.relations relations.now) atoms.now) (R.relations
         relations.now) atoms.now }

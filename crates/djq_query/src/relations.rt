@@ -13,7 +13,7 @@ pub trait Relations {
 
     ghost relations: { Self → List Relation };
 
-    /// The number of the relation of a name. `None` exactly where none has it.
+    /// The number of the relation of a name. `None` if none has it.
     fn id(&self, name: &Name) -> Option<usize>
         ensures { IsId (relations self.now) name.now result };
 
@@ -23,7 +23,7 @@ pub trait Relations {
         ensures { result.now ≡ columns_at (relations self.now) id };
 }
 
-/// The types of the columns of the relation of a name; none where there is no such relation.
+/// The types of the columns of the relation of a name; none if there is no such relation.
 pub(crate) fn columns_of<'a, R: Relations>(relations: &'a R, name: &Name) -> &'a [ColumnType]
     ensures { result.now ≡ columns_of (R.relations relations.now) name.now }
 {

@@ -50,7 +50,7 @@ pub(crate) fn stands_in(atoms: &[Atom], name: &Name) -> bool
     false
 }
 
-/// Whether a variable of a head stands in no atom.
+/// Whether a variable of a head occurs in no atom.
 pub(crate) fn has_unbound(atoms: &[Atom], head: &[Name]) -> bool
     ensures { result ≡ list_any (λ x. not (stands_in_atoms atoms.now x)) head.now }
 {
@@ -74,7 +74,7 @@ fn has_name(names: &[Name], name: &Name) -> bool
     false
 }
 
-/// Whether names stand once each.
+/// Whether names occur once each.
 pub(crate) fn are_different(names: &[Name]) -> bool
     ensures { result ≡ are_different names.now }
 {
@@ -99,7 +99,7 @@ fn is_fresh(before: &[Atom], beside: &[Term], term: &Term) -> bool
 }
 
 /// How many variables there are with those of an atom's terms, given how many there are in the atoms
-/// before; or a number above the limit, where there are more.
+/// before; or a number above the limit, if there are more.
 fn count_terms(before: &[Atom], terms: &[Term], count: usize) -> usize
     requires few { count ≤ VARIABLES }
     requires counted { count ≡ length (variables_of before.now) }

@@ -101,13 +101,13 @@ fn give_groups_back<L: Ledgers>(
     }
 }
 
-/// The queries that read one of these relations take in the groups' rows, group after group. The
-/// readers say in which places the queries stand that read a relation. The log of each of these
-/// queries that is watched tells anew which answers came by all groups together; or, out of memory,
-/// all that was taken in is given back, row by row.
+/// Inserts the groups' rows into the queries that read one of these relations, group after group.
+/// The readers list in which places the queries are that read a relation. The log of each of these
+/// queries that is watched begins anew, with the answers that all groups together added; or, out of
+/// memory, all rows are removed again, one by one.
 ///
 /// For each group and each query that reads its relation the update count rises by at most as much
-/// as one row may count where no leaf has more tuples than before and as the groups have rows.
+/// as one row may count if no leaf has more tuples than before and as the groups have rows.
 ///
 /// # Errors
 ///

@@ -7,7 +7,7 @@ use smallvec::SmallVec;
 use std::alloc::Global;
 use std::marker::Model;
 
-/// Rows that come into a relation at once, each given by its cells.
+/// Rows that are inserted into a relation at once, each given by its cells.
 #[derive(Drop)]
 pub struct Group {
     /// The relation.

@@ -15,7 +15,7 @@ use djq_enumeration::DeltaLog;
 use djq_live_query::LiveQuery;
 use djq_model::{Name, NoMem};
 
-/// A log is made ready to tell anew, where that is wanted.
+/// A log is cleared, if a new delta is wanted.
 pub(crate) fn clear_if(log: &mut DeltaLog, wanted: bool)
     ensures { Readies wanted log.old log.new }
 {
@@ -24,7 +24,7 @@ pub(crate) fn clear_if(log: &mut DeltaLog, wanted: bool)
     }
 }
 
-/// The query in a place takes in a row that came. Where it is watched, its log tells anew which answers came.
+/// Inserts a row into the query in a place. If it is watched, its log begins anew, with the answers that were added.
 fn insert_at<L: Ledgers>(
     queries: &mut Vec<Option<LiveQuery>>,
     watchers: &[u32],
@@ -63,7 +63,7 @@ fn insert_at<L: Ledgers>(
     }
 }
 
-/// It lets out a row that went, and where it is watched its log tells anew which answers went.
+/// Deletes a row from the query in a place. If it is watched, its log begins anew, with the answers that were removed.
 fn delete_at<L: Ledgers>(
     queries: &mut Vec<Option<LiveQuery>>,
     watchers: &[u32],
@@ -97,7 +97,7 @@ fn delete_at<L: Ledgers>(
     }
 }
 
-/// It gives back a row that it took in.
+/// Deletes a row again from the query in a place.
 fn give_back_at<L: Ledgers>(
     queries: &mut Vec<Option<LiveQuery>>,
     at: usize,
@@ -129,9 +129,9 @@ fn outdate_at(queries: &mut Vec<Option<LiveQuery>>, at: usize, relation: Name, s
     }
 }
 
-/// The queries in these places take in a row that came into a relation, given by its cells, and the
-/// logs of those that are watched tell anew which answers came; or, out of memory, those that had
-/// taken it give it back.
+/// Inserts a row that was inserted into a relation, given by its cells, into the queries in these places, and
+/// the logs of those that are watched begin anew, with the answers that were added; or, out of memory, it is
+/// removed again from those that had it.
 ///
 /// # Errors
 ///
@@ -201,8 +201,8 @@ fn give_back<L: Ledgers>(
     }
 }
 
-/// The queries in these places let out a row that went out of a relation, and the logs of those
-/// that are watched tell anew which answers went. It takes no memory but the logs'.
+/// Deletes a row that was deleted from a relation from the queries in these places, and the logs of those
+/// that are watched begin anew, with the answers that were removed. It needs no memory but the logs'.
 pub fn delete_from_readers<L: Ledgers>(
     queries: &mut Vec<Option<LiveQuery>>,
     watchers: &[u32],

@@ -1,5 +1,5 @@
-//! What many rows that come into a relation at once do to the queries that read it, one query after
-//! another. Where they are given back, it is row by row from the last one, which takes no memory.
+//! Inserts many rows of a relation at once into the queries that read it, one query after another. If
+//! they are removed again, it is row by row from the last one, which needs no memory.
 ghost use Rattle.std.specs.Prelude.{◌≡◌, ◌<◌, ◌+◌, [], ◌∷◌, false, IsSomeAnd, OnOk, OnErr, length};
 ghost use Rattle.djq_leaves.specs.Changes.{CameAll};
 ghost use Rattle.djq_live_query.specs.Updating.{CanAddAll, CountsUpdate};
@@ -17,8 +17,8 @@ use djq_live_query::LiveQuery;
 use djq_model::NoMem;
 use djq_reduct::Cells;
 
-/// The query in a place takes in rows that came. Where it is watched, its log tells, behind what it
-/// told, which answers came.
+/// Inserts rows into the query in a place. If it is watched, the answers that were added are appended
+/// to its log.
 fn insert_rows_at<L: Ledgers>(
     queries: &mut Vec<Option<LiveQuery>>,
     watchers: &[u32],
@@ -55,7 +55,7 @@ fn insert_rows_at<L: Ledgers>(
     }
 }
 
-/// A query gives back rows that it took in, the last one first.
+/// Deletes rows again that were inserted into a query, the last one first.
 fn give_rows_back<L: Ledgers>(
     query: &mut LiveQuery,
     relation: RelationId,
@@ -96,13 +96,13 @@ fn give_rows_back_at<L: Ledgers>(
     }
 }
 
-/// The queries in these places take in rows that came into a relation at once, each given by its
-/// cells. The logs of those that are watched tell, behind what they told, which answers came; or,
-/// out of memory, the queries that had taken the rows in give them back, row by row.
+/// Inserts rows that were inserted into a relation at once, each given by its cells, into the queries
+/// in these places. The answers that were added are appended to the logs of those that are watched;
+/// or, out of memory, the rows are removed again from the queries that had them, row by row.
 ///
 /// # Errors
 ///
-/// `NoMem` out of memory; answers are as before, and what the logs in these places tell is of no use.
+/// `NoMem` out of memory; answers are as before, and what the logs in these places have is of no use.
 pub fn insert_all_into_readers<L: Ledgers>(
     queries: &mut Vec<Option<LiveQuery>>,
     watchers: &[u32],
@@ -145,7 +145,7 @@ pub fn insert_all_into_readers<L: Ledgers>(
     Ok(())
 }
 
-/// The queries in these places give back rows that they took in. It takes no memory.
+/// Deletes rows again that were inserted into the queries in these places. It needs no memory.
 pub(crate) fn give_all_back<L: Ledgers>(
     queries: &mut Vec<Option<LiveQuery>>,
     places: &[usize],

@@ -1,4 +1,4 @@
--- Where the variables of nodes stand in an answer.
+-- The places of the variables of nodes in an answer.
 use Rattle.std.specs.Prelude.{ℕ, zero, suc, List, [], ◌∷◌, ◌++◌}
 use Rattle.djq_tree.specs.Tree.{Tree}
 use Rattle.djq_tree.specs.Labels.{label_at}

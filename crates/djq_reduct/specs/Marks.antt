@@ -1,4 +1,4 @@
--- The marks of an unfinished update of a leaf, which stand on the leaf's path to the root.
+-- The marks of an unfinished update of a leaf, which are on the leaf's path to the root.
 use Rattle.std.specs.Prelude.{◌≡◌, ◌≢◌, ℕ, zero, suc, ◌*◌, ◌<◌, ◌≤◌, Bool, true, false, cond, ◌==◌, List}
 use Rattle.djq_index.specs.Tuple.{pick}
 use Rattle.djq_index.specs.Entries.{Entry, count_of, group_size, marks, plain}
@@ -26,7 +26,7 @@ IsOff nodes a i = (i ≢ a) × (on_path nodes a i ≡ false)
 pub record IsBare (ts : List Table) : Type 0 where
   pub none : (i : ℕ) (v : List ℕ) → count_of (marks (entries_at ts i)) v ≡ 0
 
--- marks stand on the path from the leaf a alone
+-- marks are on the path from the leaf a alone
 pub record AreOnPath (t : Tree) (ts : List Table) (a : ℕ) : Type 0 where
   pub off : (i : ℕ) → IsOff t.nodes a i → (v : List ℕ) → count_of (marks (entries_at ts i)) v ≡ 0
 

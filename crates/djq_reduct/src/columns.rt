@@ -7,7 +7,7 @@ use djq_index::Table;
 use djq_tree::Tree;
 use std::alloc::{AllocError, Global};
 
-/// The place of a variable among those of a label; where it isn't there, how many there are.
+/// The place of a variable among those of a label; if it isn't there, how many there are.
 pub fn column_of(label: VarSet, variable: usize) -> usize
     ensures { result ≡ column label variable }
 {

@@ -7,7 +7,7 @@ use djq_tree::Tree;
 use std::alloc::{AllocError, Global};
 use std::marker::Model;
 
-/// Where the variables of a node's label stand in an answer, in their order.
+/// The places of the variables of a node's label in an answer, in their order.
 #[derive(Drop)]
 pub(crate) struct HeadColumns {
     columns: Vec<usize>,

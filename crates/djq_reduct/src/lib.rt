@@ -1,11 +1,11 @@
-//! Reducts: one table for each node of a generalised join tree, always as its children's tables say
-//! (Idris, Ugarte, Vansummeren, *The dynamic Yannakakis algorithm*, SIGMOD 2017).
+//! Reducts: one table for each node of a generalised join tree, always determined by its children's
+//! tables (Idris, Ugarte, Vansummeren, *The dynamic Yannakakis algorithm*, SIGMOD 2017).
 //!
 //! The reduct of a leaf is the tuples of its atom. A trim's reduct is the projections of its
 //! child's tuples, each with as many supports as the child has tuples there; a meet's is the
-//! guard's tuples whose projection is in the side's reduct. So a tuple in the root's table says
+//! guard's tuples whose projection is in the side's reduct. So a tuple in the root's table means
 //! that the query has an answer, and a tuple in a table of the part `out` lies on the way to one:
-//! those that lead nowhere aren't there, as in Yannakakis, *Algorithms for acyclic database
+//! tuples without an answer aren't there, as in Yannakakis, *Algorithms for acyclic database
 //! schemes*, VLDB 1981.
 //!
 //! ```text
@@ -20,12 +20,11 @@
 //! This crate has the tables with that law as an invariant. It evaluates no query and lists no
 //! answer, and it changes no table: djq_propagate and djq_enumeration do.
 //!
-//! What surprises: a family of tables has no say in what it holds. Once the leaves' tuples are
-//! known, all others are ([`Reducts::laws`]), and a caller may cite that in place of the way on
-//! which they came.
+//! What surprises: the leaves' tuples determine all others ([`Reducts::laws`]), and a caller may
+//! cite that instead of the updates that made them.
 //!
-//! Inside, the tables stand in a list by the nodes' numbers. A table's columns are its label's
-//! variables in rising order, and its key is the node's group key, by which its parent looks it up.
+//! Inside, the tables are a list by the nodes' numbers. A table's columns are its label's variables
+//! in rising order, and its key is the node's group key, by which its parent looks it up.
 #![tactic(auto)]
 
 mod columns;

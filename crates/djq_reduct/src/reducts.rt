@@ -24,13 +24,13 @@ use std::marker::Model;
 
 /// A tree, and for each of its nodes the table that is the node's reduct.
 ///
-/// The parts are public, so that an update changes the tables where they stand, with no copy: whoever
-/// takes them has shown that they are reducts again once the whole is let go.
+/// The parts are public, so that an update changes the tables in place, without a copy: whoever borrows
+/// them has shown that they are reducts again once the whole is given back.
 #[derive(Drop)]
 pub struct Reducts {
     pub tree: Tree,
     pub tables: Vec<Table>,
-    // for each node, where its label's variables stand in an answer
+    // for each node, the places of its label's variables in an answer
     pub(crate) columns: Vec<HeadColumns>,
     // for each variable, its place in an answer
     pub(crate) places: Vec<usize>,
@@ -97,7 +97,7 @@ impl Reducts {
         &self.tables[node]
     }
 
-    /// Where the variables of a node's label stand in an answer. They were found once, as the reducts
+    /// The places of the variables of a node's label in an answer. They were found once, as the reducts
     /// were made.
     pub fn columns(&self, node: usize) -> &[usize]
         requires { node < length self.now.tree.nodes }
@@ -106,7 +106,7 @@ impl Reducts {
         self.columns[node].as_slice()
     }
 
-    /// Where a variable stands in an answer; where it isn't in the head, how long that is.
+    /// The place of a variable in an answer; if it isn't in the head, how long that is.
     pub fn column(&self, variable: usize) -> usize
         ensures { result ≡ column self.now.tree.head variable }
     {

@@ -218,7 +218,7 @@ pub fn say_held(out: &mut BytesMut, outcome: Result<(), Refusal>, held: usize)
     }
 }
 
-/// Answers `done` with how many rows came and went, at a number of changes.
+/// Answers `done` with how many rows were inserted and deleted, at a number of changes.
 pub fn say_batch_done(out: &mut BytesMut, outcome: Result<usize, DoneRefusal>, seq: u64)
     requires room { REPLY_BYTES + LAST_LINE_BYTES ≤ out.old.spare }
     ensures kept { LAST_LINE_BYTES ≤ out.new.spare }

@@ -8,8 +8,8 @@ use Rattle.djq_io.specs.declared.sink.Write.{Write}
 use Rattle.djq_io.specs.declared.sink.Wrote.TheVariants.{Failed, Took, Failed as WriteFailed}
 use Rattle.djq_io.specs.declared.limits.TheConstants.{READ_BYTES, MOST_READS}
 use Rattle.djq_io.specs.Sink.{bytes_of, NoneFailed, Gains}
-use Rattle.djq_io.specs.Source.{SourceReading, SourceGives, GivesPiece}
-use Rattle.djq_io.proofs.Streams.{gives_none, gives_piece, gains_none}
+use Rattle.djq_io.specs.Source.{SourceReading, SourceGives, GivesPiece, FindsEnd}
+use Rattle.djq_io.proofs.Streams.{gives_none, gives_piece, gives_end, gains_none}
 use Rattle.djq_model.specs.Data.{Bytes}
 use Rattle.djq_protocol.specs.declared.answer.EndCause.{EndCause}
 use Rattle.djq_protocol.specs.declared.answer.EndCause.TheVariants.{Input, Quit, Stop, Long, Slow, Memory}
@@ -206,13 +206,11 @@ by_piece reading reading' rf rf' told wf counted old new bytes waits some few gi
 -- the end of the input
 pub by_end : (reading reading' : Option SourceReading) (rf rf' : ℕ) (told : Option (List Write)) (wf : ℕ)
     (counted : Counts)
-    (old new : State) → reading' ≡ reading → Awaits old → Makes old (ended 1) new
+    (old new : State) → FindsEnd reading reading' → Awaits old → Makes old (ended 1) new
     → GoesTo false old (outside reading rf told wf counted) (outside reading' rf' told wf counted) new
-by_end reading reading' rf rf' told wf counted old new same waits m =
+by_end reading reading' rf rf' told wf counted old new end waits m =
     by_event (outside reading rf told wf counted) (outside reading' rf' told wf counted) old new (ended 1) m
-    (refl, waits)
-    (subst (λ (r : Option SourceReading). SourceGives reading r []) (sym same) (gives_none reading))
-    (gains_none told) refl
+    (refl, waits) (gives_end reading reading' end) (gains_none told) refl
 
 -- a read that failed
 pub by_failure : (reading reading' : Option SourceReading) (rf rf' : ℕ) (told : Option (List Write)) (wf : ℕ)
@@ -407,10 +405,6 @@ stands_more DiskFault came fed' reading st more h = h
 stands_more LogFull came fed' reading st more h = h
 stands_more (BadLog at) came fed' reading st more h = h
 stands_more (Mirror n) came fed' reading st more h = h
-
--- The source is as it was at its end.
-pub still_at_end : (reading reading' : Option SourceReading) → IsAtEnd reading → reading' ≡ reading → IsAtEnd reading'
-still_at_end reading reading' h same = subst (λ (r : Option SourceReading). IsAtEnd r) (sym same) h
 
 -- The run so far, in which no fault was met, and a read that ends it.
 pub run_ends : (status : Status) (before mid_o now : Outside) (start mid state : State)

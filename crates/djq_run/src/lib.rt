@@ -18,7 +18,7 @@
 //! write   ok added 1 1                 once add r 7 is run; add waits for its end
 //! read    r 8, quit
 //! write   ok added 2 1
-//! write   bye                          and nothing is read behind it: the status is Done
+//! write   bye                          and nothing is read after it: the status is Done
 //! ```
 //!
 //! Inside, `session` has the loop in three: a read and what it brings, the lines that a session

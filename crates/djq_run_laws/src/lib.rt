@@ -71,13 +71,13 @@ pub fn line_is_taken()
     ensures { LineIsTaken }
 {}
 
-/// Each state that a run reaches from a state to start from is sound. Relations, queries, known
-/// texts, the rows of a relation and the answers that an open cursor has given are without repeats;
-/// rows are of their columns' types, each with one copy at least. Queries read relations that are
-/// present, and are free-connex; the members of a union are registered queries, two at least, none
-/// twice, with answers of the same types. Cursors and watches are of what is registered; the row of each
-/// line that a batch holds suits its relation, and the line's bytes say it. A session that has ended has
-/// none of them; and sessions are by rising id.
+/// Each state that a run reaches from a state to start from is sound. Relations, queries, known texts, the
+/// rows of a relation and the answers that an open cursor has given are without repeats; rows are of their
+/// columns' types, each with one copy at least. Queries read relations that are present, and are
+/// free-connex; the members of a union are registered queries, two at least, none twice, with answers of the
+/// same types. Cursors and watches are of what is registered; the row of each line that a batch holds suits
+/// its relation, and the line's bytes parse to it. A session that has ended has none of them; and sessions
+/// are by rising id.
 ///
 /// The limits of the protocol hold in it. There are limits on relations, their columns (one at least) and
 /// rows, the copies of a row, known texts, queries and unions, and their members. There are others on a

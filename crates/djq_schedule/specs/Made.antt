@@ -10,16 +10,16 @@ use Rattle.djq_schedule.specs.declared.schedule.ScheduleRefusal.TheVariants.{Out
 use Rattle.djq_schedule.specs.Schedule.{Order, Stage, schedule_lines, order_of, may_stand, stage_after}
 use Rattle.djq_schedule.specs.Schedule.{blocked_after, turn_of_line}
 
--- what a line says, where it is in the grammar at this stage
+-- the meaning of a line, if it is in the grammar at this stage
 abbrev pub standing : Stage → Option Order → Option Order
 standing st None = None
 standing st (Some o) = if may_stand st o.0 o.1.0 then Some o else None
 
--- what a line says that is at most 8192 bytes, where it is in the grammar at this stage
+-- the meaning of a line of at most 8192 bytes, if it is in the grammar at this stage
 abbrev pub in_grammar : Stage → Bytes → Option Order
 in_grammar st line = if nat_le (length line) 8192 then standing st (order_of line) else None
 
--- the turn of a line, with the sessions that are blocked behind it
+-- the turn of a line, with the sessions that are blocked after it
 abbrev pub coming_of : Stage → Order → Coming
 coming_of st o = record {
   turn = turn_of_line o.0 o.1.0 o.1.1;
@@ -27,7 +27,7 @@ coming_of st o = record {
       blocked_after o.0 o.1.0 st.blocked;
 }
 
--- the stage behind a line
+-- the stage after a line
 abbrev pub next_stage : Stage → Order → Stage
 next_stage st o = stage_after o.0 o.1.0 st
 
@@ -49,7 +49,7 @@ turns_from st n [] = Ok []
 turns_from st n (l ∷ ls) = turns_by st n (in_grammar st l)
     (λ o. turns_from (next_stage st o) (n + 1) ls)
 
--- the stage in front of the first line, where nothing was opened
+-- the stage before the first line, as nothing was opened
 abbrev pub first_stage : Stage
 first_stage = record { newest = None; opened = []; ended = []; blocked = [] }
 

@@ -10,7 +10,7 @@ use Rattle.djq_model.specs.Parts.{before, behind, with_first}
 use Rattle.djq_schedule.specs.declared.line.Keyword.{Keyword}
 use Rattle.djq_schedule.specs.declared.line.Keyword.TheVariants.{Open, Say, Part, Again, Free, End}
 
--- the rest; none where there is none
+-- the rest; none if there is none
 abbrev pub rest_or_none : Option Bytes → Bytes
 rest_or_none None = []
 rest_or_none (Some rest) = rest
@@ -30,7 +30,7 @@ schedule_keyword_of word =
     else (if bytes_eq word (codes "free") then Some Free
     else (if bytes_eq word (codes "end") then Some End else None)))))
 
--- the number that these digits lead to from this one, where it is at most 1000000
+-- the number that these digits lead to from this one, if it is at most 1000000
 abbrev pub id_from : ℕ → Bytes → Option ℕ
 id_from id [] = Some id
 id_from id (b ∷ bytes) = let next = id * 10 + (b - 48) in
@@ -41,34 +41,34 @@ abbrev pub id_of : Bytes → Option ℕ
 id_of [] = None
 id_of (b ∷ bytes) = if b == 48 then None else id_from 0 (b ∷ bytes)
 
--- whether text may stand behind the number
+-- whether text may follow the number
 abbrev pub takes_text : Keyword → Bool
 takes_text Say = true
 takes_text Part = true
 takes_text _ = false
 
--- What a line says: its keyword, the session, and the text behind that, where there is some.
+-- The meaning of a line: its keyword, the session, and the text after that, if there is some.
 abbrev pub Order : Type 0
 Order = Keyword × (ℕ × Option Bytes)
 
--- what a keyword, a session and a text say; none without a session, or where no text may stand
+-- the meaning of a keyword, a session and a text; none without a session, or if no text may follow
 abbrev pub order_with : Keyword → Option ℕ → Option Bytes → Option Order
 order_with k None text = None
 order_with k (Some id) text = if not (is_none text) && not (takes_text k) then None else Some
     (k, (id, text))
 
--- what a keyword and the rest of its line say
+-- the meaning of a keyword and the rest of its line
 abbrev pub order_behind : Option Keyword → Option Bytes → Option Order
 order_behind (Some k) (Some rest) = order_with k (id_of (before 32 rest)) (behind 32 rest)
 order_behind (Some k) None = None
 order_behind None _ = None
 
--- what a line says, at whatever stage it stands; none where it says nothing
+-- the meaning of a line, at whatever stage it is; none if it has none
 abbrev pub order_of : Bytes → Option Order
 order_of line = order_behind (schedule_keyword_of (before 32 line)) (behind 32 line)
 
--- Where a schedule stands: the newest session, those that were opened, those whose input ended, and
--- those that take nothing now.
+-- The stage of a schedule: the newest session, those that were opened, those whose input ended, and
+-- those that read nothing now.
 pub record Stage : Type 0 where
   pub newest : Option ℕ
   pub opened : List ℕ
@@ -84,35 +84,35 @@ abbrev pub is_above : Option ℕ → ℕ → Bool
 is_above None id = true
 is_above (Some newest) id = nat_lt newest id
 
--- A session opens above those before; others are named where they were opened and, but to be freed,
--- where their input hasn't ended.
+-- A session opens above those before; others are named if they were opened and, but to be freed, if
+-- their input hasn't ended.
 abbrev pub may_stand : Stage → Keyword → ℕ → Bool
 may_stand st Open id = is_above st.newest id
 may_stand st Free id = is_session_among st.opened id
 may_stand st _ id = is_session_among st.opened id && not (is_session_among st.ended id)
 
--- the newest session, behind a line
+-- the newest session, after a line
 abbrev pub newest_after : Keyword → ℕ → Option ℕ → Option ℕ
 newest_after Open id newest = Some id
 newest_after _ id newest = newest
 
--- the sessions that were opened, behind a line
+-- the sessions that were opened, after a line
 abbrev pub opened_after : Keyword → ℕ → List ℕ → List ℕ
 opened_after Open id ids = ids ++ id ∷ []
 opened_after _ id ids = ids
 
--- the sessions whose input ended, behind a line
+-- the sessions whose input ended, after a line
 abbrev pub ended_after : Keyword → ℕ → List ℕ → List ℕ
 ended_after End id ids = ids ++ id ∷ []
 ended_after _ id ids = ids
 
--- the sessions that take nothing, behind a line
+-- the sessions that read nothing, after a line
 abbrev pub blocked_after : Keyword → ℕ → List ℕ → List ℕ
 blocked_after Again id ids = ids ++ id ∷ []
 blocked_after Free id ids = filter (λ other. not (nat_eq other id)) ids
 blocked_after _ id ids = ids
 
--- where a schedule stands, behind a line
+-- the stage of a schedule, after a line
 abbrev pub stage_after : Keyword → ℕ → Stage → Stage
 stage_after k id st = record {
   newest = newest_after k id st.newest;
@@ -123,12 +123,12 @@ stage_after k id st = record {
       blocked_after k id st.blocked;
 }
 
--- the text of a line; no bytes where it has none
+-- the text of a line; no bytes if it has none
 abbrev pub text_or_none : Option Bytes → Bytes
 text_or_none None = []
 text_or_none (Some text) = text
 
--- the turn of a line; a text that is said ends with LF
+-- the turn of a line; the text of `say` ends with LF
 abbrev pub turn_of_line : Keyword → ℕ → Option Bytes → Incoming
 turn_of_line Open id text = Opens id
 turn_of_line Say id text = Brings id (text_or_none text ++ 10 ∷ [])

@@ -2,10 +2,10 @@
 //!
 //! ```text
 //! open 1              session 1 opens
-//! say 1 rel r int     a line of it comes
+//! say 1 rel r int     a line of it arrives
 //! part 1 add r        a part of a line
-//! again 1             from here on it takes nothing
-//! free 1              it takes all again
+//! again 1             from here on it reads nothing
+//! free 1              it reads all again
 //! end 1               its input ends
 //! ```
 //!

@@ -20,7 +20,7 @@ use djq_io::Hub;
 use djq_log::Log;
 use djq_machine::Machine;
 
-/// Runs and commits the lines of a round whose turns were taken, and finishes it. It returns how serving ends, if
+/// Runs and commits the lines of a round after its turns, and finishes it. It returns how serving ends, if
 /// it does. No line is run after the hub failed.
 pub(crate) fn end_round<M: Machine, H: Hub, D: Disk, L: Ledgers>(
     machine: &mut M,

@@ -11,15 +11,15 @@ use crate::rest::Rest;
 use djq_io::{Hub, Turn};
 use djq_machine::{Machine, OpenRefusal};
 
-/// The turns of a round: how many were taken, and what is left to do after its lines.
+/// The turns of a round: how many there were, and what is left to do after its lines.
 #[derive(Drop)]
 pub(crate) struct Gathered {
     pub(crate) taken: u64,
     pub(crate) rest: Rest,
 }
 
-/// Takes the turns of a round: one, and then further ones while one is at hand, up to the
-/// limit. The end of a session's input, and of the hub, end it.
+/// Reads the turns of a round: one, and then further ones while one is at hand, up to the limit.
+/// The end of a session's input, and of the hub, end it.
 pub(crate) fn gather<M: Machine, H: Hub>(
     machine: &mut M,
     hub: &mut H,
@@ -47,7 +47,7 @@ pub(crate) fn gather<M: Machine, H: Hub>(
     Gathered { taken, rest }
 }
 
-/// Takes a turn of the hub, and lets the machine have what it brings.
+/// Reads a turn of the hub, and feeds the machine what it brings.
 fn take_turn<M: Machine, H: Hub>(machine: &mut M, hub: &mut H, buffer: &mut [u8]) -> Rest
     requires room { length buffer.old ≡ READ_BYTES }
     requires agrees { Agrees (M.state machine.old) (H.ids hub.old) }

@@ -20,7 +20,7 @@ use djq_io::Hub;
 use djq_log::Log;
 use djq_machine::Machine;
 
-/// Runs the lines that the sessions have, one of each in turn, and commits where as many were run as a commit may
+/// Runs the lines that the sessions have, one of each in turn, and commits if as many were run as a commit may
 /// have. It returns when none is left, with the last commit open, or when a commit can't be logged.
 pub(crate) fn run_lines<M: Machine, H: Hub, D: Disk, L: Ledgers>(
     machine: &mut M,

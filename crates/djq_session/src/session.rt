@@ -26,15 +26,15 @@ const IDLE_BYTES: usize = 16_384;
 /// room is made new for one in hundreds alone.
 const OUTPUT_BYTES: usize = 4_096;
 
-/// What is kept of a session. `C` is kept for each of its cursors, and `Q` names a query that it
+/// The state of a session. `C` is stored for each of its cursors, and `Q` names a query that it
 /// watches. Contracts see a record, `Dialog`.
 #[derive(Drop)]
 pub struct Session<C, Q> {
     input: BytesMut,
-    // what stands in front of the input: it is looked for once for each line, and not at each call
+    // the front of the input: it is searched for once for each line, and not at each call
     front: Front,
     output: BytesMut,
-    // how many bytes of the output were taken so far, modulo 2^64
+    // how many bytes of the output were sent so far, modulo 2^64
     taken: u64,
     // the commit that was begun last, and how many bytes had been queued by then, modulo 2^64
     commit: u64,
@@ -67,7 +67,8 @@ impl<C, Q> Model for Session<C, Q> {
 }
 
 impl<C: Copy, Q: Copy + PartialEq> Session<C, Q> {
-    /// A session as it opens. It takes a first buffer of output, in which its last line has room.
+    /// A session as it opens. It allocates a first buffer of output, in which its last line has
+    /// room.
     ///
     /// # Errors
     ///

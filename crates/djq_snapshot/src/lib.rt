@@ -17,15 +17,16 @@
 //! bytes, and no code uses this crate yet. It states what whoever writes a snapshot in place of a log, and
 //! restores it at the next start, may rely on.
 //!
-//! What surprises: all rows come before the first query. So a query is registered once over its rows, and
-//! each union after its members. A snapshot doesn't say which texts are known: those that no row and no
-//! query has are forgotten, so that a restored store may have a place for a text for which its original had
-//! none. A sound store isn't enough: in one, queries could have faults, unions could precede their members,
-//! and the texts of rows could be unknown. `IsRestorable` excludes that, and every run preserves it.
+//! What surprises: all rows precede the first query. So a query is registered once over its rows, and each
+//! union after its members. A snapshot doesn't list which texts are known: those that no row and no query has
+//! are forgotten, so that a restored store may have a place for a text for which its original had none. A
+//! sound store isn't enough: in one, queries could have faults, unions could precede their members, and the
+//! texts of rows could be unknown. `IsRestorable` excludes that, and every run preserves it.
 //!
 //! Inside, `specs/Snapshot.antt` defines the lines of a snapshot and what restoring them does to a store, and
 //! `specs/Restorable.antt` has the laws. For each prefix of the lines `proofs/Parts.antt` has the part of the
-//! store that they say: each line takes a store that follows one part to a store that follows the next.
+//! store that they restore: each line leads from a store that follows one part to a store that follows the
+//! next.
 #![tactic(auto)]
 
 ghost use Rattle.djq_snapshot.specs.Restorable.{SnapshotRestores, FollowersRestore, RestoredAgain};

@@ -72,7 +72,7 @@ pub fn affect(
     }
 }
 
-/// Where it affects no union, they are those of the engine.
+/// If it affects no union, they are those of the engine.
 pub fn affect_queries(affected: &mut Vec<usize>, engine: &Engine)
     requires { length engine.now.affected ≤ vec_capacity affected.old }
     ensures items { affected.new.items ≡ map (λ id. id.at) engine.now.affected }

@@ -60,12 +60,12 @@ fn some_has<L: Ledgers>(
 }
 
 impl Store {
-    /// Whether a tuple is an answer of a query or union. It takes no memory, and counts at most one lookup
+    /// Whether a tuple is an answer of a query or union. It needs no memory, and counts at most one lookup
     /// for each atom.
     ///
     /// # Errors
     ///
-    /// `NoQuery` where none has the name; `Arity` and `WrongType` where the tuple doesn't suit the
+    /// `NoQuery` if none has the name; `Arity` and `WrongType` if the tuple doesn't suit the
     /// answers.
     pub fn has<L: Ledgers>(
         &self,
@@ -89,7 +89,7 @@ impl Store {
     ///
     /// # Errors
     ///
-    /// `NoQuery` where none has the name; `NoMemory` out of memory.
+    /// `NoQuery` if none has the name; `NoMemory` out of memory.
     pub fn explain(&self, name: &Name) -> Result<Explained, Refusal>
         ensures { ExplainGives self.now.store name.now result }
     {
@@ -120,12 +120,12 @@ impl Store {
         })
     }
 
-    /// What bounds an update of a query: `Flat` exactly where the query is flat, and then it is the
+    /// What bounds an update of a query: `Flat` if and only if the query is flat, and then it is the
     /// same whatever the rows. A union's updates are its members', and its shape is `union`.
     ///
     /// # Errors
     ///
-    /// `NoQuery` where none has the name. It takes no memory.
+    /// `NoQuery` if none has the name. It needs no memory.
     pub fn shape(&self, name: &Name) -> Result<Shape, Refusal>
         ensures { TellsShape self.now.store name.now result }
     {
@@ -136,11 +136,11 @@ impl Store {
         self.parts.engine.shape(name)
     }
 
-    /// Whether a row suits a relation, and so may be held in a batch. It takes no memory.
+    /// Whether a row suits a relation, and so may be held in a batch. It needs no memory.
     ///
     /// # Errors
     ///
-    /// `NoRelation` where none has the name; `Arity` and `WrongType` where the row doesn't suit its
+    /// `NoRelation` if none has the name; `Arity` and `WrongType` if the row doesn't suit its
     /// columns.
     pub fn held_ok(&self, name: &Name, row: &[Value]) -> Result<(), Refusal>
         ensures { TellsSuits self.now.store name.now row.now result }

@@ -24,7 +24,7 @@ impl Store {
     ///
     /// # Errors
     ///
-    /// `Taken` where a relation has the name; `Limit` past [`COLUMNS`](djq_protocol::limits::COLUMNS)
+    /// `Taken` if a relation has the name; `Limit` past [`COLUMNS`](djq_protocol::limits::COLUMNS)
     /// columns and at [`RELATIONS`](djq_protocol::limits::RELATIONS) relations; `NoMemory` out of
     /// memory. Nothing has changed.
     pub fn rel(&mut self, name: Name, types: Types) -> Result<(), Refusal>
@@ -40,22 +40,21 @@ impl Store {
         made
     }
 
-    /// Adds a row to a relation, and tells how many copies of it are there. Where it wasn't there, its
-    /// texts become known, and cursors over queries and unions that read the relation become stale. Where it was, it
-    /// has a further copy: that takes no memory, is no change, and goes into no query.
+    /// Adds a row to a relation, and returns how many copies of it are there. If it wasn't there, its texts become
+    /// known, and cursors over queries and unions that read the relation become stale. If it was, it has a further copy:
+    /// that needs no memory, is no change, and is inserted into no query.
     ///
-    /// For each atom over the relation of each query the update count rises by at most
-    /// 16(m + v)(n + 1), where the query has m atoms and v variables, holes counted in, and no
-    /// relation that it reads more than n rows before; out of memory by three times that. A query
-    /// that is flat counts at most 16(m + v) for each, whatever the rows; out of memory twice that. Unions count
-    /// nothing.
+    /// For each atom over the relation of each query the update count rises by at most 16(m + v)(n + 1), with m atoms
+    /// and v variables in the query, holes counted in, and at most n rows before in each relation that it reads; out of
+    /// memory by three times that. A query that is flat counts at most 16(m + v) for each, whatever the rows; out of
+    /// memory twice that. Unions count nothing.
     ///
     /// # Errors
     ///
-    /// `NoRelation` where none has the name; `Arity` and `WrongType` where the row doesn't suit its
-    /// columns; `Limit` where the row's copies, the relation, the number of changes or that of known
-    /// texts are at their limit; `NoMemory` out of memory, and cursors over the relation are stale, and nothing is told
-    /// of what reads it. Texts that became known stay so, and no row has changed.
+    /// `NoRelation` if none has the name; `Arity` and `WrongType` if the row doesn't suit its columns; `Limit` if the
+    /// row's copies, the relation, the number of changes or that of known texts are at their limit; `NoMemory` out of
+    /// memory, and cursors over the relation are stale, and what reads it has no delta. Texts that became known stay so,
+    /// and no row has changed.
     pub fn add<L: Ledgers>(
         &mut self,
         name: &Name,
@@ -83,15 +82,15 @@ impl Store {
         outcome
     }
 
-    /// Deletes a copy of a row from a relation, and tells how many are left. Where it isn't there,
-    /// nothing changes; where its last copy goes, the row does, and cursors over queries and unions that read the
-    /// relation become stale; one of several is no change, and goes out of no query. It takes no memory, and its update
-    /// count is bounded as that of [`add`](Store::add).
+    /// Deletes a copy of a row from a relation, and returns how many are left. If it isn't there, nothing changes; with
+    /// its last copy the row is deleted, and cursors over queries and unions that read the relation become stale; one of
+    /// several is no change, and is deleted from no query. It needs no memory, and its update count is bounded as that
+    /// of [`add`](Store::add).
     ///
     /// # Errors
     ///
-    /// `NoRelation` where none has the name; `Arity` and `WrongType` where the row doesn't suit its
-    /// columns; `Limit` where the last copy is to go and the number of changes is at its limit.
+    /// `NoRelation` if none has the name; `Arity` and `WrongType` if the row doesn't suit its columns; `Limit` if the
+    /// last copy is to be deleted and the number of changes is at its limit.
     pub fn del<L: Ledgers>(
         &mut self,
         name: &Name,
@@ -128,8 +127,8 @@ impl Store {
     ///
     /// # Errors
     ///
-    /// `OtherNumber` exactly if `done` names another number than that of the lines; else `Line` with the first line that
-    /// has a refusal; else `LastChange` exactly if rows would be inserted or deleted at the last number of changes. Out
+    /// `OtherNumber` if `done` names another number than that of the lines; else `Line` with the first line that
+    /// has a refusal; else `LastChange` if rows would be inserted or deleted at the last number of changes. Out
     /// of memory `Line` with `NoMemory`, or `NoMemory` once all lines have passed: cursors over a query or union are
     /// then stale by the first relation that lines name and it reads, and it has no delta. A refused transaction changes
     /// no row; the texts of lines that passed stay known.

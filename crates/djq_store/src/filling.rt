@@ -13,7 +13,7 @@ fn vacant_slot(unions: &[Option<Joined>]) -> Option<usize>
     unions.iter().position(|slot| slot.is_none())
 }
 
-/// Puts a union into a vacant slot, and tells which.
+/// Puts a union into a vacant slot, and returns its number.
 ///
 /// # Errors
 ///

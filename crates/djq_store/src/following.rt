@@ -1,4 +1,4 @@
-//! What the unions of a store, and the affected, are behind a change of rows.
+//! The unions of a store, and the affected, after a change of rows.
 ghost use Rattle.std.specs.Prelude.{◌≡◌, ◌+◌, ◌≤◌, ◌<◌, ◌∷◌, [], ℕ, List, Some, true, false, All};
 ghost use Rattle.std.specs.Prelude.{filter, map, length, vec_capacity};
 ghost use Rattle.djq_model.specs.Data.{Bytes};
@@ -20,8 +20,8 @@ use djq_protocol::{AddOutcome, DeleteOutcome, DoneRefusal, LineRefusal, Refusal}
 use djq_transaction::Transaction;
 use std::sync::ledger::Ledger;
 
-/// Behind a change of these relations, made or tried, if there was one: the unions that read one are
-/// settled, and where it was made, what it affects is known.
+/// After a change of these relations, made or tried, if there was one: the unions that read one are updated, and if it
+/// was made, what it affects is recorded.
 pub fn follow<L: Ledger>(
     parts: &mut Parts,
     relations: &[Name],
@@ -64,7 +64,7 @@ pub fn has_union(parts: &Parts) -> bool
     parts.unions.iter().any(|slot| slot.is_some())
 }
 
-/// The same where no union is registered, whichever relations change.
+/// The same if no union is registered, whichever relations change.
 fn follow_alone(parts: &mut Parts, turn: Option<Turn>)
     requires alone { has_union parts.old.unions.items ≡ false }
     requires few { IfMade turn (length parts.old.engine.affected ≤ vec_capacity parts.old.affected) }
@@ -79,7 +79,7 @@ fn follow_alone(parts: &mut Parts, turn: Option<Turn>)
     }
 }
 
-/// The same behind a change of one relation. Its name is copied only where a union is registered.
+/// The same after a change of one relation. Its name is copied only if a union is registered.
 pub fn follow_one<L: Ledger>(
     parts: &mut Parts,
     relation: &Name,
@@ -114,7 +114,7 @@ pub fn follow_lacked(parts: &mut Parts, held: &Transaction)
     lack_all(&parts.engine, &mut parts.unions, held, seq);
 }
 
-/// What a change that was made affects is known: by the whole order where a union reads its relations.
+/// Records what a change that was made affects: by the whole order if a union reads its relations.
 fn know_affected(parts: &mut Parts, read: bool)
     requires low { All (λ id. id.at < QUERIES) parts.old.engine.affected }
     requires few { length parts.old.engine.affected ≤ vec_capacity parts.old.affected }
@@ -141,7 +141,7 @@ fn know_affected(parts: &mut Parts, read: bool)
     }
 }
 
-/// How rows changed, by what came of `add`.
+/// How rows changed, by the outcome of `add`.
 pub fn add_turn(outcome: &Result<AddOutcome, Refusal>) -> Option<Turn>
     ensures { result ≡ add_turn outcome.now }
 {
@@ -152,7 +152,7 @@ pub fn add_turn(outcome: &Result<AddOutcome, Refusal>) -> Option<Turn>
     }
 }
 
-/// By what came of `del`.
+/// By the outcome of `del`.
 pub fn delete_turn(outcome: &Result<DeleteOutcome, Refusal>) -> Option<Turn>
     ensures { result ≡ delete_turn outcome.now }
 {

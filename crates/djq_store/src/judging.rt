@@ -54,14 +54,14 @@ fn any_union(parts: &Parts, names: &[Name]) -> bool
     names.iter().any(|name| is_union(parts, name))
 }
 
-/// Whether a name stands among these.
+/// Whether a name is among these.
 fn stands_among(name: &Name, names: &[Name]) -> bool
     ensures { result ≡ list_any (λ m. bytes_eq m name.now) names.now }
 {
     names.iter().any(|other| *other == *name)
 }
 
-/// Whether a name stands among these twice.
+/// Whether a name occurs among these twice.
 fn stands_twice(names: &[Name]) -> bool
     ensures { result ≡ stands_twice names.now }
 {
@@ -101,7 +101,7 @@ fn types_differ(parts: &Parts, names: &[Name]) -> bool
     false
 }
 
-/// Whether the members of a union stand there twice, are unions, or have answers of different types.
+/// Whether the members of a union occur there twice, are unions, or have answers of different types.
 fn are_misfit(parts: &Parts, members: &[Name]) -> bool
     requires whole { StoreIsWhole parts.now }
     requires known { list_any (λ n. is_none (listed_of (store_kept_in parts.now).store.queries n)) members.now ≡ false }

@@ -23,7 +23,7 @@ pub fn is_member(unions: &[Option<Joined>], at: usize) -> bool
     unions.iter().any(|slot| has_member(slot, at))
 }
 
-/// Takes a place out of a list of places.
+/// Removes a place from a list of places.
 pub fn leave_out(places: &mut Vec<usize>, at: usize)
     ensures items { places.new.items ≡ places_without at places.old.items }
     ensures room { vec_capacity places.new ≡ vec_capacity places.old }

@@ -1,11 +1,11 @@
 //! The store: relations with their rows, the registered queries and unions of them, cursors over their
 //! answers, and how these changed last. A command of the protocol that reads or changes data is one call.
 //!
-//! A [`Store`] is what the join machine calls so, in code. Below it djq_engine keeps the relations and
+//! A [`Store`] is what the join machine calls so, in code. Below it djq_engine stores the relations and
 //! the queries, and knows no union; djq_united reads the cursors of one union, over the queries in their
-//! places; djq_gains tells how a union's answers changed, from how its members' did. What is added here
+//! places; djq_gains computes how a union's answers changed, from how its members' did. What is added here
 //! is one order of registration, one space of names and ids, and who watches what. Contracts see the
-//! record that an engine shows them too, `Kept` of djq_engine (`specs/Places.antt` says which).
+//! record that an engine shows them too, `Kept` of djq_engine (`specs/Places.antt`).
 //!
 //! What surprises: an answer of a union is given and lent in the order of its first member's tree, whoever
 //! has it. A union's cursors are outdated by a change of any relation that a member reads, as a query's

@@ -2,16 +2,16 @@ use crate::joined::Joined;
 use djq_engine::Engine;
 use std::alloc::Global;
 
-/// What a store keeps.
+/// The parts of a store.
 #[derive(Drop)]
 pub struct Parts {
     pub alloc: Global,
     /// The relations, and the queries in their places.
     pub engine: Engine,
-    /// The unions, each in a slot. A slot keeps its union until that is dropped, and is vacant then.
+    /// The unions, each in a slot. A slot has its union until that is dropped, and is vacant then.
     pub unions: Vec<Option<Joined>>,
     /// The places of all that is registered, in order of registration: a query's place in the engine, and a
-    /// union's slot behind those of queries. There is room for all.
+    /// union's slot after those of queries. There is room for all.
     pub order: Vec<usize>,
     /// For each place of a query how many sessions watch it.
     pub sessions: Vec<u32>,

@@ -63,7 +63,7 @@ fn next_at<L: Ledgers>(
     }
 }
 
-/// Tells whether an answer is left for one.
+/// Whether an answer is left for one.
 fn more_at<L: Ledgers>(
     unions: &mut Vec<Option<Joined>>,
     slot: usize,
@@ -87,7 +87,7 @@ impl Store {
     ///
     /// # Errors
     ///
-    /// `NoQuery` where none has the name; `NoMemory` out of memory. Nothing has changed.
+    /// `NoQuery` if none has the name; `NoMemory` out of memory. Nothing has changed.
     pub fn open(&mut self, name: &Name) -> Result<CursorId, Refusal>
         ensures { CursorOpenGives self.old name.now result self.new }
     {
@@ -107,7 +107,7 @@ impl Store {
     }
 
     /// Reads an open cursor: gives a further answer, or reports that none is left, or what made it
-    /// stale. It takes no memory.
+    /// stale. It needs no memory.
     pub fn next<L: Ledgers>(
         &mut self,
         id: CursorId,
@@ -135,8 +135,8 @@ impl Store {
         )
     }
 
-    /// Whether a further answer is left for a cursor that isn't stale; where none is, it stands at
-    /// its end. It takes no memory.
+    /// Whether a further answer is left for a cursor that isn't stale; if none is, it is at its
+    /// end. It needs no memory.
     pub fn more<L: Ledgers>(&mut self, id: CursorId, listing: &mut Tally<Listing<L>>) -> bool
         requires { IsFresh self.old id }
         ensures { MoreGives self.old id result self.new listing.old listing.new }
@@ -152,7 +152,7 @@ impl Store {
         more_at(&mut self.parts.unions, slot, id.cursor, queries, listing)
     }
 
-    /// Gives up an open cursor. Its id may come again from [`open`](Store::open).
+    /// Closes an open cursor. Its id may be used again by [`open`](Store::open).
     pub fn close(&mut self, id: CursorId)
         requires { IsHeld self.old id }
         ensures { ClosesCursor self.old id self.new }

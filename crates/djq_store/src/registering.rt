@@ -48,7 +48,7 @@ fn member_in(queries: &[Option<LiveQuery>], place: usize) -> &LiveQuery
     }
 }
 
-/// How many atoms a query has. They stand in memory, with 64 bytes or more each, so they are few.
+/// How many atoms a query has. They are in memory, with 64 bytes or more each, so they are few.
 fn atoms_of(query: &LiveQuery) -> u64
     ensures count { result ≡ length query.now.query.atoms }
     ensures few { result < 2 ^ 58 }
@@ -58,7 +58,7 @@ fn atoms_of(query: &LiveQuery) -> u64
     atoms.len() as u64
 }
 
-/// The most lookups and links that an answer of a union of queries takes.
+/// The most lookups and links that an answer of a union of queries costs.
 fn most_of(queries: &[Option<LiveQuery>], members: &[usize]) -> u64
     requires members { AreMembers queries.now members.now }
     requires kept { All IsKeptSomewhere (queries_at queries.now members.now) }
@@ -75,15 +75,15 @@ fn most_of(queries: &[Option<LiveQuery>], members: &[usize]) -> u64
 }
 
 impl Store {
-    /// Registers a free-connex query, and tells how many lookups and links one of its answers takes
-    /// at most; or tells a rest that shows why the query isn't free-connex.
+    /// Registers a free-connex query, and returns how many lookups and links one of its answers costs at most; or
+    /// returns a rest that shows why the query isn't free-connex.
     ///
     /// # Errors
     ///
-    /// `Taken` where a query or union has the name; the first fault that the query has; `Limit` at
-    /// [`QUERIES`](djq_protocol::limits::QUERIES) queries and unions, or where a text of a free-connex query is
-    /// unknown and as many are known as may be; `NoMemory` out of memory. Texts that became known
-    /// stay so, and nothing else has changed.
+    /// `Taken` if a query or union has the name; the first fault that the query has; `Limit` at
+    /// [`QUERIES`](djq_protocol::limits::QUERIES) queries and unions, or if a text of a free-connex query is unknown and
+    /// as many are known as may be; `NoMemory` out of memory. Texts that became known stay so, and nothing else has
+    /// changed.
     pub fn query<L: Ledgers>(
         &mut self,
         query: Query,
@@ -117,13 +117,13 @@ impl Store {
         outcome
     }
 
-    /// Registers the union of some registered queries, and tells how many lookups and links one of its answers
-    /// takes at most.
+    /// Registers the union of some registered queries, and returns how many lookups and links one of its answers costs
+    /// at most.
     ///
     /// # Errors
     ///
-    /// `Taken` where a query or union has the name; `NoQuery` where none has a member's; `Member` where a member's
-    /// name stands twice or is a union's, or where the answers of members have other types; `Limit` above
+    /// `Taken` if a query or union has the name; `NoQuery` if none has a member's; `Member` if a member's name occurs
+    /// twice or is a union's, or if the answers of members have other types; `Limit` above
     /// [`MEMBERS`](djq_protocol::limits::MEMBERS) members, and at [`QUERIES`](djq_protocol::limits::QUERIES) queries and
     /// unions; `NoMemory` out of memory. Nothing has changed.
     pub fn add_union(&mut self, name: Name, members: &[Name]) -> Result<u64, Refusal>
@@ -156,11 +156,11 @@ impl Store {
     }
 
     /// Drops a query or union: it is registered no more. The ids of others and of their cursors stay.
-    /// It takes no memory.
+    /// It needs no memory.
     ///
     /// # Errors
     ///
-    /// `NoQuery` where none has the name; `InUse` where a cursor is over it, stale or not, a session watches it, or
+    /// `NoQuery` if none has the name; `InUse` if a cursor is over it, stale or not, a session watches it, or
     /// it is a member of a union. Nothing has changed.
     pub fn drop_query(&mut self, name: &Name) -> Result<(), Refusal>
         ensures { DropGives self.old name.now result self.new }

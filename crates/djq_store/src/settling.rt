@@ -1,4 +1,4 @@
-//! What a change of rows does to unions: their cursors, and what is told of them.
+//! What a change of rows does to unions: to their cursors, and to their logs.
 ghost use Rattle.std.specs.Prelude.{◌≡◌, ◌+◌, ◌≤◌, ℕ, Some, length, take, sum_by};
 ghost use Rattle.std.specs.List.{list_any};
 ghost use Rattle.djq_protocol.specs.declared.limits.TheConstants.{MEMBERS};
@@ -83,7 +83,7 @@ fn first_read(queries: &[Option<LiveQuery>], members: &[usize], relations: &[Nam
     None
 }
 
-/// Puts the members that read one of these relations to the front, and tells how many they are.
+/// Puts the members that read one of these relations to the front, and returns how many they are.
 fn touched_members(
     queries: &[Option<LiveQuery>],
     members: &[usize],
@@ -105,8 +105,7 @@ fn touched_members(
     count
 }
 
-/// Tells of a union that a change outdates: how its answers changed, where a session watches it; and of nothing
-/// where memory was refused.
+/// Lists the delta of a union that a change outdates, if a session watches it; and none if memory was refused.
 fn tell<L: Ledger>(
     alloc: Global,
     engine: &Engine,
@@ -143,8 +142,8 @@ fn tell<L: Ledger>(
     );
 }
 
-/// Settles a union: where a member reads one of these relations, its cursors become stale, and its log tells of
-/// the change. Whether one does is told.
+/// Updates a union: if a member reads one of these relations, its cursors become stale, and the change is listed
+/// into its log. Returns whether one does.
 fn settle<L: Ledger>(
     alloc: Global,
     engine: &Engine,
@@ -194,7 +193,7 @@ fn settle_slot<L: Ledger>(
     }
 }
 
-/// Settles all unions behind a change of these relations, of this number. Whether it outdates one is told.
+/// Updates all unions after a change of these relations, of this number. Returns whether it outdates one.
 pub fn settle_all<L: Ledger>(
     alloc: Global,
     engine: &Engine,

@@ -35,7 +35,7 @@ impl Model for Store {
 }
 
 impl Store {
-    /// A store without relations, queries, unions and cursors. It takes the room for their order.
+    /// A store without relations, queries, unions and cursors. It reserves the room for their order.
     ///
     /// # Errors
     ///
@@ -79,14 +79,14 @@ impl Store {
         self.parts.engine.row_total()
     }
 
-    /// The number of rows of a relation, 0 where there is none of the name.
+    /// The number of rows of a relation, 0 if there is none of the name.
     pub fn rows(&self, name: &Name) -> u64
         ensures { result ≡ length (rows_of self.now.store.relations name.now) }
     {
         self.parts.engine.rows(name)
     }
 
-    /// The engine below, for what it says of the queries that aren't unions.
+    /// The engine below, for the queries that aren't unions.
     pub fn engine(&self) -> &Engine
         ensures { LendsEngine self.now result.now }
     {
@@ -94,7 +94,7 @@ impl Store {
         &self.parts.engine
     }
 
-    /// The id of a query or union. `None` exactly where none has the name.
+    /// The id of a query or union. `None` if none has the name.
     pub fn query_id(&self, name: &Name) -> Option<QueryId>
         ensures { result ≡ option_map (λ r. r.id) (registered_of self.now.registered name.now) }
     {

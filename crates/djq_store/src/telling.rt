@@ -10,7 +10,7 @@ use djq_enumeration::Line;
 use djq_protocol::Sign;
 use djq_protocol::limits::QUERIES;
 
-/// How many lines the log of a union has. `None` where it was lost.
+/// How many lines the log of a union has. `None` if it was lost.
 fn told_len(joined: &Joined) -> Option<usize>
     ensures { result ≡ (if joined.now.log.lost then None else Some (length joined.now.log.lines)) }
 {
@@ -46,9 +46,9 @@ impl Store {
         }
     }
 
-    /// How many answers of a query or union came or went with the last change of a relation that it reads,
-    /// while it was watched; 0 once a row was refused there for want of memory. `None` where that
-    /// was lost for want of memory.
+    /// How many answers of a query or union were added or removed by the last change of a relation that it
+    /// reads, while it was watched; 0 once a row was refused there for want of memory. `None` if that was
+    /// lost for want of memory.
     pub fn delta_len(&self, id: QueryId) -> Option<usize>
         requires { IsRegistered self.now id }
         ensures { result ≡ option_map (λ changes. length changes) (told_at self.now id) }
@@ -60,7 +60,7 @@ impl Store {
         told_len(joined_in(self.parts.unions.as_slice(), id.at - QUERIES))
     }
 
-    /// One of them: whether it came or went, and the answer, lent.
+    /// One of them: whether it was added or removed, and the answer, lent.
     pub fn delta_line(&self, id: QueryId, nth: usize) -> (Sign, LentAnswer<'_>)
         requires registered { IsRegistered self.now id }
         requires within { IsSomeAnd (told_at self.now id) (λ changes. nth < length changes) }

@@ -103,7 +103,7 @@ fn unwatch_union(parts: &mut Parts, slot: usize)
 }
 
 impl Store {
-    /// A session more watches a query or union. Its changes are told from now on. It takes no memory.
+    /// A session more watches a query or union. Its changes are listed from now on. It needs no memory.
     pub fn watch(&mut self, id: QueryId)
         requires registered { IsRegistered self.old id }
         requires few { IsSomeAnd (registered_at self.old.registered id)
@@ -121,7 +121,7 @@ impl Store {
         watch_union(&mut self.parts, id.at - QUERIES);
     }
 
-    /// A session that watched a query or union does so no more. It takes no memory.
+    /// A session that watched a query or union does so no more. It needs no memory.
     pub fn unwatch(&mut self, id: QueryId)
         requires { IsSomeAnd (registered_at self.old.registered id) (λ r. 0 < r.watchers) }
         ensures { self.new ≡ record self.old {

@@ -7,14 +7,13 @@
 //! ```text
 //! rel r int int, add r 1 2         relations: r with the row (1,2), one copy; seq 1
 //! query q(x) <- r(x,_)             queries: q, in order of registration
-//! add r 1 2                        r with the row (1,2), two copies; seq 1: no row came
+//! add r 1 2                        r with the row (1,2), two copies; seq 1: no row is new
 //! ```
 //!
 //! To read first: `specs/Store.antt`, what a store contains; then `Changes.antt`, what a change of rows is, and
-//! `Delta.antt`, how answers change with it. `Relations`, `Rows`, `Registering`, `Union` and `Transaction`
-//! have for each command its refusals in their order and what it does (of `done` `Judging`, `Done` and `Lines` say why
-//! it is refused and what it leaves); `Asking` and `Listing` what it may
-//! return; `DeltaCost` what listing a delta may cost.
+//! `Delta.antt`, how answers change with it. `Relations`, `Rows`, `Registering`, `Union` and `Transaction` have for
+//! each command its refusals in their order and what it does (of `done` `Judging`, `Done` and `Lines` define why it is
+//! refused and what it leaves); `Asking` and `Listing` what it may return; `DeltaCost` what listing a delta may cost.
 //!
 //! What surprises: what a command does is a relation and no function, so it leaves open what the
 //! product leaves open: the order of rows and of answers, and when memory runs out.

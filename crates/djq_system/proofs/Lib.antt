@@ -1,1 +1,2 @@
 pub mod FileHistory
+pub mod SourceReadings

@@ -31,7 +31,7 @@ abbrev pub is_length : DiskLen → List ℕ → Bool
 is_length (Len n) bytes = n == length bytes
 is_length Unmeasured bytes = true
 
--- what a read at a place gave stands there in these bytes, and it is the end exactly where none do
+-- what a read at a place gave is there in these bytes, and it is the end if and only if none are
 abbrev pub stands_there : DiskRead → ℕ → List ℕ → List ℕ → Bool
 stands_there (Got n) at gave bytes = nat_le (at + n) (length bytes) && bytes_eq gave (take n (drop at bytes))
 stands_there End at gave bytes = nat_le (length bytes) at

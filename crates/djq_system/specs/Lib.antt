@@ -1,5 +1,6 @@
 pub mod StdSink
 pub mod StdSource
+pub mod InputTold
 pub mod Tcp
 pub mod Found
 pub mod Request

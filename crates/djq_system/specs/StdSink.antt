@@ -15,7 +15,7 @@ pub record ShownByWriter : Type 0 where
   pub writes : List Write
   pub faults : ℕ
 
--- the answer of a write that is noted by how many bytes it took, or by no number
+-- the answer of a write that is noted by how many bytes it accepted, or by no number
 abbrev pub wrote_noted : List ℕ → Wrote
 wrote_noted [] = Failed
 wrote_noted (n ∷ _) = Took n

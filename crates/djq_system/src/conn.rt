@@ -14,7 +14,7 @@ use std::net::Shutdown;
 pub(crate) struct Conn {
     pub id: u64,
     stream: TcpStream,
-    /// Whether it may have bytes. A read that takes all that there is clears it, and an event of the system sets it
+    /// Whether it may have bytes. A read of all that there is clears it, and an event of the system sets it
     /// again.
     pub ready: bool,
     /// Whether its input has ended, so that nothing is read any more.
@@ -71,7 +71,7 @@ impl Conn {
         found
     }
 
-    /// Reads what the client sent. Where that is less than there is room for, the system has no more, and reports what
+    /// Reads what the client sent. If that is less than there is room for, the system has no more, and reports what
     /// arrives later: no further read finds that out. That the client sends no more is reported once, perhaps
     /// before this read.
     fn take(&mut self, buf: &mut [u8]) -> Found
@@ -177,7 +177,7 @@ impl Conn {
 }
 
 /// The index of the connection with this id among those with rising ids. Ids are given one after the other. So it is most
-/// often as many places behind the first as its id is above the first's, and is looked for there before it is searched.
+/// often as many places after the first as its id is above the first's, and is looked for there before it is searched.
 #[inline]
 fn place_of(conns: &[Conn], id: u64) -> Option<usize>
     ensures { IfSome result (λ at. at < length conns.now) }
@@ -192,7 +192,7 @@ fn place_of(conns: &[Conn], id: u64) -> Option<usize>
     search(conns, id)
 }
 
-/// The same by a search. It stands apart so that the way of a connection that is full is free of it.
+/// The same by a search. It is a function of its own so that the path of a full connection is free of it.
 #[cold]
 #[inline(never)]
 fn search(conns: &[Conn], id: u64) -> Option<usize>

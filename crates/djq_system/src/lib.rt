@@ -5,12 +5,12 @@
 //! [`StdSink`] a reader and a writer of `std::io`, such as [`StandardInput`] and [`StandardOutput`]. Each
 //! is a few lines over std, `mio` or `libc`, and each counts its faults.
 //!
-//! [`StdSink`], [`TcpHub`] and [`FileDisk`] note each call with its answer, in a list that exists in the proofs alone and
-//! takes no memory. So what is proved of the bytes that are written, brought, sent and stored holds of them. That they
-//! make the calls that they note has to be read. What a crash leaves of a file no call answers: a disk tells the history
-//! that follows from its calls and an [`Oracle`] of what no answer tells, and nothing if a file with that oracle
-//! wouldn't have answered so. [`StdSource`] shows no record (it is `None`): it would contain the bytes that are left to
-//! read.
+//! [`StdSource`], [`StdSink`], [`TcpHub`] and [`FileDisk`] note each call with its answer, in a list that exists in the
+//! proofs alone and uses no memory. So what is proved of the bytes that are read, written, brought, sent and stored holds
+//! of them. That they make the calls that they note has to be read. Which bytes an input has before they are read, and
+//! what a crash leaves of a file, no call answers: an [`Oracle`] defines it. A source shows the reading, and a disk the
+//! history, that follow from their calls and the oracle, and nothing if an input or a file with that oracle wouldn't have
+//! answered so. Some input would always have ([`some_input_is_told`]).
 //!
 //! What this crate is not: it runs no lines, has no authentication and no encryption, and buffers
 //! nothing. What a client doesn't read remains with the server, which ends such a session by its
@@ -93,5 +93,5 @@ pub use file_disk::FileDisk;
 pub use oracle::Oracle;
 pub use standard::{StandardInput, StandardOutput};
 pub use std_sink::StdSink;
-pub use std_source::StdSource;
+pub use std_source::{StdSource, some_input_is_told};
 pub use tcp_hub::{PLACES, TcpHub};

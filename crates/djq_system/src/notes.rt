@@ -6,7 +6,7 @@ ghost use Rattle.djq_system.specs.Notes.{Noted};
 use std::fmt::{self, Debug, Formatter};
 use std::marker::{Model, PhantomData};
 
-/// The calls so far with their answers, which take no bytes: they exist in the proofs alone.
+/// The calls so far with their answers, which use no bytes: they exist in the proofs alone.
 #[derive(Drop)]
 pub struct Notes {
     marker: PhantomData<u8>,

@@ -402,7 +402,7 @@ impl<R: Net<Listener = net::TcpListener, Stream = net::TcpStream> + Eprint + Clo
 
     #[inline(always)]
     fn send(&mut self, id: u64, piece: &[u8]) -> Sent {
-        // Beside clients that don't read a flush comes to many that are full, one after the other.
+        // If clients don't read, a flush visits many that are full, one after the other.
         if self.flushed < id && conn::is_full(&self.conns, id) {
             self.flushed = id;
             note_send(&mut self.notes, id, piece, Sent::Again);
@@ -438,7 +438,7 @@ impl<R: Net<Listener = net::TcpListener, Stream = net::TcpStream> + Eprint + Clo
     fn close(&mut self, id: u64) {
         conn::close(&mut self.conns, id);
         note_close(&mut self.notes, id);
-        // The places behind it move down by one.
+        // The places after it move down by one.
         self.ready_from = self.ready_from.saturating_sub(1);
         self.sessions.close(id);
         self.some = self.has_some();

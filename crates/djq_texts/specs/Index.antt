@@ -32,7 +32,7 @@ pub record IsTextIndex (known : List (Option Known)) (links heads : List (Option
   pub some : 1 < length heads
   pub few : length known ≤ SLOTS
 
--- the first upper number for so many buckets: fewer are enough where no text has an upper number
+-- the first upper number for so many buckets: fewer are enough if no text has an upper number
 abbrev pub quarter : ℕ → ℕ
 quarter buckets = (buckets - 1) / 4
 

@@ -59,12 +59,12 @@ abbrev pub with_more : Option Known → Option Known
 with_more None = None
 with_more (Some k) = Some (record { bytes = k.bytes; uses = k.uses + 1 })
 
--- a text with a use less: with the last one it goes
+-- a text with a use less: with the last one it is forgotten
 abbrev pub with_less : Option Known → Option Known
 with_less None = None
 with_less (Some k) = cond (k.uses == 1) None (Some (record { bytes = k.bytes; uses = k.uses - 1 }))
 
--- a text of these bytes, where it is used at all
+-- a text of these bytes, if it is used at all
 abbrev pub number_entry : ℕ → List ℕ → Option Known
 number_entry uses bytes = cond (uses == 0) None (Some (record { bytes = bytes; uses = uses }))
 
@@ -80,7 +80,7 @@ pub record AddsUse (old : List (Option Known)) (text : List ℕ) (n : ℕ) (new 
   pub before : known_at old n ≡ Some (record { bytes = text; uses = uses })
   pub sets : Sets old n (Some (record { bytes = text; uses = uses + 1 })) new
 
--- a use of a text is taken, under this number
+-- a use of a text is added, under this number
 abbrev pub TakesUse : List (Option Known) → List ℕ → ℕ → List (Option Known) → Type 0
 TakesUse old text n new = Enters old text n new ⊎ AddsUse old text n new
 
@@ -88,7 +88,7 @@ TakesUse old text n new = Enters old text n new ⊎ AddsUse old text n new
 abbrev pub HasFree : List (Option Known) → Type 0
 HasFree known = (n : ℕ) × (n < length known) × (known_at known n ≡ None)
 
--- a number has a place, or is the next one where no number that has a place is free
+-- a number has a place, or is the next one if no number that has a place is free
 abbrev pub TakesPlace : List (Option Known) → ℕ → Type 0
 TakesPlace known n = (n ≤ length known) × (HasFree known → n < length known)
 
@@ -96,7 +96,7 @@ TakesPlace known n = (n ≤ length known) × (HasFree known → n < length known
 abbrev pub HasMost : List (Option Known) → List ℕ → Type 0
 HasMost known text = (n : ℕ) × (known_at known n ≡ Some (record { bytes = text; uses = MOST_USES }))
 
--- why no use of a text can be taken whatever memory there is: it has as many as can be counted, or it isn't in use and as
+-- why no use of a text can be added whatever memory there is: it has as many as can be counted, or it isn't in use and as
 -- many texts are as there may be
 abbrev pub IsFullFor : List (Option Known) → List ℕ → Type 0
 IsFullFor known text = HasMost known text ⊎ ((texts_in_use known ≡ SLOTS) × HasNoNumber known text)

@@ -9,7 +9,7 @@ use std::marker::Model;
 /// How many uses of one text are counted.
 pub const MOST_USES: u64 = 18_446_744_073_709_551_615;
 
-/// What has a number. Contracts see the text with its uses, or none where the number is free.
+/// What has a number. Contracts see the text with its uses, or none if the number is free.
 #[derive(Debug, Drop)]
 pub(crate) struct Entry {
     uses: u64,
@@ -57,7 +57,7 @@ impl Entry {
         if self.uses == 0 { 0 } else { 1 }
     }
 
-    /// How often the text is used; never, where the number is free.
+    /// How often the text is used; 0 if the number is free.
     pub(crate) fn uses(&self) -> u64
         ensures uses { result ≡ uses_of self.now }
         ensures used { (k : Known) → self.now ≡ Some k → 0 < k.uses }
@@ -90,7 +90,7 @@ impl Entry {
         self.uses += 1;
     }
 
-    /// Takes a use away that isn't the last.
+    /// Removes a use that isn't the last.
     pub(crate) fn lose_use(&mut self)
         requires { 1 < uses_of self.old }
         ensures { self.new ≡ with_less self.old }

@@ -5,7 +5,7 @@ ghost use Rattle.djq_arena.specs.declared.link.TheConstants.{SLOTS};
 
 use djq_arena::Link;
 
-/// Where the link of a number, or the head of a bucket, points to.
+/// What the link of a number, or the head of a bucket, points to.
 pub(crate) fn link_of(links: &Vec<Link>, at: usize) -> Link
     requires { at < length links.now.items }
     ensures { result ≡ link_at links.now.items at }
@@ -48,7 +48,7 @@ fn before(links: &Vec<Link>, head: Link, number: u32) -> Link
     before
 }
 
-/// Takes a number out of its bucket.
+/// Removes a number from its bucket.
 pub(crate) fn unlist(links: &mut Vec<Link>, heads: &mut Vec<Link>, class: usize, number: u32)
     requires class { class < length heads.old.items }
     requires stands { StandsInChain links.old.items (link_at heads.old.items class) number }

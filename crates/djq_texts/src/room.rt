@@ -28,7 +28,7 @@ pub(crate) fn quarter(buckets: usize) -> usize
     (buckets - 1) / 4
 }
 
-/// What a number counts among the upper ones: one where it is one of them, and else nothing.
+/// What a number counts among the upper ones: one if it is one of them, and else nothing.
 pub(crate) fn share(number: u32, buckets: usize) -> usize
     requires { 0 < buckets }
     ensures most { result ≤ 1 }
@@ -116,9 +116,9 @@ fn relist(store: &mut Store)
     list_all(&store.entries, &mut store.links, &mut store.heads);
 }
 
-/// Room in the buckets for one more number, where all are in use: twice as many buckets for texts where there are no
-/// more of them than numbers. It is given how many texts have an upper number, and returns how many have one afterwards.
-/// Where there is no memory, all stays as it was.
+/// Room in the buckets for one more number, if all are in use: twice as many buckets for texts if there are no more of them
+/// than numbers. It is given how many texts have an upper number, and returns how many have one afterwards. Out of memory,
+/// nothing changes.
 pub(crate) fn widen(store: &mut Store, high: usize) -> Result<usize, AllocError>
     requires index { IsTextIndex store.old.entries.items store.old.links.items store.old.heads.items }
     requires full { (n : ℕ) → n < length store.old.entries.items → IsSome (known_at store.old.entries.items n) }
@@ -150,8 +150,8 @@ fn cut<T: Drop>(items: &mut Vec<T>, len: usize, room: usize)
 }
 
 /// Leaves as few places for numbers and as few buckets as the highest number in use allows, if no text has an upper number.
-/// It is given how many have one, and returns how many have one afterwards. It asks for no memory; what the allocator
-/// refuses to take back stays.
+/// It is given how many have one, and returns how many have one afterwards. It asks for no memory; memory that the
+/// allocator refuses to shrink stays.
 pub(crate) fn narrow(store: &mut Store, high: usize) -> usize
     requires index { IsTextIndex store.old.entries.items store.old.links.items store.old.heads.items }
     requires room { length store.old.entries.items < length store.old.heads.items }

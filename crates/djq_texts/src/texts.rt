@@ -117,13 +117,13 @@ impl Texts {
         self.store.entries[number as usize].uses()
     }
 
-    /// Takes a use of a text, and returns its number. A text that isn't in use is given a free number, or the next one where
+    /// Adds a use of a text, and returns its number. A text that isn't in use is given a free number, or the next one if
     /// none is free.
     ///
     /// # Errors
     ///
-    /// [`TextsRefusal::Full`] exactly where the text isn't in use and [`SLOTS`] texts are, or where it has [`MOST_USES`]
-    /// uses; else [`TextsRefusal::NoMem`] out of memory, of a text that isn't in use alone. Nothing has changed.
+    /// [`TextsRefusal::Full`] if the text isn't in use and [`SLOTS`] texts are, or if it has [`MOST_USES`] uses; else
+    /// [`TextsRefusal::NoMem`] out of memory, of a text that isn't in use alone. Nothing has changed.
     pub fn take_use(&mut self, text: &[u8]) -> Result<u32, TextsRefusal>
         ensures ok { IfOk result (λ n. TakesUse self.old text.now n self.new) }
         ensures number { IfOk result (λ n. HasNumber self.new n text.now) }
@@ -164,7 +164,7 @@ impl Texts {
     ///
     /// The memory of a text that is forgotten is given back. If texts are left only among the lowest quarter of the places,
     /// the store is made smaller, so that it has at most sixteen places or fewer than four times as many as up to the
-    /// highest number in use ([`Texts::laws`]). Memory that the allocator refuses to take back stays.
+    /// highest number in use ([`Texts::laws`]). Memory that the allocator refuses to shrink stays.
     pub fn give_back(&mut self, number: u32)
         requires { IsSome (known_at self.old number) }
         ensures { Sets self.old number (with_less (known_at self.old number)) self.new }
@@ -230,7 +230,7 @@ impl Texts {
         Ok(())
     }
 
-    /// Puts in a text that isn't in use, under the next number, where all are in use.
+    /// Inserts a text that isn't in use, under the next number, if all are in use.
     fn extend(&mut self, text: &[u8], hash: u64) -> Result<u32, AllocError>
         requires hash { hash ≡ text_hash text.now }
         requires unknown { HasNoNumber self.old text.now }

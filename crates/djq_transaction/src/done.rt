@@ -49,9 +49,9 @@ fn is_past_last(net: &Net, seq: u64) -> bool
 ///
 /// # Errors
 ///
-/// `OtherNumber` exactly if another number is named. Else `Line` as [`judge_all`] refuses: the first line that has a
-/// refusal. Else `LastChange` exactly if a row is inserted or removed at the last number of changes. The texts of lines
-/// that passed are known. It never answers `NoMemory`.
+/// `OtherNumber` if another number is named. Else `Line` as [`judge_all`] refuses: the first line that has a refusal.
+/// Else `LastChange` if a row is inserted or removed at the last number of changes. The texts of lines that passed are
+/// known. It never answers `NoMemory`.
 pub fn judge_done<L: Ledger>(
     catalog: &mut Catalog,
     alloc: Global,

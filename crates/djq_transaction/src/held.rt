@@ -12,7 +12,7 @@ use djq_protocol::limits::{HELD, HELD_BYTES};
 use std::alloc::Global;
 use std::marker::Model;
 
-/// What a line does, to a row of which relation, and where its values and its bytes are.
+/// What a line does, to a row of which relation, and the places of its values and its bytes.
 #[derive(Clone, Copy, Debug)]
 pub struct Entry {
     /// What it does.
@@ -224,8 +224,7 @@ impl Transaction {
         &self.buffer.values[entry.row_start..entry.row_end]
     }
 
-    /// The line of the log at a place, from 0: `batch`, the held lines as received, `done`. None exactly from their
-    /// number on.
+    /// The line of the log at a place, from 0: `batch`, the held lines as received, `done`. None from their number on.
     pub fn line(&self, at: usize) -> Option<&[u8]>
         ensures { option_copied result ≡ slice_get (log_lines self.now) at }
     {

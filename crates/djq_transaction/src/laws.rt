@@ -7,9 +7,9 @@ ghost use Rattle.djq_transaction.specs.Settled.{LinesInsert, RowsInserted, Lines
 use djq_answer_laws::{answers_follow_rows, net_deltas};
 
 /// The new rows of a transaction lead from the relations before to those between, which only have more rows; the
-/// others lead from there to the relations after, which only have fewer. Which rows these are is said by relation, as
-/// [`group_rows`](crate::group_rows) lists them. So the answers that the first step adds and those that the
-/// second removes, without those in both, are the delta of the transaction.
+/// others lead from there to the relations after, which only have fewer. Which rows these are is stated by relation,
+/// as [`group_rows`](crate::group_rows) lists them. So the answers that the first step adds and those that the second
+/// removes, without those in both, are the delta of the transaction.
 pub fn lines_settle()
     ensures insert { LinesInsert }
     ensures inserted { RowsInserted }
@@ -40,7 +40,7 @@ pub fn lines_lead()
 {}
 
 /// That catalog has the rows of the relations after, but rows that stay may have other copies. So whoever reads no
-/// copies takes the one for the other.
+/// copies may use the one for the other.
 pub fn lines_leave()
     ensures rows { LeftRows }
     ensures same { LeftIsAfter }

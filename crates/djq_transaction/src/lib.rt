@@ -18,7 +18,7 @@
 //! A net is then applied. [`group_rows`] lists the rows that are inserted and those that are removed, by their
 //! relations: so all memory that they need is there before any row changes. [`insert_rows`] inserts the first in a
 //! catalog, or none of them, out of memory. [`remove_rows`] then removes the others and gives the rows that stay their
-//! copies; it takes no memory. [`undo_rows`] removes the inserted ones again instead, and takes none either: so a
+//! copies; it needs no memory. [`undo_rows`] removes the inserted ones again instead, and needs none either: so a
 //! transaction can be given up as long as no other row has changed. Between the two calls each row is there that is
 //! there before or after. [`lines_settle`] is the law of what this does to answers, [`lines_lead`] that of the groups.
 //!

@@ -197,8 +197,8 @@ impl Net {
     }
 }
 
-/// The row that cells stand for, in the relation at a place: its place among the rows, if it has one, and its
-/// copies. Its key is written.
+/// The row of these cells, in the relation at a place: its place among the rows, if it has one, and its copies.
+/// Its key is written.
 pub(crate) fn look_up<L: Ledger>(
     catalog: &Catalog,
     net: &Net,

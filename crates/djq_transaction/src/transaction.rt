@@ -114,8 +114,8 @@ fn judge_lines<L: Ledger>(
 ///
 /// # Errors
 ///
-/// The first line that has a refusal: `Limit` exactly if a row that it adds has as many copies as it may, or is new
-/// and its relation is full, or a text of it finds no place; `Absent` exactly if it deletes a row without a copy. Or
+/// The first line that has a refusal: `Limit` if a row that it adds has as many copies as it may, or is new
+/// and its relation is full, or a text of it finds no place; `Absent` if it deletes a row without a copy. Or
 /// `NoMemory`, out of memory, at a line before which no line names its row. The texts of the lines before it are known.
 pub fn judge_all<L: Ledger>(
     catalog: &mut Catalog,

@@ -12,7 +12,7 @@ use Rattle.djq_tree.specs.declared.choice.Choice.TheVariants.{Trim, Meet, Stuck}
 abbrev pub lowest : (ℕ → Bool) → List (List ℕ) → Option ℕ
 lowest test L = lowest_from test 0 (length L)
 
--- the removable variables at a place: those that lie in no other current label and that needn't be kept
+-- the removable variables at a place: those that lie in no other current label and that needn't stay
 abbrev pub removable : List ℕ → List (List ℕ) → ℕ → List ℕ
 removable keep L i = difference (filter (λ x. degree x L == 1) (label_at L i)) keep
 
@@ -51,6 +51,6 @@ abbrev pub choose_trim : List ℕ → List (List ℕ) → Option ℕ → Choice
 choose_trim keep L (Some i) = Trim i (removable keep L i)
 choose_trim keep L None = choose_equal L (lowest (λ a. is_some (twin L a)) L)
 
--- the step that the rule names, where the variables of `keep` may not be removed
+-- the step that the rule names, if the variables of `keep` may not be removed
 abbrev pub choose : List ℕ → List (List ℕ) → Choice
 choose keep L = choose_trim keep L (lowest (λ i. has_removable keep L i) L)

@@ -6,7 +6,7 @@ use Rattle.djq_tree.specs.declared.node.Node.{Node}
 use Rattle.djq_tree.specs.declared.node.Node.TheVariants.{Leaf, Trim, Meet}
 use Rattle.djq_tree.specs.Tree.{Tree, node_at, is_out}
 
--- a label: its variables in order of number with commas between them, or a dash where it has none
+-- a label: its variables in order of number with commas between them, or a dash if it has none
 abbrev pub label_text : List (List ℕ) → List ℕ → List ℕ
 label_text variables [] = codes "-"
 label_text variables (x ∷ xs) = name_at variables x ++ comma_listed variables xs

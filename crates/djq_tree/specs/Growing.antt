@@ -29,11 +29,11 @@ leaf_nodes (suc m) = leaf_nodes m ++ node.Leaf m ∷ []
 abbrev pub start : List (List ℕ) → Growth
 start H = record { nodes = leaf_nodes (length H); labels = H; numbers = numbers_below (length H); current = H }
 
--- a list without what stands at two of its places
+-- a list without the items at two of its places
 abbrev pub without_both : {A : Type 0} → List A → ℕ → ℕ → List A
 without_both xs i j = remove (remove xs (max i j)) (min i j)
 
--- the labels that are current after a step: the new node's comes last, since its number is the highest
+-- the labels that are current after a step: the new node's is the last, since its number is the highest
 abbrev pub current_after : List (List ℕ) → Choice → List (List ℕ)
 current_after L (Trim i X) = remove L i ++ difference (label_at L i) X ∷ []
 current_after L (Meet g s) = without_both L g s ++ label_at L g ∷ []
@@ -55,7 +55,7 @@ grown s (Meet g d) = record {
 }
 grown s Stuck = s
 
--- n steps by the choice rule, where the variables of `keep` may not be removed
+-- n steps by the choice rule, if the variables of `keep` may not be removed
 unfoldable pub grow : List ℕ → ℕ → Growth → Growth
 grow keep zero s = s
 grow keep (suc n) s = grown (grow keep n s) (choose keep (grow keep n s).current)
@@ -91,8 +91,8 @@ tree_of m F mid last = record {
   second_stage = length mid.nodes;
 }
 
--- t is the tree of the query with the edges H and the head F: the first stage keeps the head's variables and
--- is over where no others are left; the second keeps none and is over where one node is left, with no variable
+-- t is the tree of the query with the edges H and the head F: the first stage retains the head's variables and
+-- is over when no others are left; the second retains none and is over when one node is left, with no variable
 pub record IsTreeOf (H : List (List ℕ)) (F : List ℕ) (t : Tree) : Type 0 where
   pub mid : Growth
   pub first : IsStage (are_within F) F (start H) mid

@@ -12,7 +12,7 @@ key_under labels j k (Leaf a) = label_at labels j
 key_under labels j k (Trim c) = label_at labels k
 key_under labels j k (Meet g s) = cond (g == j) (label_at labels s) (label_at labels j)
 
--- the same where it may have no parent: the root's key is its own label
+-- the same if it may have no parent: the root's key is its own label
 abbrev pub key_by : Tree → ℕ → Option ℕ → List ℕ
 key_by t j None = label_at t.labels j
 key_by t j (Some k) = key_under t.labels j k (node_at t.nodes k)

@@ -19,6 +19,6 @@ abbrev pub levels_below : Tree → ℕ → List ℕ
 levels_below t zero = []
 levels_below t (suc k) = cond (nat_le t.second_stage k) (level_on k (node_at t.nodes k) (levels_below t k)) []
 
--- the levels of a listing, which goes down from the root: the second stage's trims, from the highest one on
+-- the levels of a listing, from the root down: the second stage's trims, from the highest one on
 abbrev pub levels : Tree → List ℕ
 levels t = levels_below t (length t.nodes)

@@ -77,20 +77,20 @@ pub record IsTree (t : Tree) : Type 0 where
   pub labelled : length t.labels ≡ length t.nodes
   pub marked : length t.out ≡ length t.nodes
   pub sets : AreVariableSets t.labels
-  -- the leaves come first, one for each atom, in the atoms' order; there is one at least
+  -- the leaves are the first nodes, one for each atom, in the atoms' order; there is one at least
   pub some : 0 < t.leaves
   pub fits : t.leaves ≤ length t.nodes
   pub leaf : (j : ℕ) → j < t.leaves → node_at t.nodes j ≡ Leaf j
   pub inner : (j a : ℕ) → j < length t.nodes → node_at t.nodes j ≡ Leaf a → j < t.leaves
   pub trim : (k c : ℕ) → node_at t.nodes k ≡ Trim c → IsTrim t.labels k c
   pub meet : (k g s : ℕ) → node_at t.nodes k ≡ Meet g s → IsMeet t.labels k g s
-  -- each node but the last, the root, is a child of exactly one node; the root's label is empty
+  -- each node but the last, the root, is a child of one node; the root's label is empty
   pub below : (j : ℕ) → j + 1 < length t.nodes → is_some (parent t.nodes j) ≡ true
   pub one_parent : (j k l : ℕ) → has_child (node_at t.nodes k) j ≡ true → has_child (node_at t.nodes l) j ≡ true → k ≡ l
   pub root : label_at t.labels (length t.nodes - 1) ≡ []
   -- a variable has one top at most, so the nodes that have it hang together
   pub one_top : (x j k : ℕ) → IsTop t.nodes t.labels x j → IsTop t.nodes t.labels x k → j ≡ k
-  -- `out` holds the root, and the children of an inner node exactly where it was made in the second stage
+  -- `out` holds the root, and the children of an inner node if and only if it was made in the second stage
   pub stages : (t.leaves ≤ t.second_stage) × (t.second_stage ≤ length t.nodes)
   pub root_out : is_out t.out (length t.nodes - 1) ≡ true
   pub out_split : (k j : ℕ) → has_child (node_at t.nodes k) j ≡ true → is_out t.out j ≡ nat_le t.second_stage k
@@ -113,12 +113,12 @@ climb nodes (suc n) j = climb_on (climb nodes n) j (parent nodes j)
 abbrev pub path_of : List Node → ℕ → List ℕ
 path_of nodes j = climb nodes (length nodes) j
 
--- the same where there may be no node to start at
+-- the same if there may be no node to start at
 abbrev pub path_or_none : List Node → Option ℕ → List ℕ
 path_or_none nodes None = []
 path_or_none nodes (Some j) = path_of nodes j
 
--- children have lower numbers, and a path's next node, where there is one, is a node
+-- children have lower numbers, and a path's next node, if there is one, is a node
 abbrev pub IsPlaced : List Node → Option ℕ → Type 0
 IsPlaced nodes next = IsRising nodes × ForSome next (λ j. j < length nodes)
 

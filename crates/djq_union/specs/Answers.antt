@@ -1,4 +1,4 @@
--- Lists of answers of any type, beside the test that tells what is one.
+-- Lists of answers of any type, and the test whether something is one.
 use Rattle.std.specs.Prelude.{◌≡◌, Bool, true, List, All, AllPairs, Contains}
 
 -- no two of a list are equal

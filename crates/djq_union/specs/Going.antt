@@ -1,4 +1,4 @@
--- How listings go on: a member's, and a union's.
+-- How listings advance: a member's, and a union's.
 use Rattle.std.specs.Prelude.{
   ◌≡◌,
   ℕ,
@@ -25,20 +25,20 @@ pub record AnswersGoOn {A : Type 0} (has : A → Bool) (old new : List A) (more 
   pub some : AreSomeCells has new
   pub all : OnFalse more (AreAllCells has old)
 
--- a member's listing, which may not have begun, goes on
+-- a member's listing, which may not have begun, advances
 pub record MemberGoesOn {M S A : Type 0} (has : M → A → Bool) (given : M → S → List A)
     (fits : M → S → Type 0) (m : M) (old new : Option S) (more : Bool) (out : A) : Type 0 where
   pub fit : IfSome new (λ begun. fits m begun)
   pub goes : AnswersGoOn (has m) (given_at given m old) (given_at given m new) more out
 
--- the i-th of these states goes on, and the others stay
+-- the i-th of these states advances, and the others stay
 abbrev pub MovesAt : {M S A : Type 0} → (M → A → Bool) → (M → S → List A) → (M → S → Type 0)
     → M → ℕ → List (Option S) → List (Option S) → Bool → A → Type 0
 MovesAt {M} {S} {A} has given fits m i old new more out =
     (moved : Option S) × (new ≡ slice_set old i moved)
     × MemberGoesOn has given fits m (slice_index_or old i None) moved more out
 
--- a union's listing goes on
+-- a union's listing advances
 pub record UnionGoesOn {M S A : Type 0} (has : M → A → Bool) (given : M → S → List A)
     (fits : M → S → Type 0) (ms : List M) (old new : List (Option S)) (more : Bool) (out : A)
     : Type 0 where

@@ -1,8 +1,8 @@
 //! The union of some registered queries: its members, its cursors, and what they give.
 //!
-//! A [`LiveUnion`] keeps a name, the places of its members, and cursors in slots. It has no tables
-//! of its own, and no queries: each call that needs them is lent the places of all queries, where
-//! the members stand. A cursor lists by djq_union what the members list by djq_live_query.
+//! A [`LiveUnion`] stores a name, the places of its members, and cursors in slots. It has no tables
+//! of its own, and no queries: each call that needs them is lent all queries in their places, among
+//! them the members. A cursor lists by djq_union what the members list by djq_live_query.
 //!
 //! ```text
 //! places    0 a(x,y)   1 -   2 b(u,v)   3 c(x)
@@ -12,16 +12,16 @@
 //!
 //! What surprises: members have numbers of their own for their variables, so a cell means nothing
 //! between them but in the order of the head. That is the coin: cells in the head's order of two
-//! members are equal exactly where they stand for equal values, since one dictionary gave all texts
+//! members are equal if and only if they represent equal values, since one dictionary gave all texts
 //! their numbers and the heads have the same types. What is given is then turned into the order of
 //! the first member's tree, so that whoever lends an answer of a query lends one of a union.
 //!
-//! It is no snapshot: cursors go on only while no member's tables change. Whoever changes them calls
-//! [`LiveUnion::outdate`]; what leaves them as they are leaves the cursors where they stand
+//! It is no snapshot: cursors continue only while no member's tables change. Whoever changes them
+//! calls [`LiveUnion::outdate`]; what leaves them as they are leaves the cursors unchanged
 //! ([`unions_stay`]).
 //!
-//! To read first: `specs/United.antt`, what a union is over queries in places, and where its cursors
-//! stand; then `specs/Reading.antt`, what reads give.
+//! To read first: `specs/United.antt`, what a union is over queries in places, and how far its
+//! cursors are; then `specs/Reading.antt`, what reads give.
 #![tactic(auto)]
 
 mod alike;

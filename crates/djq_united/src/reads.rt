@@ -1,4 +1,4 @@
-//! How one cursor of a union goes on.
+//! The reads of one cursor of a union.
 ghost use Rattle.std.specs.Prelude.{◌+◌, ◌≤◌};
 ghost use Rattle.djq_database.specs.Catalog.{Catalog as CatalogModel};
 ghost use Rattle.djq_live_query.specs.Member.{queries_at};

@@ -32,7 +32,7 @@ use std::alloc::Global;
 use std::marker::Model;
 
 /// The union of some registered queries. Each call that needs these is lent all queries in their
-/// places, where the members stand.
+/// places, among them the members.
 #[derive(Drop)]
 pub struct LiveUnion {
     name: Name,
@@ -83,7 +83,7 @@ impl LiveUnion {
         self.cursors.is_empty()
     }
 
-    /// Puts a cursor that has given nothing into a free slot, and tells which.
+    /// Puts a cursor that has given nothing into a free slot, and returns its number.
     ///
     /// # Errors
     ///
@@ -96,7 +96,7 @@ impl LiveUnion {
         self.cursors.open(UnionCursor::start())
     }
 
-    /// Takes the cursor out of a slot.
+    /// Removes the cursor from a slot.
     pub fn close(&mut self, slot: usize)
         requires { IsSome (slot_at self.old.cursors slot) }
         ensures closed { self.new
@@ -107,8 +107,8 @@ impl LiveUnion {
     }
 
     /// Reads the cursor in a slot: gives a further answer, as a tuple of the first member's tree, or
-    /// says that none is left, or what made it stale. It takes no memory, and counts at most what an
-    /// answer of the union takes.
+    /// returns that none is left, or what made it stale. It needs no memory, and counts at most what
+    /// an answer of the union costs.
     pub fn next<L: Ledgers>(
         &mut self,
         slot: usize,
@@ -129,8 +129,8 @@ impl LiveUnion {
         read(progress, queries, members, answer, listing)
     }
 
-    /// Whether a further answer is left for a cursor that isn't stale; where none is, it stands at
-    /// its end. It takes no memory, and counts no more than [`next`](LiveUnion::next).
+    /// Whether a further answer is left for a cursor that isn't stale; if none is, it is at its end.
+    /// It needs no memory, and counts no more than [`next`](LiveUnion::next).
     pub fn more<L: Ledgers>(
         &mut self,
         slot: usize,
@@ -149,8 +149,8 @@ impl LiveUnion {
         has_more(progress, queries, members, listing)
     }
 
-    /// Makes its open cursors stale, by a change of a relation of this number. Then it goes with
-    /// whatever tables its members have.
+    /// Makes its open cursors stale, by a change of a relation of this number. Then it fits whatever
+    /// tables its members have.
     pub fn outdate(&mut self, relation: Name, seq: u64)
         ensures outdated { self.new ≡ record self.old {
           cursors = outdated_slots relation seq self.old.cursors;

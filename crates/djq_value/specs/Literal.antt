@@ -26,7 +26,7 @@ is_name (b ∷ bs) = is_lower b && (list_all (λ c. is_lower c || is_digit c || 
 abbrev pub IsName : Bytes → Type 0
 IsName n = is_name n ≡ true
 
--- the number that digits denote, behind others that denote n
+-- the number that digits denote, after others that denote n
 abbrev pub digits_value : ℕ → Bytes → ℕ
 digits_value n [] = n
 digits_value n (d ∷ ds) = digits_value (n * 10 + (d - 48)) ds
@@ -54,7 +54,7 @@ is_small (negsuc n) = nat_le n 9223372036854775807
 abbrev pub has_name : List Bytes → Bytes → Bool
 has_name names name = list_any (bytes_eq name) names
 
--- whether each name stands once
+-- whether each name occurs once
 abbrev pub are_different : List Bytes → Bool
 are_different [] = true
 are_different (n ∷ ns) = not (has_name ns n) && are_different ns

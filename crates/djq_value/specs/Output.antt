@@ -1,4 +1,4 @@
--- What printing does to the output: its bytes, and the room behind them.
+-- What printing does to the output: its bytes, and the room after them.
 use Rattle.std.specs.Prelude.{◌≡◌, ◌+◌, ◌++◌, ◌<◌, ◌≤◌, Result, Ok, Err, length}
 use Rattle.bytes.specs.Filled.{Filled}
 use Rattle.djq_model.specs.Data.{Bytes}

@@ -12,12 +12,12 @@ use Rattle.djq_value.specs.ValueText.{value_text}
 use Rattle.djq_value.specs.declared.reading.ValueRefusal.{ValueRefusal}
 use Rattle.djq_value.specs.declared.reading.ValueRefusal.TheVariants.{Syntax, IntRange, TextLong, NoMem}
 
--- the literal that a token says, and what is behind the token; none where it says none
+-- the literal of a token, and what follows the token; none if it is none
 abbrev pub literal_in : Option (Token × Bytes) → Option (Value × Bytes)
 literal_in None = None
 literal_in (Some p) = option_map (λ v. (v, p.1)) (literal_of p.0)
 
--- the literal that is the first token of bytes, and what is behind it
+-- the literal that is the first token of bytes, and what follows it
 abbrev pub literal_at : Bytes → Option (Value × Bytes)
 literal_at bytes = literal_in (token_at bytes)
 
@@ -25,8 +25,8 @@ literal_at bytes = literal_in (token_at bytes)
 abbrev pub IsBehindSpaces : Bytes → ℕ → Type 0
 IsBehindSpaces bytes at = (at ≤ length bytes) × (drop at bytes ≡ behind_spaces bytes)
 
--- What reading a literal answers, by the literal in front of the bytes. Out of memory comes only for a text within its
--- limit.
+-- What reading a literal answers, by the literal in front of the bytes. Only for a text within its limit it is out of
+-- memory.
 abbrev pub ReadsValue : Bytes → Result (Value × ℕ) ValueRefusal → Type 0
 ReadsValue bytes (Ok p) = (literal_at bytes ≡ Some (p.0, drop p.1 bytes)) × (is_small_value p.0 ≡ true)
     × (p.1 ≤ length bytes)
@@ -48,7 +48,7 @@ abbrev pub IsLiteral : Value → Bytes → Type 0
 IsLiteral (Int i) w = integer_of w ≡ Some i
 IsLiteral (Text t) w = w ≡ value_text (Text t)
 
--- What is read is spelled, behind spaces and in front of what may follow a literal.
+-- What is read is spelled, after spaces and in front of what may follow a literal.
 abbrev pub IsSpelledBack : Type 0
 IsSpelledBack = (bytes : Bytes) (v : Value) (behind : Bytes) → literal_at bytes ≡ Some (v, behind)
     → (front : Bytes) × (w : Bytes) × IsSpaces front × (bytes ≡ front ++ (w ++ behind)) × IsLiteral v w

@@ -7,9 +7,8 @@ use Rattle.djq_value.specs.Literal.{is_small_value}
 use Rattle.djq_value.specs.declared.literal.LiteralRefusal.{LiteralRefusal}
 use Rattle.djq_value.specs.declared.literal.LiteralRefusal.TheVariants.{Syntax, Range, NoMem}
 
--- No literal is there, and `Syntax` is answered; or one is: then the answer is its value where it is within its
--- limit, `Range`
--- where it isn't, and out of memory only where it is and is a text, which is copied.
+-- No literal is there, and `Syntax` is answered; or one is: then the answer is its value if it is within its
+-- limit, `Range` if it isn't, and out of memory only if it is and is a text, which is copied.
 abbrev pub ReadsLiteral : Option Value → Result Value LiteralRefusal → Type 0
 ReadsLiteral None r = r ≡ Err Syntax
 ReadsLiteral (Some v) (Ok w) = (w ≡ v) × (is_small_value v ≡ true)

@@ -48,8 +48,8 @@ IsToken stray = ⊥
 abbrev pub BeginsOtherwise : ℕ → Bytes → Type 0
 BeginsOtherwise b bs = slice_get bs 0 ≢ Some b
 
--- What may stand just behind a token: behind a word or a text a space, a sign or nothing; behind `<`
--- and `>` nothing that makes a longer sign of them.
+-- What may follow a token directly: after a word or a text a space, a sign or nothing; after `<` and `>`
+-- nothing that makes a longer sign of them.
 abbrev pub MayFollow : Token → Bytes → Type 0
 MayFollow (word w) bs = may_end bs ≡ true
 MayFollow (text t) bs = may_end bs ≡ true
@@ -57,7 +57,7 @@ MayFollow (operator Less) bs = BeginsOtherwise 45 bs × BeginsOtherwise 61 bs
 MayFollow (operator Greater) bs = BeginsOtherwise 61 bs
 MayFollow _ bs = Unit {0}
 
--- The tokens one after the other, with any number of spaces in front of, between and behind them.
+-- The tokens one after the other, with any number of spaces before, between and after them.
 abbrev pub IsSpelling : List Token → Bytes → Type 0
 IsSpelling [] line = IsSpaces line
 IsSpelling (t ∷ ts) line = (front : Bytes) × (behind : Bytes) × IsSpaces front

@@ -10,7 +10,7 @@ use Rattle.djq_model.specs.Data.{Bytes}
 pub data Token : Type 0 where
   -- a run of bytes that are no spaces and no signs: a keyword, a name, a hole, an integer, or none of them
   word : Bytes → Token
-  -- what stands between two quotes, its escapes taken for what they stand for
+  -- what is between two quotes, with its escapes replaced by their bytes
   text : Bytes → Token
   open_paren : Token
   close_paren : Token
@@ -29,36 +29,36 @@ ends_word b = b == 32 || b == 33 || b == 40 || b == 41 || b == 44 || b == 60 || 
 abbrev pub word_front : Bytes → Bytes
 word_front bs = take_while (λ b. not (ends_word b)) bs
 
--- what is behind the longest run of word bytes in front
+-- what follows the longest run of word bytes in front
 abbrev pub behind_word : Bytes → Bytes
 behind_word [] = []
 behind_word (b ∷ bs) = if ends_word b then b ∷ bs else behind_word bs
 
--- what is behind the spaces in front
+-- what follows the spaces in front
 abbrev pub behind_spaces : Bytes → Bytes
 behind_spaces [] = []
 behind_spaces (b ∷ bs) = if b == 32 then behind_spaces bs else b ∷ bs
 
--- A sign is taken as long as it can be.
+-- A sign is read as long as it can be.
 
--- behind a `<`
+-- after a `<`
 abbrev pub less_front : Bytes → Token × Bytes
 less_front [] = (operator Less, [])
 less_front (b ∷ bs) =
     if b == 45 then (arrow, bs)
     else (if b == 61 then (operator LessOrEqual, bs) else (operator Less, b ∷ bs))
 
--- behind a `>`
+-- after a `>`
 abbrev pub greater_front : Bytes → Token × Bytes
 greater_front [] = (operator Greater, [])
 greater_front (b ∷ bs) = if b == 61 then (operator GreaterOrEqual, bs) else (operator Greater, b ∷ bs)
 
--- behind a `!`
+-- after a `!`
 abbrev pub not_front : Bytes → Token × Bytes
 not_front [] = (stray, [])
 not_front (b ∷ bs) = if b == 61 then (operator NotEqual, bs) else (stray, b ∷ bs)
 
--- what the byte behind a backslash stands for
+-- the byte of an escape, by the byte after its backslash
 abbrev pub escape_of : ℕ → Option ℕ
 escape_of b = if b == 34 then Some 34 else (if b == 92 then Some 92 else (if b == 110 then Some 10 else None))
 
@@ -68,7 +68,7 @@ in_text (Some b) (Some r) = Some (b ∷ r.0, r.1)
 in_text (Some b) None = None
 in_text None _ = None
 
--- The text up to its closing quote, and what is behind that; `true` where a backslash stands before these bytes.
+-- The text up to its closing quote, and what follows that; `true` if a backslash precedes these bytes.
 abbrev pub text_in : Bool → Bytes → Option (Bytes × Bytes)
 text_in escape [] = None
 text_in true (b ∷ bs) = in_text (escape_of b) (text_in false bs)
@@ -83,12 +83,12 @@ abbrev pub may_end : Bytes → Bool
 may_end [] = true
 may_end (b ∷ bs) = ends_word b
 
--- behind an opening quote
+-- after an opening quote
 abbrev pub text_front : Option (Bytes × Bytes) → Token × Bytes
 text_front None = (stray, [])
 text_front (Some r) = if may_end r.1 then (text r.0, r.1) else (stray, r.1)
 
--- the token that begins with these bytes, and what is behind it
+-- the token that begins with these bytes, and what follows it
 abbrev pub token_front : Bytes → Option (Token × Bytes)
 token_front [] = None
 token_front (b ∷ bs) = Some (
@@ -102,11 +102,11 @@ token_front (b ∷ bs) = Some (
     else (if b == 34 then text_front (text_in false bs)
     else (word (b ∷ word_front bs), behind_word bs)))))))))
 
--- the first token, and what is behind it; none where only spaces are left
+-- the first token, and what follows it; none if only spaces are left
 abbrev pub token_at : Bytes → Option (Token × Bytes)
 token_at bs = token_front (behind_spaces bs)
 
--- a token, and more of what is behind it; nothing where there is no token
+-- a token, and more of what follows it; nothing if there is no token
 abbrev pub and_then : (Bytes → List Token) → Option (Token × Bytes) → List Token
 and_then more None = []
 and_then more (Some t) = t.0 ∷ more t.1

@@ -1,8 +1,8 @@
--- What writing a text into bytes does to them: from a place on, over what stood there.
+-- How writing a text into bytes changes them: from a place on, over what was there.
 use Rattle.std.specs.Prelude.{◌≡◌, ℕ, ◌+◌, ◌++◌, ◌≤◌, Option, None, Some, length, take}
 use Rattle.djq_model.specs.Data.{Bytes}
 
--- A text stands from a place on, up to an end. What is before the place stays.
+-- A text is in bytes from a place on, up to an end. What precedes the place stays.
 pub record Written (old new : Bytes) (at : ℕ) (text : Bytes) (end : ℕ) : Type 0 where
   pub ends : end ≡ at + length text
   pub within : end ≤ length new

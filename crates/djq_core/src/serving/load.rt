@@ -18,9 +18,9 @@ use djq_transaction::Transaction;
 use std::alloc::Global;
 
 impl Core {
-    /// Loads a line that was kept, while no session is open: it does to the relations, their rows and
+    /// Loads a line that was logged, while no session is open: it does to the relations, their rows and
     /// copies, and the queries what it did as it was run, and the lines of a batch are held until it is
-    /// done. A line that wouldn't be kept is refused, and does nothing, as out of memory.
+    /// done. A line that wouldn't be logged is refused, and does nothing, as out of memory.
     pub fn load<L: Ledgers>(&mut self, line: &[u8], steps: &mut Steps<L>) -> Loaded
         requires none { self.old.state.sessions ≡ [] }
         ensures loads { LoadStep (loading_in self.old) line.now result (loading_in self.new) }
@@ -48,7 +48,7 @@ impl Core {
         }
     }
 
-    /// Whether the lines that were loaded have opened a batch that they haven't closed. It takes no
+    /// Whether the lines that were loaded have opened a batch that they haven't closed. It needs no
     /// memory.
     pub fn load_open(&self) -> bool
         ensures { result ≡ is_some self.now.batch }
@@ -57,7 +57,7 @@ impl Core {
     }
 }
 
-/// Loads a line where no batch is open; and the batch that it opens, where it does.
+/// Loads a line if no batch is open; and the batch that it opens, if it does.
 fn load_alone<L: Ledgers>(
     alloc: Global,
     engine: &mut Store,
@@ -88,7 +88,7 @@ fn is_batch(command: &Command) -> bool
     matches!(command, Command::Batch)
 }
 
-/// Does a command of a kind that is kept by itself, and refuses any other.
+/// Does a command of a kind that is logged by itself, and refuses any other.
 fn load_command<L: Ledgers>(engine: &mut Store, command: Command, steps: &mut Steps<L>) -> Loaded
     requires idle { IsUnused engine.old }
     requires runnable { IsRunnable command }

@@ -1,4 +1,4 @@
-//! What sessions do by turns, and what comes of it.
+//! What sessions do by turns, and the results.
 use super::Move::{
     self, Closes, Commits, Counts, Ended, Fills, HasMore, IsLast, IsShut, IsTold, Keeps, Loads,
     Opens, Says, Steps, TakesEither,
@@ -6,7 +6,7 @@ use super::Move::{
 use djq_machine::Loaded;
 use djq_protocol::EndCause;
 
-/// Each move beside its session; one that is of none stands beside 0.
+/// Each move after its session; one that is of none has session 0.
 pub(super) const SCRIPTS: [(&str, &[(u64, Move)]); 12] = [
     (
         "as many sessions are open as may be, and one more once one is closed",

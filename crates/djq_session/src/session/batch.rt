@@ -44,8 +44,8 @@ impl<C: Copy, Q: Copy + PartialEq> Session<C, Q> {
         }
     }
 
-    /// Its batch holds one more line after the others: the first bytes that came and aren't run, up to `end`. What the
-    /// line does to a row of which relation was read from them.
+    /// Its batch holds one more line after the others: the first bytes that arrived and aren't run, up to `end`. What
+    /// the line does to a row of which relation was read from them.
     ///
     /// # Errors
     ///
@@ -71,7 +71,7 @@ impl<C: Copy, Q: Copy + PartialEq> Session<C, Q> {
         }
     }
 
-    /// Its batch is closed, and what it held is returned. `None` exactly if none was open.
+    /// Its batch is closed, and what it held is returned. `None` if none was open.
     pub fn take_batch(&mut self) -> Option<Transaction>
         ensures lines { result ≡ self.old.batch }
         ensures closed { self.new ≡ record self.old { batch = None } }

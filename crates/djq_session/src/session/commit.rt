@@ -3,8 +3,8 @@ ghost use Rattle.std.specs.Prelude.{◌≡◌};
 use super::Session;
 
 impl<C: Copy, Q: Copy + PartialEq> Session<C, Q> {
-    /// The commit of this number comes to the session: what is queued from here on is queued in it. Where it
-    /// had come before, nothing changes.
+    /// The commit of this number begins for the session: what is queued from here on is queued in it. If it
+    /// had begun before, nothing changes.
     pub fn begin_commit(&mut self, commit: u64)
         ensures { self.new ≡ self.old }
     {
@@ -14,7 +14,7 @@ impl<C: Copy, Q: Copy + PartialEq> Session<C, Q> {
         }
     }
 
-    /// How many bytes were queued since the commit came to the session, those that were taken among them.
+    /// How many bytes were queued since the commit began, those that were sent among them.
     pub fn queued_in_commit(&self) -> u64 {
         self.queued().wrapping_sub(self.queued_before)
     }

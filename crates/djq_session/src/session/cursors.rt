@@ -8,7 +8,7 @@ use super::Session;
 use crate::named::NamedCursor;
 use djq_model::{Name, NoMem};
 
-/// Where the cursor of a name stands.
+/// The place of the cursor of a name.
 fn place_of<C>(cursors: &[NamedCursor<C>], name: &Name) -> Option<usize>
     ensures { result ≡ position (cursor_is_named name.now) cursors.now }
 {
@@ -16,7 +16,7 @@ fn place_of<C>(cursors: &[NamedCursor<C>], name: &Name) -> Option<usize>
 }
 
 impl<C: Copy, Q: Copy + PartialEq> Session<C, Q> {
-    /// What is kept for the cursor of a name. `None` exactly where there is no such cursor.
+    /// What is stored for the cursor of a name. `None` if there is no such cursor.
     pub fn cursor(&self, name: &Name) -> Option<C>
         ensures { result ≡ option_map (λ n. n.cursor) (named self.now.cursors name.now) }
     {
@@ -33,7 +33,7 @@ impl<C: Copy, Q: Copy + PartialEq> Session<C, Q> {
         self.cursors.len()
     }
 
-    /// A cursor is there, behind the others.
+    /// Appends a cursor to the others.
     ///
     /// # Errors
     ///
@@ -52,7 +52,7 @@ impl<C: Copy, Q: Copy + PartialEq> Session<C, Q> {
         Ok(())
     }
 
-    /// The cursor of a name is gone, where there is one.
+    /// Removes the cursor of a name, if there is one.
     pub fn drop_cursor(&mut self, name: &Name)
         ensures { self.new ≡ record self.old {
           cursors = drop_first
@@ -64,8 +64,8 @@ impl<C: Copy, Q: Copy + PartialEq> Session<C, Q> {
         }
     }
 
-    /// The cursor that was opened last is gone, and what is kept for it is given back. `None`
-    /// exactly where none is left.
+    /// Removes the cursor that was opened last, and returns what is stored for it. `None` if none
+    /// is left.
     pub fn pop_cursor(&mut self) -> Option<C>
         ensures { PopsCursor self.old self.new result }
     {

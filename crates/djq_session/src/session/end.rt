@@ -35,7 +35,7 @@ fn report_lost(out: &mut BytesMut, batch: &Option<Transaction>)
 }
 
 impl<C: Copy, Q: Copy + PartialEq> Session<C, Q> {
-    /// Why it takes no further commands. `None` exactly where it goes on.
+    /// Why it accepts no further commands. `None` if it isn't ended.
     pub fn cause(&self) -> Option<EndCause>
         ensures { result ≡ self.now.cause }
     {
@@ -49,7 +49,7 @@ impl<C: Copy, Q: Copy + PartialEq> Session<C, Q> {
         !self.output.is_empty() || self.cause.is_some()
     }
 
-    /// It takes no further commands, for a cause, and is told so by a last line.
+    /// It accepts no further commands, for a cause, and a last line reports that.
     pub fn end_by(&mut self, line: EndLine, cause: EndCause)
         requires { self.old.cause ≡ None }
         ensures { DialogEndsWith self.old self.new (end_line line) cause }
@@ -59,8 +59,8 @@ impl<C: Copy, Q: Copy + PartialEq> Session<C, Q> {
         self.batch = None;
     }
 
-    /// It takes no further commands, since its input has ended. A last text reports that it ended within a line, and that
-    /// lines which its batch holds are dropped.
+    /// It accepts no further commands, since its input has ended. A last text reports that it ended within a line, and
+    /// that lines which its batch holds are dropped.
     pub fn end_input(&mut self)
         requires { self.old.cause ≡ None }
         ensures { DialogEndsWith self.old self.new
@@ -72,7 +72,7 @@ impl<C: Copy, Q: Copy + PartialEq> Session<C, Q> {
         self.batch = None;
     }
 
-    /// It takes its leave, which is answered, after a report that lines which its batch holds are dropped.
+    /// It ends by a command, which is answered, after a report that lines which its batch holds are dropped.
     pub fn end_bye(&mut self, cause: EndCause)
         requires running { self.old.cause ≡ None }
         requires room { REPLY_BYTES + LAST_LINE_BYTES ≤ self.old.room }

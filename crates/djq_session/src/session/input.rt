@@ -8,7 +8,7 @@ use djq_model::NoMem;
 use djq_parser::{Front, Splitter};
 
 impl<C: Copy, Q: Copy + PartialEq> Session<C, Q> {
-    /// Bytes come, behind those that are held.
+    /// Appends bytes to those that are held.
     ///
     /// # Errors
     ///
@@ -23,31 +23,31 @@ impl<C: Copy, Q: Copy + PartialEq> Session<C, Q> {
         Ok(())
     }
 
-    /// The bytes that came and aren't run.
+    /// The bytes that arrived and aren't run.
     pub fn held(&self) -> &[u8]
         ensures { result.now ≡ self.now.held }
     {
         self.input.as_slice()
     }
 
-    /// What stands in front of the bytes that are held. It is known since they came, or since the line
-    /// before was taken, so that nothing is searched.
+    /// The front of the bytes that are held. It is known since they arrived, or since the line before was
+    /// removed, so that nothing is searched.
     pub fn front(&self) -> Front
         ensures { IsFront self.now.held result }
     {
         self.front
     }
 
-    /// Whether its next line may be run: it goes on, and holds a whole line, or a front that is too long for
-    /// one. Nothing is searched.
+    /// Whether its next line may be run: it isn't ended, and holds a whole line, or a front that is too long
+    /// for one. Nothing is searched.
     pub fn is_ready(&self) -> bool
         ensures { result ≡ dialog_is_ready self.now }
     {
         self.cause.is_none() && !matches!(self.front, Front::Dry)
     }
 
-    /// The first bytes that are held, a line with its end, are taken, and the next line is looked for. It looks
-    /// at no more bytes than a line may have.
+    /// Removes the first bytes that are held, a line with its end, and searches for the next line. It looks at
+    /// no more bytes than a line may have.
     pub fn take_line(&mut self, count: usize)
         requires { count ≤ length self.old.held }
         ensures { self.new ≡ record self.old { held = drop count self.old.held } }
@@ -59,7 +59,7 @@ impl<C: Copy, Q: Copy + PartialEq> Session<C, Q> {
         }
     }
 
-    /// Gives a large buffer back. It stands apart so that each command's way is free of it.
+    /// Gives a large buffer back. It is a function of its own so that each command's path is free of it.
     #[cold]
     #[inline(never)]
     fn let_go(&mut self)

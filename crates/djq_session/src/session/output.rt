@@ -8,7 +8,7 @@ use djq_model::NoMem;
 use djq_protocol::limits::LAST_LINE_BYTES;
 
 impl<C: Copy, Q: Copy + PartialEq> Session<C, Q> {
-    /// Makes room for so many bytes of output, and for the last line behind them.
+    /// Makes room for so many bytes of output, and for the last line after them.
     ///
     /// # Errors
     ///
@@ -27,11 +27,11 @@ impl<C: Copy, Q: Copy + PartialEq> Session<C, Q> {
         Ok(())
     }
 
-    /// Queues bytes, and leaves room for the last line behind them.
+    /// Queues bytes, and leaves room for the last line after them.
     ///
     /// # Errors
     ///
-    /// `NoMem` only where the room was too small and can't grow; all is as before.
+    /// `NoMem` only if the room was too small and can't grow; all is as before.
     pub fn queue(&mut self, bytes: &[u8]) -> Result<(), NoMem>
         ensures { MayQueue self.old self.new bytes.now result }
     {
@@ -40,14 +40,14 @@ impl<C: Copy, Q: Copy + PartialEq> Session<C, Q> {
         Ok(())
     }
 
-    /// The bytes that are queued and aren't taken.
+    /// The bytes that are queued and aren't sent.
     pub fn pending(&self) -> &[u8]
         ensures { result.now ≡ self.now.pending }
     {
         self.output.as_slice()
     }
 
-    /// The first bytes that are pending are taken.
+    /// Removes the first pending bytes, which were sent.
     pub fn took(&mut self, count: usize)
         requires { count ≤ length self.old.pending }
         ensures { self.new ≡ record self.old {
@@ -63,8 +63,8 @@ impl<C: Copy, Q: Copy + PartialEq> Session<C, Q> {
         }
     }
 
-    /// Gives a large buffer back, where there is memory for a small one. It stands apart so that each
-    /// command's way is free of it.
+    /// Gives a large buffer back, if there is memory for a small one. It is a function of its own so
+    /// that each command's path is free of it.
     #[cold]
     #[inline(never)]
     fn shrink(&mut self)

@@ -1,4 +1,4 @@
-//! What a session is answered. Short replies stand in the room that `keep` made before the command.
+//! The replies of a session. Short replies are written to the room that `keep` made before the command.
 ghost use Rattle.std.specs.Prelude.{◌+◌, ◌≤◌, ◌++◌, codes};
 ghost use Rattle.djq_protocol.specs.Reply.{add_reply, answer_line};
 ghost use Rattle.djq_protocol.specs.Reply.{delete_reply, done_reply, has_reply, held_reply, last_line};
@@ -57,7 +57,7 @@ impl<C: Copy, Q: Copy + PartialEq> Session<C, Q> {
         say_held(&mut self.output, outcome, held);
     }
 
-    /// `done` is answered, at a number of changes, by how many rows came and went.
+    /// `done` is answered, at a number of changes, by how many rows were inserted and deleted.
     pub fn answer_batch_done(&mut self, outcome: Result<usize, DoneRefusal>, seq: u64)
         requires { REPLY_BYTES + LAST_LINE_BYTES ≤ self.old.room }
         ensures { Replies self.old self.new (done_reply outcome seq) }
@@ -85,7 +85,7 @@ impl<C: Copy, Q: Copy + PartialEq> Session<C, Q> {
     ///
     /// # Errors
     ///
-    /// `NoMem` only where the room was too small, so for a rest alone, and can't grow; all is as
+    /// `NoMem` only if the room was too small, so for a rest alone, and can't grow; all is as
     /// before.
     pub fn answer_registered(
         &mut self,
@@ -142,19 +142,19 @@ impl<C: Copy, Q: Copy + PartialEq> Session<C, Q> {
     ///
     /// # Errors
     ///
-    /// `NoMem` only where the room was too small and can't grow; all is as before.
+    /// `NoMem` only if the room was too small and can't grow; all is as before.
     pub fn queue_answer<A: Answered>(&mut self, answer: &A) -> Result<(), NoMem>
         ensures { MayQueue self.old self.new (answer_line (A.values answer.now)) result }
     {
         put_answer(answer, &mut self.output)
     }
 
-    /// The lines that explain the tree of a query or the members of a union are queued, and `end` behind
+    /// The lines that explain the tree of a query or the members of a union are queued, and `end` after
     /// them.
     ///
     /// # Errors
     ///
-    /// `NoMem` only where the room was too small and can't grow; all is as before.
+    /// `NoMem` only if the room was too small and can't grow; all is as before.
     pub fn queue_explained(&mut self, lines: &[u8]) -> Result<(), NoMem>
         ensures { MayQueue self.old self.new (lines.now ++ codes "end\n") result }
     {
@@ -165,7 +165,7 @@ impl<C: Copy, Q: Copy + PartialEq> Session<C, Q> {
     ///
     /// # Errors
     ///
-    /// `NoMem` only where the room was too small and can't grow; all is as before.
+    /// `NoMem` only if the room was too small and can't grow; all is as before.
     pub fn queue_last(&mut self, is_end: bool) -> Result<(), NoMem>
         ensures { MayQueue self.old self.new (last_line is_end) result }
     {

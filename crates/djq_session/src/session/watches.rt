@@ -6,14 +6,14 @@ ghost use Rattle.djq_session.specs.Dialog.{PopsWatch};
 use super::Session;
 use djq_model::NoMem;
 
-/// Where a query stands among those that are watched.
+/// The place of a query among those that are watched.
 fn place_of<Q: Copy + PartialEq>(watches: &[Q], query: Q) -> Option<usize>
     ensures { result ≡ position (λ q. Q.eq q query) watches.now }
 {
     watches.iter().position(|watched| *watched == query)
 }
 
-/// The same, where one place, which may be past the last, is looked at first.
+/// The same, but one place, which may be past the last, is looked at first.
 fn place_near<Q: Copy + PartialEq>(watches: &[Q], query: Q, near: usize) -> Option<usize>
     ensures watched { is_some result ≡ list_any (λ q. Q.eq q query) watches.now }
     ensures place { IfSome result
@@ -48,8 +48,8 @@ impl<C: Copy, Q: Copy + PartialEq> Session<C, Q> {
         self.watches.iter().any(|watched| *watched == query)
     }
 
-    /// A place of a query among those that it watches. `None` exactly where it doesn't watch it. Whoever
-    /// asks for many in the order in which they came tells where it may be: it is looked for there first.
+    /// A place of a query among those that it watches. `None` if it doesn't watch it. Whoever asks for
+    /// many in the order of watching passes a likely place, which is looked at first.
     pub fn watch_near(&self, query: Q, near: usize) -> Option<usize>
         ensures watched { is_some result ≡ list_any (λ q. Q.eq q query) self.now.watches }
         ensures place { IfSome result
@@ -58,7 +58,7 @@ impl<C: Copy, Q: Copy + PartialEq> Session<C, Q> {
         place_near(self.watches.as_slice(), query, near)
     }
 
-    /// It watches a query no more, where it did.
+    /// It watches a query no more, if it did.
     pub fn unwatch(&mut self, query: Q)
         ensures { self.new ≡ record self.old {
           watches = drop_first
@@ -70,8 +70,7 @@ impl<C: Copy, Q: Copy + PartialEq> Session<C, Q> {
         }
     }
 
-    /// The query that it began to watch last is watched no more, and given back. `None` exactly
-    /// where none is left.
+    /// Ends the watch of the query that it began to watch last, and returns it. `None` if none is left.
     pub fn pop_watch(&mut self) -> Option<Q>
         ensures { PopsWatch self.old self.new result }
     {

@@ -1,8 +1,8 @@
 -- The pieces so far, one behind another, are what was given, and the follower has taken just those bytes.
 use Rattle.std.proofs.Common.{ℕ, ◌∙◌, ◌++◌, take, subst, arith, length-append, length-take}
 use Rattle.djq_io.specs.Faults.{Counted}
-use Rattle.djq_io.proofs.Streams.{gave_more, gave_same}
-use Rattle.djq_mirror.proofs.FollowedLines.{IsFirst, given_all, takes_more, are_followed, halted_as, ended_as}
+use Rattle.djq_io.proofs.Streams.{gave_more, gave_same, gave_end, none_left_at_end}
+use Rattle.djq_mirror.proofs.FollowedLines.{IsFirst, takes_more, are_followed, halted_as, ended_as}
 use Rattle.djq_mirror.proofs.reading.follow.Goals as goal
 
 pub returns-in-Some : goal.returns-in-Some
@@ -26,10 +26,10 @@ returns-in-Some-end g c =
     { held = c.requires.first; begun = c.requires.begun; count = c.requires.count } in
     record {
       bytes = c.loop.invariant.bytes;
-      gave = gave_same _ _ _ _ c.loop.invariant.gave c.in-End.ensures.reads.1;
+      gave = gave_end _ _ _ _ c.loop.invariant.gave c.in-End.ensures.reads;
       comes = ended_as c.args.follower.now c.loop.follower c.loop.invariant.bytes c.in-Some-end.halt _ _ first
           c.loop.invariant.takes
-          (given_all _ _ c.in-End.ensures.reads.0 c.in-End.ensures.reads.1) c.in-Some-end.ensures;
+          (none_left_at_end _ _ c.in-End.ensures.reads) c.in-Some-end.ensures;
       counted = c.in-End.ensures.faults ∙ c.loop.invariant.no_fault;
     }
 

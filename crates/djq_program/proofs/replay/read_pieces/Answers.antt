@@ -3,7 +3,7 @@ use Rattle.std.proofs.Common.{ℕ, List, ◌≡◌, ◌++◌, ◌∙◌, refl, s
 use Rattle.std.proofs.Common.{arith, rules}
 use Rattle.djq_io.specs.Faults.{Counted}
 use Rattle.djq_io.specs.Given.{Gave}
-use Rattle.djq_io.proofs.Streams.{gave_none, gave_more, gave_same}
+use Rattle.djq_io.proofs.Streams.{gave_none, gave_more, gave_same, gave_end, none_left_at_end}
 use Rattle.djq_program.proofs.replay.read_pieces.Goals as goal
 
 pub loop-init : goal.loop-init
@@ -21,6 +21,13 @@ returns-then-is_err g c = record {
   bytes = c.loop.bytes.items ++ take c.in-Got.count c.read.new.buf;
   gave = gave_more _ _ _ _ _ c.loop.invariant.gave c.in-Got.ensures.reads.2;
   stops = c.in-Got.ensures.faults ∙ c.loop.invariant.no_fault;
+}
+
+pub returns-in-End : goal.returns-in-End
+returns-in-End g c = record {
+  gave = gave_end _ _ _ _ c.loop.invariant.gave c.in-End.ensures.reads;
+  at_end = none_left_at_end _ _ c.in-End.ensures.reads;
+  no_fault = c.in-End.ensures.faults ∙ c.loop.invariant.no_fault;
 }
 
 pub returns-in-Failed : goal.returns-in-Failed

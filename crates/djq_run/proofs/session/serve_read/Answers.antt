@@ -3,12 +3,13 @@ use Rattle.std.proofs.Common.{◌<◌, ◌≤◌, true, false, length, take, ref
 use Rattle.std.specs.Prelude.{Option}
 use Rattle.djq_machine.specs.Call.{counts}
 use Rattle.djq_io.specs.declared.limits.TheConstants.{READ_BYTES}
+use Rattle.djq_io.proofs.Streams.{none_left_at_end}
 use Rattle.djq_run_laws.specs.Course.{outside}
 use Rattle.djq_run_laws.proofs.Courses.{fed_facts, ended_facts}
 use Rattle.djq_run.specs.declared.status.Status.{Status}
 use Rattle.djq_run.specs.Parts.{ReadEnds}
 use Rattle.djq_run.proofs.Runs.{by_piece, by_end, by_failure, goes_then, piece_open, piece_ends, end_open, input_ended}
-use Rattle.djq_run.proofs.Runs.{ends_done, still_at_end}
+use Rattle.djq_run.proofs.Runs.{ends_done}
 use Rattle.djq_run.proofs.Alone.{alone_fed}
 use Rattle.djq_run.proofs.session.serve_read.Goals as goal
 
@@ -79,10 +80,10 @@ returns-then-flush g c =
     (wf c.flush.new.sink) counted in
     let reads = c.in-End.ensures.reads in
     let m = c.end_session.ensures.makes in
-    let at_end = still_at_end (told c.args.source.now) (told c.read.new.self) reads.0 reads.1 in
+    let at_end = none_left_at_end (told c.args.source.now) (told c.read.new.self) reads in
     let flushed = c.if-flush.ensures in
     let first = by_end (told c.args.source.now) (told c.read.new.self) (rf c.args.source.now) (rf c.read.new.self)
-    (wrote c.args.sink.now) (wf c.args.sink.now) counted old mid reads.1 c.requires.awaits m in
+    (wrote c.args.sink.now) (wf c.args.sink.now) counted old mid reads c.requires.awaits m in
     let whole = goes_then o mid_o o' old mid new false first (flushed.course mid_o) in
     record {
       course = whole.0;
@@ -115,10 +116,10 @@ returns-else-flush g c =
     (wf c.flush.new.sink) counted in
     let reads = c.in-End.ensures.reads in
     let m = c.end_session.ensures.makes in
-    let at_end = still_at_end (told c.args.source.now) (told c.read.new.self) reads.0 reads.1 in
+    let at_end = none_left_at_end (told c.args.source.now) (told c.read.new.self) reads in
     let flushed = c.if-flush.ensures in
     let first = by_end (told c.args.source.now) (told c.read.new.self) (rf c.args.source.now) (rf c.read.new.self)
-    (wrote c.args.sink.now) (wf c.args.sink.now) counted old mid reads.1 c.requires.awaits m in
+    (wrote c.args.sink.now) (wf c.args.sink.now) counted old mid reads c.requires.awaits m in
     let whole = goes_then o mid_o o' old mid new true first (flushed.course mid_o) in
     record {
       course = whole.0;

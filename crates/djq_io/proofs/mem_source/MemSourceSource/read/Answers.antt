@@ -23,3 +23,16 @@ returns-clause-reads c =
       rw
           (← c.self.view_is) (gives_span _ _ _ _ _ _ _ span begins c.push.ensures),
     )
+
+-- The buffer begins with what comes next.
+pub returns-clause-gives : goal.returns-clause-gives
+returns-clause-gives c =
+    let at = c.self.inside.at in
+    let n = c.min-n.result in
+    let bytes = c.self.inside.bytes.items in
+    let within : at + n ≤ length bytes = omega (arith, ap length c.deref.ensures.value) in
+    let size : at + n - at ≡ n = omega arith in
+    let is_part = rw (c.deref.ensures.value, size) at c.copy_from_slice.ensures.after in
+    let part = take n (drop at bytes) in
+    let part_size : length part ≡ n = omega (arith, length-take n (drop at bytes), length-drop at bytes) in
+    rw (← c.self.view_is) (copied_part n part c.copy_from_slice.new.self (drop n c.args.buf.now) part_size is_part)
