@@ -89,13 +89,9 @@ record IsPlain (x : Exchanged) : Type 0 where
 only_so : (x : Exchanged) → IsPlain x → IsAnsweredBy x.store x.says (line x.reply) → IsAnsweredBy x.store x.says (line x.other) → ⊥
 only_so x plain so = λ other. differs (bytes_eq-Decides (line x.reply) (line x.other)) (same_reply other)
   where
-    memory : (reply : Bytes) (a : IsAnsweredBy x.store x.says reply) → IsNoRefusal reply
-        → HasMemory (holding_line x.says x.store) (stepped 1 (run x.says)) a.effect a.new
-    memory reply a none = record {
-      told = subst (λ qs. All (λ (q : ℕ × Bytes). IsNoRefusal q.1) qs) (sym a.queued)
-          (All-cons (λ (q : ℕ × Bytes). IsNoRefusal q.1) (1, reply) [] none (All-nil (λ (q : ℕ × Bytes). IsNoRefusal q.1)));
-      opens = tt;
-    }
+    memory : (reply : Bytes) (a : IsAnsweredBy x.store x.says reply) → IsNoRefusal reply → HasMemory a.effect
+    memory reply a none = subst (λ qs. All (λ (q : ℕ × Bytes). IsNoRefusal q.1) qs) (sym a.queued)
+        (All-cons (λ (q : ℕ × Bytes). IsNoRefusal q.1) (1, reply) [] none (All-nil (λ (q : ℕ × Bytes). IsNoRefusal q.1)))
 
     same_reply : IsAnsweredBy x.store x.says (line x.other) → line x.reply ≡ line x.other
     same_reply other =
@@ -131,8 +127,7 @@ runs store l reply e mid acts queued = record {
 }
 
 -- one exchange, by what its line says
-exchange : (x : Exchanged) (r : Reading) (e : Effect) (mid : State) → reading_of x.says ≡ r
-    → front_of (line x.says) ≡ a_line x.says [] → is_blank x.says ≡ false
+exchange : (x : Exchanged) (r : Reading) (e : Effect) (mid : State) → reading_of x.says ≡ r → front_of (line x.says) ≡ a_line x.says [] → is_blank x.says ≡ false
     → is_list (line x.reply) ≡ false → IsNoRefusal (line x.reply) → IsNoRefusal (line x.other)
     → bytes_eq (line x.reply) (line x.other) ≡ false → differences x.reply x.other ≡ 1
     → ReadStep (holding x.store) 1 (fresh 1) x.says r e mid → e.queued ≡ (1, line x.reply) ∷ [] → IsAnsweredSo x

@@ -5,7 +5,7 @@ pub mod ChangesSame
 pub mod Determinacy
 pub mod RowsSame
 pub mod DoneSame
-pub mod Rests
+pub mod RestsSame
 pub mod QuerySame
 pub mod Steps
 pub mod Dialogues

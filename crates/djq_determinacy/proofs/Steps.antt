@@ -26,12 +26,12 @@ use Rattle.djq_machine.specs.Step.{FedStep, TookStep, EndedStep}
 use Rattle.djq_machine.specs.Step.{Event, opened, fed, stepped, took, ended, closed, Acts, SameRelations, with_relations, is_dry}
 use Rattle.djq_run_laws.proofs.Deltas.{queued_store}
 use Rattle.djq_run_laws.proofs.Lists.{session_changed}
-use Rattle.djq_determinacy.specs.Determinacy.{is_equal, SameQueued, SameStore, IsDetermined}
+use Rattle.djq_determinacy.specs.Determinacy.{is_equal, SameQueued, SameStore, StepsAreDetermined}
 use Rattle.djq_determinacy.proofs.Determinacy.{Same, IsTold, not_refused, said, same_alone, rel_same, drop_same, open_same, watch_same, unwatch_same, batch_same}
 use Rattle.djq_determinacy.proofs.Determinacy.{hold_same, has_same, shape_same, explain_same, refused_same, ends_same, close_same, union_same, next_same}
 use Rattle.djq_determinacy.proofs.DoneSame.{done_same}
-use Rattle.djq_determinacy.proofs.RowsSame.{GoesOn, delete_same, add_same}
 use Rattle.djq_determinacy.proofs.QuerySame.{query_same}
+use Rattle.djq_determinacy.proofs.RowsSame.{GoesOn, delete_same, add_same}
 
 module _ (s : ℕ) (e e' : Effect) (new new' : State) (told : IsTold e) (told' : IsTold e') where
   command_same : (old : State) (x : Session) (l : Bytes) (c : Command) → GoesOn old s
@@ -150,8 +150,7 @@ module _ (s : ℕ) (e e' : Effect) (new new' : State) (told : IsTold e) (told' :
   nothing_same h k =
       subst (λ (d : Effect). SameQueued d.queued e'.queued) (sym h) (subst (λ (d : Effect). SameQueued [] d.queued) (sym k) tt)
 
-  front_same : (old : State) (x : Session) (outcome : LineOutcome)
-      → session_of old s ≡ Some x → x.cause ≡ None → FrontStep old s x outcome e new → FrontStep old s x outcome e' new'
+  front_same : (old : State) (x : Session) (outcome : LineOutcome) → session_of old s ≡ Some x → x.cause ≡ None → FrontStep old s x outcome e new → FrontStep old s x outcome e' new'
       → Same e new e' new'
   front_same old x long found goes h k = ends_same old s e e' new new' told told' end_long Long old h.1 k.1
   front_same old x (blank l) found goes h k =
@@ -256,9 +255,9 @@ acts_same old (stepped s outcome) e e' mid mid' told told' h k = by (session_of 
     by None found h k = absurd h
     by (Some x) found h k = front_same s e e' mid mid' told told' old x outcome found h.0 h.1 k.1
 
-pub is_determined : IsDetermined
+pub is_determined : StepsAreDetermined
 is_determined old event e e' new new' h k memory memory' =
-    let same = acts_same old event e e' h.mid k.mid memory.told memory'.told h.acts k.acts in
+    let same = acts_same old event e e' h.mid k.mid memory memory' h.acts k.acts in
     let left = ap (λ (st : State). st.store) h.queued ∙ queued_store (with_relations h.mid h.relations) e.queued in
     let left' = ap (λ (st : State). st.store) k.queued ∙ queued_store (with_relations k.mid k.relations) e'.queued in
     let stores : SameStore (record h.mid.store { relations = h.relations }) (record k.mid.store { relations = k.relations }) =

@@ -1,15 +1,13 @@
 -- What of a step is determined by its state and its event, memory aside.
-use Rattle.std.specs.Prelude.{ℕ, List, [], ◌∷◌, ◌≡◌, ◌≢◌, ◌++◌, ◌<◌, Bool, true, All, IsPermutation, length, ⊤}
+use Rattle.std.specs.Prelude.{ℕ, List, [], ◌∷◌, ◌≡◌, ◌≢◌, ◌++◌, Bool, true, All, IsPermutation, length, ⊤}
 use Rattle.djq_model.specs.Data.{Bytes, Tuple}
-use Rattle.djq_protocol.specs.declared.limits.TheConstants.{SESSIONS}
 use Rattle.djq_protocol.specs.declared.answer.Refusal.TheVariants.{NoMemory}
 use Rattle.djq_protocol.specs.Reply.{refusal_line, end_memory, text_of, listing_lines}
 use Rattle.djq_store_spec.specs.Store.{Store}
 use Rattle.djq_store_spec.specs.Delta.{Change, delta_lines}
 use Rattle.djq_machine.specs.State.{State}
 use Rattle.djq_machine.specs.Effect.{Effect}
-use Rattle.djq_machine.specs.Step.{Event, opened, Step, SameRelations}
-use Rattle.djq_machine.specs.Call.{IsOpen}
+use Rattle.djq_machine.specs.Step.{Event, Step, SameRelations}
 
 -- Two texts say the same. They are equal; or they are the page of a listing, as long and as near to its end, and the
 -- last page has the same answers, in some order; or they are a delta, whose changes are the same in some order.
@@ -34,21 +32,17 @@ pub record SameStore (a b : Store) : Type 0 where
   pub queries : a.queries ≡ b.queries
   pub seq : a.seq ≡ b.seq
 
--- No memory was refused: nothing queued says so, and a session that may open is open.
-abbrev pub OpensIfRoom : State → Event → State → Type 0
-OpensIfRoom old (opened s) new = length old.sessions < SESSIONS → IsOpen new s
-OpensIfRoom old _ new = ⊤
-
+-- the text doesn't say that memory was refused
 abbrev pub IsNoRefusal : Bytes → Type 0
 IsNoRefusal text = (text ≢ refusal_line NoMemory) × ((front : Bytes) → text ≢ front ++ end_memory)
 
-pub record HasMemory (old : State) (event : Event) (e : Effect) (new : State) : Type 0 where
-  pub told : All (λ q. IsNoRefusal q.1) e.queued
-  pub opens : OpensIfRoom old event new
+-- No memory was refused: nothing queued says so.
+abbrev pub HasMemory : Effect → Type 0
+HasMemory e = All (λ q. IsNoRefusal q.1) e.queued
 
 -- **Nothing loose.** Two steps of one event from one state, to neither of which memory is refused, queue the same and
 -- leave the same store.
-abbrev pub IsDetermined : Type 0
-IsDetermined = (old : State) (event : Event) (e e' : Effect) (new new' : State)
-    → Step old event e new → Step old event e' new' → HasMemory old event e new → HasMemory old event e' new'
+abbrev pub StepsAreDetermined : Type 0
+StepsAreDetermined = (old : State) (event : Event) (e e' : Effect) (new new' : State)
+    → Step old event e new → Step old event e' new' → HasMemory e → HasMemory e'
     → SameQueued e.queued e'.queued × SameStore new.store new'.store

@@ -15,21 +15,26 @@
 //! What "the same" leaves open is said by `SameText`: the order of the answers on a page and of the changes in a delta,
 //! and, on a page that isn't the last, which answers come first. The rows of a store may stand in another order.
 //!
-//! What this crate is not: a promise of memory. Any command that needs some may be refused.
+//! What this crate is not: nothing is said of when memory is refused. Any command that needs some may be refused at any
+//! time, and any session end.
 //!
 //! What surprises: a `del` may be refused for memory while its line is read, and never once it is read.
+//!
+//! Inside, `proofs/Steps.antt` goes through the events and the commands. What a change of rows tells is followed delta by
+//! delta and session by session in `ChangesSame.antt`. That a query that isn't free-connex has one rest is in
+//! `RestsSame.antt`: what two ways of reducing its edges come to covers each other.
 #![tactic(auto)]
 
-ghost use Rattle.djq_determinacy.specs.Determinacy.{IsDetermined};
+ghost use Rattle.djq_determinacy.specs.Determinacy.{StepsAreDetermined};
 ghost use Rattle.djq_determinacy.specs.Dialogues.{AllAnswered, exchanges};
 ghost use Rattle.djq_determinacy.specs.Memory.{NeverRefusedForMemory};
 ghost use Rattle.djq_determinacy.specs.Prefixes.{PrefixesReturn};
 ghost use Rattle.djq_determinacy.specs.Reductions.{RestsAgree};
 
 /// Two steps of one event from one state, to neither of which memory is refused, queue the same to each session, up to
-/// the order of a listing, and leave the same store, up to the order of rows. This is so of all commands.
+/// the order of a listing, and leave the same store, up to the order of rows.
 pub fn steps_are_determined()
-    ensures { IsDetermined }
+    ensures { StepsAreDetermined }
 {}
 
 /// All rests of a hypergraph have the same edges. So a query that isn't free-connex has one reply.
