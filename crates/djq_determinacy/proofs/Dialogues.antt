@@ -1,7 +1,7 @@
 -- Twelve exchanges, as theorems.
 use Rattle.std.specs.Prelude.{ℕ, List, [], ◌∷◌, ◌++◌, ◌≡◌, ◌≢◌, ◌==◌, ◌-◌, ◌+◌, ◌||◌, Bool, true, false, None, Ok, Err, All, codes, pos, get_or, length}
 use Rattle.std.specs.Str.{bytes_eq}
-use Rattle.std.proofs.Common.{refl, sym, ap, ◌∙◌, subst, arith, length-append}
+use Rattle.std.proofs.Common.{refl, sym, ap, ◌∙◌, subst, inl, arith, length-append}
 use Rattle.std.proofs.lemmas.Bool.{true≢false, eqb-false}
 use Rattle.std.proofs.lemmas.List.{get_or-append-add}
 use Rattle.std.specs.Bool.{Decides}
@@ -11,7 +11,7 @@ use Rattle.djq_model.specs.Data.{Bytes, Tuple}
 use Rattle.djq_protocol.specs.declared.answer.Refusal.TheVariants.{Taken, Syntax, NoCursor, Misplaced}
 use Rattle.djq_protocol.specs.declared.answer.Sign.{Sign}
 use Rattle.djq_protocol.specs.declared.answer.Sign.TheVariants.{Came, Went}
-use Rattle.djq_protocol.specs.declared.command.Command.TheVariants.{Rel, Has, Open, Close, Watch, Unwatch, Drop, Batch, Done, Quit}
+use Rattle.djq_protocol.specs.declared.command.Command.TheVariants.{Rel, Add, Del, Has, Open, Close, Watch, Batch, Done, Quit}
 use Rattle.djq_model.specs.declared.relation.ColumnType.TheVariants.{Int as IntColumn}
 use Rattle.djq_protocol.specs.Line.{a_line, front_of, is_blank}
 use Rattle.djq_protocol.specs.Grammar.{Reading, outside, says_command, reading_of, command_of}
@@ -25,10 +25,12 @@ use Rattle.djq_store_spec.specs.Delta.{Change, delta_lines}
 use Rattle.djq_machine.specs.State.{State, fresh, with_session, ended_by}
 use Rattle.djq_machine.specs.Effect.{Effect, answers, says, queue_all}
 use Rattle.djq_machine.specs.LineStep.{run, ReadStep}
-use Rattle.djq_machine.specs.Keeping.{no_line}
-use Rattle.djq_machine.specs.Command.{with_cursor, with_watch, without_watch, with_batch}
+use Rattle.djq_machine.specs.Keeping.{no_line, the_line}
+use Rattle.djq_machine.specs.Command.{with_cursor, with_watch, with_batch}
 use Rattle.djq_store_spec.specs.Held.{nothing_held}
 use Rattle.djq_protocol.specs.declared.answer.EndCause.TheVariants.{Quit as SaidQuit}
+use Rattle.djq_protocol.specs.declared.answer.AddOutcome.TheVariants.{More}
+use Rattle.djq_protocol.specs.declared.answer.DeleteOutcome.TheVariants.{Absent}
 use Rattle.djq_model.specs.Answer.{IsAnswer, Satisfies, HoldsOf}
 use Rattle.djq_model.specs.declared.value.Value.TheVariants.{Int}
 use Rattle.djq_model.specs.declared.query.Term.TheVariants.{Variable}
@@ -179,13 +181,13 @@ reads_watch : reading_of (codes "watch q") ≡ says_command (Watch (codes "q"))
 unfolding command_of is_utf8 chars encode tokens
 reads_watch = refl
 
-reads_unwatch : reading_of (codes "unwatch q") ≡ says_command (Unwatch (codes "q"))
+reads_add : reading_of (codes "add r 7") ≡ says_command (Add (codes "r") (Int (pos 7) ∷ []))
 unfolding command_of is_utf8 chars encode tokens
-reads_unwatch = refl
+reads_add = refl
 
-reads_drop : reading_of (codes "drop q") ≡ says_command (Drop (codes "q"))
+reads_del : reading_of (codes "del r 8") ≡ says_command (Del (codes "r") (Int (pos 8) ∷ []))
 unfolding command_of is_utf8 chars encode tokens
-reads_drop = refl
+reads_del = refl
 
 reads_batch : reading_of (codes "batch") ≡ says_command Batch
 unfolding command_of is_utf8 chars encode tokens
@@ -198,6 +200,12 @@ reads_done = refl
 reads_quit : reading_of (codes "quit") ≡ says_command Quit
 unfolding command_of is_utf8 chars encode tokens
 reads_quit = refl
+
+-- the store with another copy of the row
+abbrev two_copies : Store
+two_copies = record one_row {
+  relations = record seven { rows = record { row = Int (pos 7) ∷ []; copies = 2 } ∷ [] } ∷ [];
+}
 
 -- a number that stands in r is an answer of q
 seven_is_answer : IsAnswer (seven ∷ []) sevens (Int (pos 7) ∷ [])
@@ -263,19 +271,61 @@ so_watch =
     (not_memory_text 0 (line (codes "ok watch 1")) refl refl) (not_memory_text 0 (line (codes "ok watch 2")) refl refl) refl refl
     (true, record { result = Ok tt; answer = tt; effect = refl; state = refl }) refl
 
-so_unwatch : IsAnsweredSo (over_one_row (codes "unwatch q") (codes "ok") (codes "on"))
-so_unwatch =
-    exchange (over_one_row (codes "unwatch q") (codes "ok") (codes "on")) (says_command (Unwatch (codes "q"))) (says 1 (line (codes "ok")))
-    (with_session (holding one_row) 1 (without_watch (codes "q"))) reads_unwatch refl refl refl
-    (not_memory_text 0 (line (codes "ok")) refl refl) (not_memory_text 0 (line (codes "on")) refl refl) refl refl
-    (true, record { result = Ok tt; answer = tt; effect = refl; state = refl }) refl
+so_add : IsAnsweredSo (over_one_row (codes "add r 7") (codes "ok added 1 2") (codes "ok added 2 2"))
+unfolding digits
+so_add =
+    exchange (over_one_row (codes "add r 7") (codes "ok added 1 2") (codes "ok added 2 2"))
+    (says_command (Add (codes "r") (Int (pos 7) ∷ [])))
+    (record { queued = (1, line (codes "ok added 1 2")) ∷ []; cost = 0; kept = the_line }) (holding two_copies) reads_add
+    refl refl refl (not_memory_text 0 (line (codes "ok added 1 2")) refl refl)
+    (not_memory_text 0 (line (codes "ok added 2 2")) refl refl) refl refl (
+      true,
+      record {
+        result = Ok (More 2);
+        store = two_copies;
+        done = record { answer = (refl, refl, refl); stays = λ refused. absurd (true≢false (sym refused)) };
+        change = record {
+          deltas = [];
+          listed = refl;
+          told = record { state = holding two_copies; queued = [] };
+          tells = refl;
+          last = record { state = holding two_copies; queued = (1, line (codes "ok added 1 2")) ∷ [] };
+          replies = inl refl;
+          queued = refl;
+          cost = refl;
+          state = refl;
+        };
+        kept = refl;
+      },
+    ) refl
 
-so_drop : IsAnsweredSo (over_one_row (codes "drop q") (codes "ok") (codes "ox"))
-so_drop =
-    exchange (over_one_row (codes "drop q") (codes "ok") (codes "ox")) (says_command (Drop (codes "q"))) (answers 1 (line (codes "ok")) true)
-    (holding (record one_row { queries = [] })) reads_drop refl refl refl
-    (not_memory_text 0 (line (codes "ok")) refl refl) (not_memory_text 0 (line (codes "ox")) refl refl) refl refl
-    (true, record { result = Ok tt; store = _; done = record { answer = refl; stays = tt }; effect = refl; state = refl }) refl
+so_del : IsAnsweredSo (over_one_row (codes "del r 8") (codes "ok absent 1") (codes "ok absent 0"))
+unfolding digits
+so_del =
+    exchange (over_one_row (codes "del r 8") (codes "ok absent 1") (codes "ok absent 0"))
+    (says_command (Del (codes "r") (Int (pos 8) ∷ [])))
+    (record { queued = (1, line (codes "ok absent 1")) ∷ []; cost = 0; kept = no_line }) (holding one_row) reads_del
+    refl refl refl (not_memory_text 0 (line (codes "ok absent 1")) refl refl)
+    (not_memory_text 0 (line (codes "ok absent 0")) refl refl) refl refl (
+      true,
+      record {
+        result = Ok Absent;
+        store = one_row;
+        done = record { answer = (refl, refl); stays = tt };
+        change = record {
+          deltas = [];
+          listed = refl;
+          told = record { state = holding one_row; queued = [] };
+          tells = refl;
+          last = record { state = holding one_row; queued = (1, line (codes "ok absent 1")) ∷ [] };
+          replies = inl refl;
+          queued = refl;
+          cost = refl;
+          state = refl;
+        };
+        kept = refl;
+      },
+    ) refl
 
 so_batch : IsAnsweredSo (over_one_row (codes "batch") (codes "ok batch") (codes "ok botch"))
 so_batch =
@@ -300,4 +350,4 @@ so_quit =
 
 pub all_answered : AllAnswered exchanges
 all_answered =
-    (so_made, (so_taken, (so_part, (so_has, (so_open, (so_close, (so_watch, (so_unwatch, (so_drop, (so_batch, (so_done, (so_quit, tt))))))))))))
+    (so_made, (so_taken, (so_part, (so_has, (so_open, (so_close, (so_watch, (so_add, (so_del, (so_batch, (so_done, (so_quit, tt))))))))))))
