@@ -353,7 +353,7 @@ def a_watcher_sees_true_states_only(program, postgres):
         draw, states, seen = random.Random(5), [set(rows_in(sql, JOIN))], []
         with server.connect() as session, session.lives("q") as lives, contextlib.closing(psycopg2.connect(dsn)) as own:
             seen.append(set(next(iter(lives)).answers))
-            for number in range(2000 if LONG else 300):
+            for number in range(2000 if LONG else 200):
                 with contextlib.suppress(psycopg2.errors.UniqueViolation), own.cursor() as cursor:
                     for _ in range(draw.randrange(1, 6)):
                         change(cursor, draw)
@@ -952,7 +952,7 @@ def changes_of_other_tables(program, postgres):
     """They move the position and what is confirmed, so a session that is killed, or whose PostgreSQL is stopped, is resumed."""
     with shop(program, postgres) as (dsn, sql, server, feed):
         sql.execute("CREATE TABLE other (a int)")
-        for number in range(6):
+        for number in range(6 if LONG else 3):
             before = confirmed(sql)
             sql.execute("INSERT INTO other SELECT generate_series(1, 1000)")
             if number % 3:
