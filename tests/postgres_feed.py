@@ -353,7 +353,7 @@ def a_watcher_sees_true_states_only(program, postgres):
         draw, states, seen = random.Random(5), [set(rows_in(sql, JOIN))], []
         with server.connect() as session, session.lives("q") as lives, contextlib.closing(psycopg2.connect(dsn)) as own:
             seen.append(set(next(iter(lives)).answers))
-            for number in range(2000 if LONG else 300):
+            for number in range(2000 if LONG else 200):
                 with contextlib.suppress(psycopg2.errors.UniqueViolation), own.cursor() as cursor:
                     for _ in range(draw.randrange(1, 6)):
                         change(cursor, draw)
@@ -678,9 +678,9 @@ def a_comparison_is_killed_in_its_middle(program, postgres):
     """More rows than one transaction holds are compared anew, and the queries come once all are there."""
     with database(postgres) as (dsn, sql), Server(program) as server, Gate(server.port) as gate:
         sql.execute("CREATE TABLE bag (a int, b text); ALTER TABLE bag REPLICA IDENTITY FULL; CREATE TABLE t (a int PRIMARY KEY)")
-        sql.execute("INSERT INTO bag SELECT n % 3000, 'x' FROM generate_series(1, 70000) AS n; INSERT INTO t VALUES (1)")
+        sql.execute("INSERT INTO bag SELECT n % 50, 'x' FROM generate_series(1, 300) AS n; INSERT INTO t SELECT generate_series(1, 66000)")
         gate.shut_after(1)
-        with Feed(dsn, gate.port, "--tables", "bag,t", "--query", "q(a,b) <- bag(a,b), t(1)") as feed:
+        with Feed(dsn, gate.port, "--tables", "bag,t", "--query", "q(a,b) <- bag(a,b)", "--query", "p(a) <- t(a)") as feed:
             wait_for(gate.is_shut.is_set, "for the first part")
             wait_for(lambda: [one[2:] for one in positions(server)] == [(0, 1)], "for the first part in djq")
             with contextlib.closing(server.connect()) as session:
@@ -688,11 +688,13 @@ def a_comparison_is_killed_in_its_middle(program, postgres):
                     raises(djq.NoQuery, lambda query=query: session.snapshot(query))
             feed.kill()
             gate.open()
-            sql.execute("DELETE FROM bag WHERE a % 3 = 0; INSERT INTO bag SELECT n % 3100, 'x' FROM generate_series(1, 9000) AS n")
+            sql.execute("DELETE FROM bag WHERE a % 3 = 0; INSERT INTO bag SELECT n % 60, 'x' FROM generate_series(1, 90) AS n")
+            sql.execute("UPDATE t SET a = -a WHERE a % 1000 = 0; DELETE FROM t WHERE a % 1001 = 0")
             feed.start()
             await_place(sql, server)
             with contextlib.closing(server.connect()) as session:
                 expect(session.snapshot("q"), set(rows_in(sql, "SELECT * FROM bag")))
+                expect(session.snapshot("p"), set(rows_in(sql, "SELECT * FROM t")))
             expect_copies(sql, server, "bag")
 
 
@@ -950,7 +952,7 @@ def changes_of_other_tables(program, postgres):
     """They move the position and what is confirmed, so a session that is killed, or whose PostgreSQL is stopped, is resumed."""
     with shop(program, postgres) as (dsn, sql, server, feed):
         sql.execute("CREATE TABLE other (a int)")
-        for number in range(6):
+        for number in range(6 if LONG else 3):
             before = confirmed(sql)
             sql.execute("INSERT INTO other SELECT generate_series(1, 1000)")
             if number % 3:

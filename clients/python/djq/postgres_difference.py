@@ -88,7 +88,10 @@ def copies_of(held: Positions, relation: str, rows: Iterable[Answer], likely: Ma
     while waiting:
         for some in _parts(waiting, AT_ONCE):
             asked = [one.question() for one in some]
-            told = held.allow([_nothing(relation, one.row, count) for one, count in zip(some, asked)])
+            questions = [_nothing(relation, one.row, count) for one, count in zip(some, asked)]
+            # most rows have one copy and not two, so that all questions are answered alike
+            is_usual = max(asked) == 2 and held.refuse(questions)
+            told = [False] * len(some) if is_usual else held.allow(questions)
             for one, count, has in zip(some, asked, told):
                 one.take(count, has)
                 if one.low == MOST_COUNTED:

@@ -23,7 +23,7 @@ from dataclasses import dataclass, replace
 from .connection import Connection
 from .errors import Error, InUse, NoQuery, NoRelation, RowAbsent, SomeRefused, Taken
 from .postgres_stream import place_of
-from .protocol import Answer, Commit, Value, spell
+from .protocol import Answer, Commit, Rows, Value, spell
 
 RELATION = "postgres_position"
 
@@ -130,18 +130,31 @@ class Positions:
 
     def allow(self, transactions: Sequence[Sequence[str]]) -> list[bool]:
         """Which of these transactions, each of which changes nothing, aren't refused. Raises `Moved`."""
-        if self.position is None:
-            raise Moved("the position isn't known")
-        here = [self._line("del", self.position), self._line("add", self.position)]
         commits = []
         for lines in transactions:
             self.server._pump()
-            commits.append(self.server._say_transaction([*here, *lines]))
+            commits.append(self.server._say_transaction([*lines]))
         self.server._settle()
-        allowed = [_is_allowed(commit) for commit in commits]
-        if not all(allowed) and self.read() != [self.position]:
+        self._stay()
+        return [_is_allowed(commit) for commit in commits]
+
+    def refuse(self, transactions: Sequence[Sequence[str]]) -> bool:
+        """Whether all of these transactions are refused, as a row has no copy. It is asked faster than one by one. Raises
+        `Moved`."""
+        lines = [line for one in transactions for line in ("batch", *one, f"done {len(one)}")]
+        absent = Absences(lines)
+        self.server._check()
+        self.server._whole(self.server._protocol.say_rows, lines, ("\n".join(lines) + "\n").encode(), absent)
+        self.server._settle()
+        if absent.lost is not None:
+            raise absent.lost
+        self._stay()
+        return absent.absent == len(transactions)
+
+    def _stay(self) -> None:
+        """Raises `Moved` if the position isn't the one that was read or committed last."""
+        if self.position is None or self.read() != [self.position]:
             raise Moved(f"the position isn't {self.position} any more")
-        return allowed
 
     def _carry_out(self, lines: Sequence[str]) -> None:
         try:
@@ -152,6 +165,21 @@ class Positions:
     def _line(self, command: str, position: Position) -> str:
         values: tuple[Value, ...] = (self.slot, position.system, position.point, position.lsn, position.pieces)
         return " ".join([command, RELATION, *map(spell, values)])
+
+
+class Absences(Rows):
+    """Many commands that were queued as one: how many of them were refused as a row has no copy."""
+
+    def __init__(self, lines: list[str]) -> None:
+        super().__init__(lines, {})
+        self.absent = 0
+
+    def _refuse(self, reply: str) -> None:
+        if reply == "err 19 absent":
+            self.absent += 1
+            self.replies += 1
+        else:
+            super()._refuse(reply)
 
 
 def _is_allowed(commit: Commit) -> bool:

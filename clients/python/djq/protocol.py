@@ -582,11 +582,11 @@ class Protocol:
         """Queues so many blank lines, which the server runs without a reply."""
         self.outgoing += b"\n" * lines
 
-    def say_rows(self, lines: list[str], text: bytes) -> Rows:
-        """Queues commands that are each answered by one line; `text` is their bytes."""
+    def say_rows(self, lines: list[str], text: bytes, rows: Rows | None = None) -> Rows:
+        """Queues commands that are each answered by one line; `text` is their bytes, and `rows` takes the replies."""
         if self.ended is not None:
             raise self.ended
-        rows = Rows(lines, self.columns)
+        rows = rows or Rows(lines, self.columns)
         self._queue(rows, text, len(lines))
         return rows
 
