@@ -9,3 +9,4 @@ pub mod RestsSame
 pub mod QuerySame
 pub mod Steps
 pub mod Dialogues
+pub mod Sessions

@@ -30,6 +30,7 @@ ghost use Rattle.djq_determinacy.specs.Dialogues.{AllAnswered, exchanges};
 ghost use Rattle.djq_determinacy.specs.Memory.{NeverRefusedForMemory};
 ghost use Rattle.djq_determinacy.specs.Prefixes.{PrefixesReturn};
 ghost use Rattle.djq_determinacy.specs.Reductions.{RestsAgree};
+ghost use Rattle.djq_determinacy.specs.Sessions.{AreDialogues, dialogues};
 
 /// Two steps of one event from one state, to neither of which memory is refused, queue the same to each session, up to
 /// the order of a listing, and leave the same store, up to the order of rows.
@@ -55,4 +56,10 @@ pub fn prefixes_return()
 /// Twelve exchanges of a session: each may be answered so, and with one byte of the reply changed it may not.
 pub fn exchanges_are_answered()
     ensures { AllAnswered exchanges }
+{}
+
+/// Dialogues of sessions, of several lines each: each is a run of the machine, and with one byte of what is queued for
+/// its last line changed it is none.
+pub fn dialogues_are_runs()
+    ensures { AreDialogues dialogues }
 {}
