@@ -208,7 +208,7 @@ two_copies = record one_row {
 }
 
 -- a number that stands in r is an answer of q
-seven_is_answer : IsAnswer (seven ∷ []) sevens (Int (pos 7) ∷ [])
+pub seven_is_answer : IsAnswer (seven ∷ []) sevens (Int (pos 7) ∷ [])
 seven_is_answer = record {
   assignment = λ x. Int (pos 7);
   satisfies = All-cons (Satisfies (seven ∷ []) (λ x. Int (pos 7))) (record { relation = codes "r"; terms = Variable (codes "x") ∷ [] }) []

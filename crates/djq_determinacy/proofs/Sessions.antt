@@ -15,10 +15,20 @@ use Rattle.djq_model.specs.Data.{Bytes}
 use Rattle.djq_protocol.specs.declared.limits.TheConstants.{PENDING_BYTES}
 use Rattle.djq_protocol.specs.declared.answer.AddOutcome.TheVariants.{First, More}
 use Rattle.djq_protocol.specs.declared.answer.DeleteOutcome.TheVariants.{Last, Absent}
-use Rattle.djq_protocol.specs.declared.command.Command.TheVariants.{Rel, Add, Del}
+use Rattle.djq_protocol.specs.declared.command.Command.TheVariants.{Rel, Add, Del, Has, Query as Register}
+use Rattle.djq_protocol.specs.declared.answer.Refusal.TheVariants.{Syntax}
+use Rattle.djq_protocol.specs.declared.rest.QueryOutcome.TheVariants.{Registered}
+use Rattle.djq_value.specs.Token.{tokens}
+use Rattle.std.specs.Str.{is_utf8, chars}
+use lib.Utf8.{encode}
+use Rattle.djq_protocol.specs.Hypergraph.{edges_of, edges_from, numbers_in}
+use Rattle.djq_hypergraph.specs.JoinTree.{IsFreeConnex}
+use Rattle.djq_hypergraph.proofs.Labels.{count_self}
+use Rattle.djq_hypergraph.proofs.LabelTrees.{Rooted, hung_on}
+use Rattle.djq_hypergraph.proofs.JoinTrees.{free_connex_from}
 use Rattle.djq_protocol.specs.Line.{a_line, front_of, is_blank}
-use Rattle.djq_protocol.specs.Grammar.{Reading, says_command, reading_of}
-use Rattle.djq_protocol.specs.Reply.{line}
+use Rattle.djq_protocol.specs.Grammar.{Reading, outside, says_command, reading_of, command_of, items_in}
+use Rattle.djq_protocol.specs.Reply.{line, refusal_line}
 use Rattle.djq_store_spec.specs.Store.{Store, empty_store}
 use Rattle.djq_machine.specs.State.{State, Session, fresh, session_of, with_session}
 use Rattle.djq_machine.specs.Effect.{Effect, answers, says, queue_all}
@@ -33,8 +43,9 @@ use Rattle.djq_store_spec.specs.Delta.{IsDelta}
 use Rattle.djq_store_spec.specs.DeltaCost.{Delta, ArePartsOf, ListsDelta}
 use Rattle.djq_model.specs.Listed.{Listed, a_query, AnswersOf}
 use Rattle.djq_determinacy.specs.Determinacy.{SameQueued, IsNoRefusal}
-use Rattle.djq_determinacy.specs.Sessions.{DialogueLine, Dialogue, RunsWith, IsRunOfMachine, IsDialogue, DifferByOne, start_of, is_replied, ends_with, AreDialogues, dialogues, makes_r, inserts_seven}
-use Rattle.djq_determinacy.proofs.Dialogues.{is_list, only_text, not_memory_text, reads_rel, reads_add}
+use Rattle.djq_determinacy.specs.Sessions.{DialogueLine, Dialogue, RunsWith, IsRunOfMachine, IsDialogue, DifferByOne, start_of, is_replied, ends_with, AreDialogues, dialogues, makes_r, inserts_seven, registers_q}
+use Rattle.djq_determinacy.specs.Dialogues.{sevens, differences}
+use Rattle.djq_determinacy.proofs.Dialogues.{is_list, only_text, not_memory_text, seven_is_answer, reads_rel, reads_add, reads_del, reads_part, reads_has}
 use Rattle.djq_determinacy.proofs.Prefixes.{step_of, same_relations}
 use Rattle.djq_determinacy.proofs.Steps.{is_determined, run_same, reads_next}
 
@@ -227,6 +238,37 @@ one_apart : (s : ℕ) (a b : Bytes) → is_list a ≡ false → bytes_eq a b ≡
 one_apart s a b plain differ same =
     true≢false (sym ((bytes_eq-Decides a b).1 (only_text a b same.1 plain)) ∙ differ)
 
+-- ---- The query of the dialogues.
+
+abbrev edge : List ℕ
+edge = 0 ∷ []
+
+no_labels : (F : List ℕ) → Rooted F []
+no_labels F = record { order = []; those = λ a. refl; tree = tt }
+
+one_connex : IsFreeConnex (edge ∷ []) edge
+one_connex =
+    free_connex_from (edge ∷ []) edge
+    (hung_on [] edge [] (edge ∷ []) [] (no_labels []) (λ a. refl) (count_self [] [])
+    (λ x within below. absurd (omega arith)))
+    (hung_on edge edge edge (edge ∷ []) [] (no_labels edge) (λ a. refl) (count_self edge [])
+    (λ x within below. within))
+
+edges_are : edges_of sevens ≡ edge ∷ []
+unfolding edges_from numbers_in
+edges_are = refl
+
+is_connex : IsFreeConnex (edges_of sevens) edge
+is_connex = subst (λ E. IsFreeConnex E edge) (sym edges_are) one_connex
+
+reads_query : reading_of (codes "query q(x) <- r(x)") ≡ says_command (Register sevens)
+unfolding command_of is_utf8 chars encode tokens items_in
+reads_query = refl
+
+reads_del_seven : reading_of (codes "del r 7") ≡ says_command (Del (codes "r") (Int (pos 7) ∷ []))
+unfolding command_of is_utf8 chars encode tokens
+reads_del_seven = refl
+
 -- ---- Changes that no session watches.
 
 quiet_change : (old : State) (s : ℕ) (change : RowsChange) (store : Store) (reply : Bytes) (kept : Keeping)
@@ -338,12 +380,158 @@ added_first rest =
       },
     ) refl refl refl (one_clean 1 _ (not_memory_text 0 (line (codes "ok added 1 1")) refl refl))
 
+registered : (rows : List CountedRow) (n : ℕ) (rest pending : Bytes) → length pending ≤ PENDING_BYTES
+    → few_rows rows ≡ true
+    → IsSure (first_at (rows_left rows [] n) (with_bytes (line (codes "query q(x) <- r(x)") ++ rest) pending)) registers_q
+    (first_at (rows_left rows (a_query sevens ∷ []) n) (with_bytes rest (pending ++ line (codes "ok query 3"))))
+unfolding digits
+registered rows n rest pending short few =
+    sure (first_at (rows_left rows [] n) (with_bytes (line (codes "query q(x) <- r(x)") ++ rest) pending)) registers_q
+    (with_bytes (line (codes "query q(x) <- r(x)") ++ rest) pending) (says_command (Register sevens)) rest
+    (answers 1 (line (codes "ok query 3")) true)
+    (first_at (rows_left rows (a_query sevens ∷ []) n) (with_bytes rest pending)) refl refl reads_query refl refl short (
+      true,
+      inl (record {
+        result = Ok (Registered 3);
+        store = rows_left rows (a_query sevens ∷ []) n;
+        done = record {
+          answer = (is_connex, refl, omega arith, refl);
+          stays = λ refused. absurd (true≢false (sym refused));
+        };
+        effect = refl;
+        state = refl;
+      }),
+    ) refl refl (ap (λ b. b && true) few) (one_clean 1 _ (not_memory_text 0 (line (codes "ok query 3")) refl refl))
+
+-- a dialogue whose last line has one reply, which is no listing
+plain_dialogue : (before : List DialogueLine) (says reply other : Bytes) (at new : State)
+    → start_of (before ++ is_replied says other ∷ []) ≡ start_of (before ++ is_replied says reply ∷ [])
+    → Walk IsSure (start_of (before ++ is_replied says reply ∷ [])) before at → RunsWith at (is_replied says reply) new
+    → IsNoRefusal (line reply) → IsNoRefusal (line other) → is_list (line reply) ≡ false
+    → bytes_eq (line reply) (line other) ≡ false → differences (line reply) (line other) ≡ 1
+    → IsDialogue (ends_with before says reply other)
+plain_dialogue before says reply other at new start way last clean clean' plain differ one =
+    is_dialogue (ends_with before says reply other) at new start way last (one_clean 1 (line reply) clean)
+    (one_clean 1 (line other) clean') (one_apart 1 (line reply) (line other) plain differ) (refl, inl (one, refl))
+
 so_inserted : IsDialogue (ends_with (makes_r ∷ []) (codes "add r 7") (codes "ok added 1 1") (codes "ok added 2 1"))
 so_inserted =
-    is_dialogue (ends_with (makes_r ∷ []) (codes "add r 7") (codes "ok added 1 1") (codes "ok added 2 1"))
+    plain_dialogue (makes_r ∷ []) (codes "add r 7") (codes "ok added 1 1") (codes "ok added 2 1")
     (first_at (rows_left [] [] 0) (with_bytes (line (codes "add r 7")) ok)) _ refl
-    (_, made (line (codes "add r 7")), refl) (runs_of (added_first [])) (one_clean 1 _ (not_memory_text 0 (line (codes "ok added 1 1")) refl refl))
-    (one_clean 1 _ (not_memory_text 0 (line (codes "ok added 2 1")) refl refl)) (one_apart 1 (line (codes "ok added 1 1")) (line (codes "ok added 2 1")) refl refl) (refl, inl (refl, refl))
+    (_, made (line (codes "add r 7")), refl) (runs_of (added_first []))
+    (not_memory_text 0 (line (codes "ok added 1 1")) refl refl) (not_memory_text 0 (line (codes "ok added 2 1")) refl refl)
+    refl refl refl
+
+so_copied : IsDialogue (ends_with (makes_r ∷ inserts_seven ∷ []) (codes "add r 7") (codes "ok added 1 2") (codes "ok added 1 1"))
+unfolding digits
+so_copied =
+    plain_dialogue (makes_r ∷ inserts_seven ∷ []) (codes "add r 7") (codes "ok added 1 2") (codes "ok added 1 1")
+    (first_at (rows_left (of_seven 1) [] 1) (with_bytes (line (codes "add r 7")) ok_added)) _ refl
+    (_, made (line (codes "add r 7") ++ line (codes "add r 7")), (_, added_first (line (codes "add r 7")), refl))
+    (runs_with (first_at (rows_left (of_seven 1) [] 1) (with_bytes (line (codes "add r 7")) ok_added))
+    (is_replied (codes "add r 7") (codes "ok added 1 2")) (with_bytes (line (codes "add r 7")) ok_added)
+    (says_command (Add (codes "r") (Int (pos 7) ∷ []))) [] (replies_with (codes "ok added 1 2") the_line)
+    (first_at (rows_left (of_seven 2) [] 1) (with_bytes [] ok_added)) refl refl reads_add refl refl (omega arith) (
+      true,
+      record {
+        result = Ok (More 2);
+        store = rows_left (of_seven 2) [] 1;
+        done = record { answer = (refl, refl, refl); stays = λ refused. absurd (true≢false (sym refused)) };
+        change = no_change (first_at (rows_left (of_seven 1) [] 1) (with_bytes [] ok_added)) 1 (rows_left (of_seven 2) [] 1)
+            (line (codes "ok added 1 2")) the_line (inl refl);
+        kept = refl;
+      },
+    ) refl)
+    (not_memory_text 0 (line (codes "ok added 1 2")) refl refl) (not_memory_text 0 (line (codes "ok added 1 1")) refl refl)
+    refl refl refl
+
+so_deleted : IsDialogue (ends_with (makes_r ∷ inserts_seven ∷ []) (codes "del r 7") (codes "ok removed 2 0") (codes "ok removed 1 0"))
+unfolding digits
+so_deleted =
+    plain_dialogue (makes_r ∷ inserts_seven ∷ []) (codes "del r 7") (codes "ok removed 2 0") (codes "ok removed 1 0")
+    (first_at (rows_left (of_seven 1) [] 1) (with_bytes (line (codes "del r 7")) ok_added)) _ refl
+    (_, made (line (codes "add r 7") ++ line (codes "del r 7")), (_, added_first (line (codes "del r 7")), refl))
+    (runs_with (first_at (rows_left (of_seven 1) [] 1) (with_bytes (line (codes "del r 7")) ok_added))
+    (is_replied (codes "del r 7") (codes "ok removed 2 0")) (with_bytes (line (codes "del r 7")) ok_added)
+    (says_command (Del (codes "r") (Int (pos 7) ∷ []))) [] (replies_with (codes "ok removed 2 0") the_line)
+    (first_at (rows_left [] [] 2) (with_bytes [] ok_added)) refl refl reads_del_seven refl refl (omega arith) (
+      true,
+      record {
+        result = Ok Last;
+        store = rows_left [] [] 2;
+        done = record { answer = (refl, refl, refl); stays = tt };
+        change = quiet_change (first_at (rows_left (of_seven 1) [] 1) (with_bytes [] ok_added)) 1
+            (row_out (rows_left (of_seven 1) [] 1).relations (codes "r") (Int (pos 7) ∷ [])) (rows_left [] [] 2)
+            (line (codes "ok removed 2 0")) the_line refl (inl refl);
+        kept = refl;
+      },
+    ) refl)
+    (not_memory_text 0 (line (codes "ok removed 2 0")) refl refl)
+    (not_memory_text 0 (line (codes "ok removed 1 0")) refl refl) refl refl refl
+
+so_absent : IsDialogue (ends_with (makes_r ∷ inserts_seven ∷ []) (codes "del r 8") (codes "ok absent 1") (codes "ok absent 2"))
+unfolding digits
+so_absent =
+    plain_dialogue (makes_r ∷ inserts_seven ∷ []) (codes "del r 8") (codes "ok absent 1") (codes "ok absent 2")
+    (first_at (rows_left (of_seven 1) [] 1) (with_bytes (line (codes "del r 8")) ok_added)) _ refl
+    (_, made (line (codes "add r 7") ++ line (codes "del r 8")), (_, added_first (line (codes "del r 8")), refl))
+    (runs_with (first_at (rows_left (of_seven 1) [] 1) (with_bytes (line (codes "del r 8")) ok_added))
+    (is_replied (codes "del r 8") (codes "ok absent 1")) (with_bytes (line (codes "del r 8")) ok_added)
+    (says_command (Del (codes "r") (Int (pos 8) ∷ []))) [] (replies_with (codes "ok absent 1") no_line)
+    (first_at (rows_left (of_seven 1) [] 1) (with_bytes [] ok_added)) refl refl reads_del refl refl (omega arith) (
+      true,
+      record {
+        result = Ok Absent;
+        store = rows_left (of_seven 1) [] 1;
+        done = record { answer = (refl, refl); stays = tt };
+        change = no_change (first_at (rows_left (of_seven 1) [] 1) (with_bytes [] ok_added)) 1 (rows_left (of_seven 1) [] 1)
+            (line (codes "ok absent 1")) no_line (inl refl);
+        kept = refl;
+      },
+    ) refl)
+    (not_memory_text 0 (line (codes "ok absent 1")) refl refl) (not_memory_text 0 (line (codes "ok absent 2")) refl refl)
+    refl refl refl
+
+so_refused : IsDialogue (ends_with (makes_r ∷ []) (codes "rel") (codes "err 1 syntax") (codes "err 2 syntax"))
+so_refused =
+    plain_dialogue (makes_r ∷ []) (codes "rel") (codes "err 1 syntax") (codes "err 2 syntax")
+    (first_at (rows_left [] [] 0) (with_bytes (line (codes "rel")) ok)) _ refl (_, made (line (codes "rel")), refl)
+    (runs_with (first_at (rows_left [] [] 0) (with_bytes (line (codes "rel")) ok))
+    (is_replied (codes "rel") (codes "err 1 syntax")) (with_bytes (line (codes "rel")) ok) outside []
+    (says 1 (refusal_line Syntax)) (first_at (rows_left [] [] 0) (with_bytes [] ok)) refl refl reads_part refl refl
+    (omega arith) (refl, refl) refl)
+    (not_memory_text 5 (line (codes "err 1 syntax")) refl refl) (not_memory_text 4 (line (codes "err 2 syntax")) refl refl)
+    refl refl refl
+
+-- a row is inserted and the query registered, before what is still held
+after_query : (rest : Bytes)
+    → Walk IsSure (first_at empty_store (with_bytes (line (codes "rel r int") ++ line (codes "add r 7")
+    ++ line (codes "query q(x) <- r(x)") ++ rest) [])) (makes_r ∷ inserts_seven ∷ registers_q ∷ [])
+    (first_at (rows_left (of_seven 1) (a_query sevens ∷ []) 1) (with_bytes rest (ok_added ++ line (codes "ok query 3"))))
+after_query rest = (
+  _,
+  made (line (codes "add r 7") ++ line (codes "query q(x) <- r(x)") ++ rest),
+  (
+    _,
+    added_first (line (codes "query q(x) <- r(x)") ++ rest),
+    (_, registered (of_seven 1) 1 rest ok_added (omega arith) refl, refl),
+  ),
+)
+
+so_answered : IsDialogue (ends_with (makes_r ∷ inserts_seven ∷ registers_q ∷ []) (codes "has q 7") (codes "yes") (codes "yet"))
+so_answered =
+    let asks = line (codes "has q 7") in
+    let here = first_at (rows_left (of_seven 1) (a_query sevens ∷ []) 1)
+    (with_bytes asks (ok_added ++ line (codes "ok query 3"))) in
+    plain_dialogue (makes_r ∷ inserts_seven ∷ registers_q ∷ []) (codes "has q 7") (codes "yes") (codes "yet") here _ refl
+    (after_query asks)
+    (runs_with here (is_replied (codes "has q 7") (codes "yes")) (with_bytes asks (ok_added ++ line (codes "ok query 3")))
+    (says_command (Has (codes "q") (Int (pos 7) ∷ []))) []
+    (record { queued = (1, line (codes "yes")) ∷ []; cost = 1; kept = no_line })
+    (first_at (rows_left (of_seven 1) (a_query sevens ∷ []) 1) (with_bytes [] (ok_added ++ line (codes "ok query 3")))) refl
+    refl reads_has refl refl (omega arith)
+    (true, record { result = Ok true; tells = record { answer = seven_is_answer }; effect = refl; state = refl }) refl)
+    (not_memory_text 0 (line (codes "yes")) refl refl) (not_memory_text 0 (line (codes "yet")) refl refl) refl refl refl
 
 pub are_dialogues : AreDialogues dialogues
-are_dialogues = (so_inserted, ?a)
+are_dialogues = (so_inserted, (so_copied, (so_deleted, (so_absent, (so_refused, (so_answered, tt))))))

@@ -79,7 +79,7 @@ makes_r = is_replied (codes "rel r int") (codes "ok")
 abbrev pub inserts_seven : DialogueLine
 inserts_seven = is_replied (codes "add r 7") (codes "ok added 1 1")
 
--- a query of it is registered
+-- a query of it is registered, and watched; and a cursor is opened over it
 abbrev pub registers_q : DialogueLine
 registers_q = is_replied (codes "query q(x) <- r(x)") (codes "ok query 3")
 
