@@ -1,21 +1,32 @@
 -- Dialogues of sessions, as theorems.
-use Rattle.std.specs.Prelude.{ℕ, List, [], ◌∷◌, ◌++◌, ◌≡◌, ◌≤◌, ◌&&◌, ◌⊎◌, Bool, true, false, nat_le, None, Some, Option, IsSomeAnd, Ok, Err, All, codes, pos, length, IsPermutation, ⊤}
+use Rattle.std.specs.Prelude.{ℕ, List, [], ◌∷◌, ◌++◌, ◌≡◌, ◌≤◌, ◌+◌, ◌-◌, ◌==◌, Contains, map, get_or, ◌&&◌, ◌⊎◌, Bool, true, false, nat_le, None, Some, Option, IsSomeAnd, Ok, Err, All, codes, pos, length, IsPermutation, ⊤}
 use Rattle.std.specs.Str.{bytes_eq}
 use Rattle.std.specs.Fmt.{digits}
-use Rattle.std.proofs.Common.{refl, sym, ap, ◌∙◌, subst, inl, inr, arith}
-use Rattle.std.proofs.lemmas.Bool.{true≢false, and_parts}
+use Rattle.std.proofs.Common.{refl, sym, ap, ◌∙◌, subst, inl, inr, arith, length-append, append-nil}
+use Rattle.std.proofs.lemmas.Bool.{true≢false, and_parts, eqb-false}
 use Rattle.std.proofs.lemmas.List.Elements.{All-nil, All-cons, All-head}
 use Rattle.std.proofs.lemmas.Slice.Eq.{bytes_eq-Decides}
 use Rattle.std.proofs.lemmas.List.Sorted.{length_permutation, All-permutation}
 use Rattle.djq_model.specs.declared.relation.Relation.{Relation}
 use Rattle.djq_model.specs.declared.relation.CountedRow.{CountedRow}
 use Rattle.djq_model.specs.declared.relation.ColumnType.TheVariants.{Int as IntColumn}
+use Rattle.djq_model.specs.declared.value.Value.{Value}
 use Rattle.djq_model.specs.declared.value.Value.TheVariants.{Int}
-use Rattle.djq_model.specs.Data.{Bytes}
+use Rattle.djq_model.specs.declared.query.Atom.{Atom}
+use Rattle.djq_model.specs.declared.query.Term.TheVariants.{Variable}
+use Rattle.djq_model.specs.Answer.{IsAnswer, Satisfies, HoldsOf, StandForAll}
+use Rattle.djq_protocol.specs.declared.answer.Sign.{Sign}
+use Rattle.djq_protocol.specs.declared.answer.Sign.TheVariants.{Came, Went}
+use Rattle.djq_answer_laws.proofs.Lists.{first_there, first_or_later}
+use Rattle.djq_run_laws.proofs.Lists.{nothing_apart}
+use Rattle.std.proofs.lemmas.List.Kept.{AllPairs-cons}
+use Rattle.std.proofs.lemmas.List.{get_or-append-add}
+use Rattle.std.proofs.lemmas.Grind.{flat_map-append}
+use Rattle.djq_model.specs.Data.{Bytes, Tuple, plain_of}
 use Rattle.djq_protocol.specs.declared.limits.TheConstants.{PENDING_BYTES}
 use Rattle.djq_protocol.specs.declared.answer.AddOutcome.TheVariants.{First, More}
 use Rattle.djq_protocol.specs.declared.answer.DeleteOutcome.TheVariants.{Last, Absent}
-use Rattle.djq_protocol.specs.declared.command.Command.TheVariants.{Rel, Add, Del, Has, Query as Register}
+use Rattle.djq_protocol.specs.declared.command.Command.TheVariants.{Rel, Add, Del, Has, Watch, Open, Next, Batch, Done, Query as Register}
 use Rattle.djq_protocol.specs.declared.answer.Refusal.TheVariants.{Syntax}
 use Rattle.djq_protocol.specs.declared.rest.QueryOutcome.TheVariants.{Registered}
 use Rattle.djq_value.specs.Token.{tokens}
@@ -28,7 +39,7 @@ use Rattle.djq_hypergraph.proofs.LabelTrees.{Rooted, hung_on}
 use Rattle.djq_hypergraph.proofs.JoinTrees.{free_connex_from}
 use Rattle.djq_protocol.specs.Line.{a_line, front_of, is_blank}
 use Rattle.djq_protocol.specs.Grammar.{Reading, outside, says_command, reading_of, command_of, items_in}
-use Rattle.djq_protocol.specs.Reply.{line, refusal_line}
+use Rattle.djq_protocol.specs.Reply.{line, refusal_line, text_of, answer_line, last_line, at_line}
 use Rattle.djq_store_spec.specs.Store.{Store, empty_store}
 use Rattle.djq_machine.specs.State.{State, Session, fresh, session_of, with_session}
 use Rattle.djq_machine.specs.Effect.{Effect, answers, says, queue_all}
@@ -37,15 +48,15 @@ use Rattle.djq_machine.specs.LineStep.{run, ReadStep, FrontStep, behind_line}
 use Rattle.djq_machine.specs.Step.{stepped, Step, Acts, SameRelations, with_relations}
 use Rattle.djq_machine.specs.Walk.{Walk}
 use Rattle.djq_machine.specs.Outdating.{changed}
-use Rattle.djq_machine.specs.Watch.{affected, RepliesLast, ChangeStep}
+use Rattle.djq_machine.specs.Watch.{Telling, affected, RepliesLast, ChangeStep}
 use Rattle.djq_store_spec.specs.Changes.{RowsChange, accepted, unchanged, row_in, row_out}
-use Rattle.djq_store_spec.specs.Delta.{IsDelta}
-use Rattle.djq_store_spec.specs.DeltaCost.{Delta, ArePartsOf, ListsDelta}
+use Rattle.djq_store_spec.specs.Delta.{Change, HasChanged, IsDelta, change_lines}
+use Rattle.djq_store_spec.specs.DeltaCost.{Delta, Part, ListsAnswers, AreDeltas, ArePartsOf, ListsDelta}
 use Rattle.djq_model.specs.Listed.{Listed, a_query, AnswersOf}
-use Rattle.djq_determinacy.specs.Determinacy.{SameQueued, IsNoRefusal}
-use Rattle.djq_determinacy.specs.Sessions.{DialogueLine, Dialogue, RunsWith, IsRunOfMachine, IsDialogue, DifferByOne, start_of, is_replied, ends_with, AreDialogues, dialogues, makes_r, inserts_seven, registers_q}
+use Rattle.djq_determinacy.specs.Determinacy.{SameText, is_equal, are_pages, are_deltas, SameQueued, IsNoRefusal}
+use Rattle.djq_determinacy.specs.Sessions.{DialogueLine, Dialogue, RunsWith, IsRunOfMachine, IsDialogue, DifferByOne, start_of, is_replied, ends_with, AreDialogues, dialogues, makes_r, inserts_seven, registers_q, watches_q, opens_c, opens_batch, delta_at, delta_first, page_told}
 use Rattle.djq_determinacy.specs.Dialogues.{sevens, differences}
-use Rattle.djq_determinacy.proofs.Dialogues.{is_list, only_text, not_memory_text, seven_is_answer, reads_rel, reads_add, reads_del, reads_part, reads_has}
+use Rattle.djq_determinacy.proofs.Dialogues.{is_list, only_text, not_memory_text, seven_is_answer, reads_rel, reads_add, reads_del, reads_part, reads_has, reads_watch, reads_open, reads_batch, reads_done}
 use Rattle.djq_determinacy.proofs.Prefixes.{step_of, same_relations}
 use Rattle.djq_determinacy.proofs.Steps.{is_determined, run_same, reads_next}
 
@@ -533,5 +544,204 @@ so_answered =
     (true, record { result = Ok true; tells = record { answer = seven_is_answer }; effect = refl; state = refl }) refl)
     (not_memory_text 0 (line (codes "yes")) refl refl) (not_memory_text 0 (line (codes "yet")) refl refl) refl refl refl
 
+-- ---- Answers and deltas of the query.
+
+abbrev in_r : List CountedRow → List Relation
+in_r rows = record { name = codes "r"; types = IntColumn ∷ []; rows = rows } ∷ []
+
+abbrev atom_r : Atom
+atom_r = record { relation = codes "r"; terms = Variable (codes "x") ∷ [] }
+
+answer_in : (rows : List CountedRow) (t : Tuple) → IsAnswer (in_r rows) sevens t → Contains (plain_of rows) t
+answer_in rows t h =
+    let first = All-head (Satisfies (in_r rows) h.assignment) atom_r [] h.satisfies in
+    subst (λ u. Contains (plain_of rows) u) (by first.row first.stands ∙ sym h.on_head) first.is_there
+  where
+    by : (row : Tuple) → StandForAll h.assignment (Variable (codes "x") ∷ []) row → row ≡ h.assignment (codes "x") ∷ []
+    by [] s = absurd s
+    by (v ∷ []) s = ap (λ u. u ∷ []) (sym s.0)
+    by (v ∷ w ∷ vs) s = absurd s.1
+
+answer_of : (rows : List CountedRow) (v : Value) → Contains (plain_of rows) (v ∷ []) → IsAnswer (in_r rows) sevens (v ∷ [])
+answer_of rows v there = record {
+  assignment = λ x. v;
+  satisfies = All-cons (Satisfies (in_r rows) (λ x. v)) atom_r []
+      (record { row = v ∷ []; is_there = there; stands = (refl, tt) }) (All-nil (Satisfies (in_r rows) (λ x. v)));
+  compared = All-nil (HoldsOf (λ x. v));
+  on_head = refl;
+}
+
+abbrev came : Tuple → Change
+came t = record { sign = Came; answer = t }
+
+abbrev went : Tuple → Change
+went t = record { sign = Went; answer = t }
+
+one_came : (Before After : Tuple → Type 0) (u : Tuple) → After u → (Before u → ⊥)
+    → ((t : Tuple) → After t → (u ≡ t) ⊎ Before t) → ((t : Tuple) → Before t → After t)
+    → IsDelta Before After (came u ∷ [])
+one_came Before After u new old more stays = record {
+  different = AllPairs-cons (λ (s t : Tuple). s ≡ t → ⊥) u [] (All-nil (λ (t : Tuple). u ≡ t → ⊥))
+      (nothing_apart (λ (s t : Tuple). s ≡ t → ⊥));
+  changed = All-cons (λ (c : Change). HasChanged Before After c.sign c.answer) (came u) [] (new, old)
+      (All-nil (λ (c : Change). HasChanged Before After c.sign c.answer));
+  complete = by;
+}
+  where
+    by : (sign : Sign) (t : Tuple) → HasChanged Before After sign t → Contains (came u ∷ []) (record { sign = sign; answer = t })
+    by Went t h = absurd (h.1 (stays t h.0))
+    by Came t h = last (more t h.0)
+      where
+        last : (u ≡ t) ⊎ Before t → Contains (came u ∷ []) (came t)
+        last (inl same) = first_there (came u) [] (came t) (ap came same)
+        last (inr before) = absurd (h.1 before)
+
+-- the one answer over one row
+only_answer : (v : Value) (n : ℕ) (t : Tuple) → IsAnswer (in_r (record { row = v ∷ []; copies = n } ∷ [])) sevens t
+    → v ∷ [] ≡ t
+only_answer v n t h = by (first_or_later (v ∷ []) [] t (answer_in (record { row = v ∷ []; copies = n } ∷ []) t h))
+  where
+    by : (v ∷ [] ≡ t) ⊎ Contains [] t → v ∷ [] ≡ t
+    by (inl same) = same
+    by (inr none) = absurd (omega (arith, none.1))
+
+no_answer : (t : Tuple) → IsAnswer (in_r []) sevens t → ⊥
+no_answer t h = let none = answer_in [] t h in omega (arith, none.1)
+
+seven_came : IsDelta (IsAnswer (in_r []) sevens) (IsAnswer (in_r (of_seven 1)) sevens) (came (Int (pos 7) ∷ []) ∷ [])
+seven_came =
+    one_came (IsAnswer (in_r []) sevens) (IsAnswer (in_r (of_seven 1)) sevens) (Int (pos 7) ∷ [])
+    (answer_of (of_seven 1) (Int (pos 7)) (first_there (Int (pos 7) ∷ []) [] (Int (pos 7) ∷ []) refl))
+    (no_answer (Int (pos 7) ∷ [])) (λ t h. inl (only_answer (Int (pos 7)) 1 t h)) (λ t h. absurd (no_answer t h))
+
+abbrev seven_delta : Delta
+seven_delta = record { query = a_query sevens; changes = came (Int (pos 7) ∷ []) ∷ []; listed = 1; parts = [] }
+
+seven_listed : AreDeltas (in_r []) (row_in (in_r []) (codes "r") (Int (pos 7) ∷ [])) (a_query sevens ∷ []) (seven_delta ∷ [])
+seven_listed =
+    let change = row_in (in_r []) (codes "r") (Int (pos 7) ∷ []) in
+    record {
+      of_queries = refl;
+      are_deltas = All-cons (λ (d : Delta). IsDelta (AnswersOf (in_r []) d.query) (AnswersOf change.after d.query) d.changes)
+          seven_delta [] seven_came
+          (All-nil (λ (d : Delta). IsDelta (AnswersOf (in_r []) d.query) (AnswersOf change.after d.query) d.changes));
+      have_parts = All-cons (ArePartsOf (in_r []) change) seven_delta [] (record {
+        of_members = refl;
+        are_deltas = All-nil (λ (p : Part). IsDelta (IsAnswer (in_r []) p.query) (IsAnswer change.after p.query) p.changes);
+        list = All-nil (λ (p : Part). ListsAnswers (in_r []) change p.query p.changes p.listed);
+      }) (All-nil (ArePartsOf (in_r []) change));
+      list = All-cons (ListsDelta (in_r []) change) seven_delta [] refl (All-nil (ListsDelta (in_r []) change));
+    }
+
+-- ---- Two texts of one step end alike.
+
+ends_at : (front back : Bytes) → 2 ≤ length back
+    → get_or (front ++ back) (length (front ++ back) - 2) 0 ≡ get_or back (length back - 2) 0
+ends_at front back long =
+    let whole = length-append front back in
+    let place : length (front ++ back) - 2 ≡ length front + (length back - 2) = omega (arith, whole, long) in
+    ap (λ i. get_or (front ++ back) i 0) place ∙ get_or-append-add front back (length back - 2) 0
+
+-- the text of lines, and of one more
+text_more : (lines : List Bytes) (last : Bytes) → text_of (lines ++ last ∷ []) ≡ text_of lines ++ last
+text_more lines last =
+    flat_map-append (λ (l : Bytes). l) lines (last ∷ []) ∙ ap (λ b. text_of lines ++ b) (append-nil last)
+
+same_end : (a b : Bytes) → SameText a b → get_or a (length a - 2) 0 ≡ get_or b (length b - 2) 0
+same_end a b (is_equal same) = ap (λ (t : Bytes). get_or t (length t - 2) 0) same
+same_end a b (are_pages told told' end is is' long moved) =
+    ap (λ (t : Bytes). get_or t (length t - 2) 0) (is ∙ text_more (map answer_line told) (last_line end))
+    ∙ ends_at (text_of (map answer_line told)) (last_line end) (two end)
+    ∙ sym (ends_at (text_of (map answer_line told')) (last_line end) (two end))
+    ∙ sym (ap (λ (t : Bytes). get_or t (length t - 2) 0) (is' ∙ text_more (map answer_line told') (last_line end)))
+  where
+    two : (end : Bool) → 2 ≤ length (last_line end)
+    two true = omega arith
+    two false = omega arith
+same_end a b (are_deltas query changes changes' n moved is is') =
+    let two : 2 ≤ length (at_line query n) = omega arith in
+    ap (λ (t : Bytes). get_or t (length t - 2) 0) (is ∙ text_more (change_lines query changes) (at_line query n))
+    ∙ ends_at (text_of (change_lines query changes)) (at_line query n) two
+    ∙ sym (ends_at (text_of (change_lines query changes')) (at_line query n) two)
+    ∙ sym (ap (λ (t : Bytes). get_or t (length t - 2) 0) (is' ∙ text_more (change_lines query changes') (at_line query n)))
+
+end_apart : (a b : Bytes) → (get_or a (length a - 2) 0 == get_or b (length b - 2) 0) ≡ false → SameText a b → ⊥
+end_apart a b other same =
+    eqb-false (get_or a (length a - 2) 0) (get_or b (length b - 2) 0) other (same_end a b same)
+
+-- ---- A delta before the reply.
+
+abbrev queries : List Listed
+queries = a_query sevens ∷ []
+
+abbrev ok_query : Bytes
+ok_query = ok ++ line (codes "ok query 3")
+
+-- a query is registered over no rows, before what is still held
+query_alone : (rest : Bytes)
+    → Walk IsSure (first_at empty_store (with_bytes (line (codes "rel r int") ++ line (codes "query q(x) <- r(x)") ++ rest) []))
+    (makes_r ∷ registers_q ∷ []) (first_at (rows_left [] queries 0) (with_bytes rest ok_query))
+query_alone rest =
+    (_, made (line (codes "query q(x) <- r(x)") ++ rest), (_, registered [] 0 rest ok (omega arith) refl, refl))
+
+abbrev ok_watch : Bytes
+ok_watch = ok_query ++ line (codes "ok watch 0")
+
+watched : (rest : Bytes)
+    → IsSure (first_at (rows_left [] queries 0) (with_bytes (line (codes "watch q") ++ rest) ok_query)) watches_q
+    (first_at (rows_left [] queries 0) (record (with_bytes rest ok_watch) { watches = codes "q" ∷ [] }))
+unfolding digits
+watched rest =
+    sure (first_at (rows_left [] queries 0) (with_bytes (line (codes "watch q") ++ rest) ok_query)) watches_q
+    (with_bytes (line (codes "watch q") ++ rest) ok_query) (says_command (Watch (codes "q"))) rest
+    (says 1 (line (codes "ok watch 0")))
+    (first_at (rows_left [] queries 0) (record (with_bytes rest ok_query) { watches = codes "q" ∷ [] })) refl refl reads_watch
+    refl refl (omega arith) (true, record { result = Ok tt; answer = tt; effect = refl; state = refl }) refl refl refl
+    (one_clean 1 _ (not_memory_text 0 (line (codes "ok watch 0")) refl refl))
+
+two_clean : (s s' : ℕ) (a b : Bytes) → IsNoRefusal a → IsNoRefusal b → IsClean ((s, a) ∷ (s', b) ∷ [])
+two_clean s s' a b none none' =
+    All-cons (λ (q : ℕ × Bytes). IsNoRefusal q.1) (s, a) ((s', b) ∷ []) none (one_clean s' b none')
+
+so_delta : IsDialogue delta_first
+unfolding digits
+so_delta =
+    let adds = line (codes "add r 7") in
+    let added = line (codes "ok added 1 1") in
+    let y = record (with_bytes adds ok_watch) { watches = codes "q" ∷ [] } in
+    let old = first_at (rows_left [] queries 0) (record (with_bytes [] ok_watch) { watches = codes "q" ∷ [] }) in
+    let new = first_at (rows_left (of_seven 1) queries 1) (record (with_bytes [] ok_watch) { watches = codes "q" ∷ [] }) in
+    let here = first_at (rows_left [] queries 0) y in
+    let told : Telling = record { state = new; queued = (1, delta_at (codes "1")) ∷ [] } in
+    let start : Telling = record { state = new; queued = [] } in
+    let parts = (1, delta_at (codes "1")) ∷ (1, added) ∷ [] in
+    is_dialogue delta_first here _ refl
+    (_, made (line (codes "query q(x) <- r(x)") ++ line (codes "watch q") ++ adds),
+    (_, registered [] 0 (line (codes "watch q") ++ adds) ok (omega arith) refl, (_, watched adds, refl)))
+    (runs_with here delta_first.last y (says_command (Add (codes "r") (Int (pos 7) ∷ []))) []
+    (record { queued = parts; cost = 6; kept = the_line }) new refl refl reads_add refl refl (omega arith) (
+      true,
+      record {
+        result = Ok First;
+        store = rows_left (of_seven 1) queries 1;
+        done = record { answer = (refl, omega arith, refl); stays = λ refused. absurd (true≢false (sym refused)) };
+        change = record {
+          deltas = seven_delta ∷ [];
+          listed = seven_listed;
+          told = told;
+          tells = (told, (told, inr (inl (omega arith, refl)), (told, refl, refl)), refl);
+          last = record { state = new; queued = parts };
+          replies = inl refl;
+          queued = refl;
+          cost = refl;
+          state = refl;
+        };
+        kept = refl;
+      },
+    ) refl) (two_clean 1 1 _ added (not_memory_text 0 (delta_at (codes "1")) refl refl) (not_memory_text 0 added refl refl))
+    (two_clean 1 1 _ added (not_memory_text 0 (delta_at (codes "2")) refl refl) (not_memory_text 0 added refl refl))
+    (λ same. end_apart (delta_at (codes "1")) (delta_at (codes "2")) refl same.1) (refl, inl (refl, refl))
+
 pub are_dialogues : AreDialogues dialogues
-are_dialogues = (so_inserted, (so_copied, (so_deleted, (so_absent, (so_refused, (so_answered, tt))))))
+are_dialogues =
+    (so_inserted, (so_copied, (so_deleted, (so_absent, (so_refused, (so_answered, (so_delta, ?a)))))))

@@ -83,6 +83,59 @@ inserts_seven = is_replied (codes "add r 7") (codes "ok added 1 1")
 abbrev pub registers_q : DialogueLine
 registers_q = is_replied (codes "query q(x) <- r(x)") (codes "ok query 3")
 
+-- lines by which the session watches it, opens a cursor over it, and opens a batch
+abbrev pub watches_q : DialogueLine
+watches_q = is_replied (codes "watch q") (codes "ok watch 0")
+
+abbrev pub opens_c : DialogueLine
+opens_c = is_replied (codes "open c q") (codes "ok open")
+
+abbrev pub opens_batch : DialogueLine
+opens_batch = is_replied (codes "batch") (codes "ok batch")
+
+-- the delta of the row 7, after so many changes
+abbrev pub delta_at : Bytes → Bytes
+delta_at n = line (codes "+ q 7") ++ line (codes "at q " ++ n)
+
+-- The delta comes before the reply.
+abbrev pub delta_first : Dialogue
+delta_first = record {
+  before = makes_r ∷ registers_q ∷ watches_q ∷ [];
+  last = first_says (codes "add r 7") (delta_at (codes "1") ∷ line (codes "ok added 1 1") ∷ []);
+  other = (1, delta_at (codes "2")) ∷ (1, line (codes "ok added 1 1")) ∷ [];
+}
+
+-- The second session watches, and the first inserts.
+abbrev pub other_session : Dialogue
+other_session = record {
+  before = makes_r ∷ registers_q
+      ∷ record { session = 2; says = codes "watch q"; queued = (2, line (codes "ok watch 0")) ∷ [] } ∷ [];
+  last = record {
+    session = 1;
+    says = codes "add r 7";
+    queued = (2, delta_at (codes "1")) ∷ (1, line (codes "ok added 1 1")) ∷ [];
+  };
+  other = (2, delta_at (codes "2")) ∷ (1, line (codes "ok added 1 1")) ∷ [];
+}
+
+-- A batch updates a row: one change, of an answer that is removed and one that is added.
+abbrev pub row_updated : Dialogue
+row_updated = record {
+  before = makes_r ∷ inserts_seven ∷ registers_q ∷ is_replied (codes "watch q") (codes "ok watch 1") ∷ opens_batch
+      ∷ is_replied (codes "del r 7") (codes "ok held 1") ∷ is_replied (codes "add r 8") (codes "ok held 2") ∷ [];
+  last = first_says (codes "done")
+      ((line (codes "- q 7") ++ line (codes "+ q 8") ++ line (codes "at q 2")) ∷ line (codes "ok done 2 2") ∷ []);
+  other = (1, line (codes "- q 7") ++ line (codes "+ q 8") ++ line (codes "at q 2")) ∷ (1, line (codes "ok done 3 2")) ∷ [];
+}
+
+-- A page has the answer, and the end.
+abbrev pub page_told : Dialogue
+page_told = record {
+  before = makes_r ∷ inserts_seven ∷ registers_q ∷ opens_c ∷ [];
+  last = first_says (codes "next c 5") ((line (codes "= 7") ++ line (codes "end")) ∷ []);
+  other = (1, line (codes "= 7") ++ line (codes "ent")) ∷ [];
+}
+
 abbrev pub dialogues : List Dialogue
 dialogues =
     ends_with (makes_r ∷ []) (codes "add r 7") (codes "ok added 1 1") (codes "ok added 2 1")
@@ -91,6 +144,12 @@ dialogues =
     ∷ ends_with (makes_r ∷ inserts_seven ∷ []) (codes "del r 8") (codes "ok absent 1") (codes "ok absent 2")
     ∷ ends_with (makes_r ∷ []) (codes "rel") (codes "err 1 syntax") (codes "err 2 syntax")
     ∷ ends_with (makes_r ∷ inserts_seven ∷ registers_q ∷ []) (codes "has q 7") (codes "yes") (codes "yet")
+    ∷ delta_first
+    ∷ page_told
+    ∷ ends_with (makes_r ∷ registers_q ∷ opens_c ∷ inserts_seven ∷ []) (codes "next c 1") (codes "stale c r 1")
+    (codes "stale c r 2")
+    ∷ ends_with (makes_r ∷ opens_batch ∷ is_replied (codes "del r 7") (codes "ok held 1") ∷ []) (codes "done")
+    (codes "err 19 absent") (codes "err 18 absent")
     ∷ []
 
 -- Each of these is one.
