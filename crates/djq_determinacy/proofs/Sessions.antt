@@ -22,7 +22,7 @@ use Rattle.djq_run_laws.proofs.Lists.{nothing_apart}
 use Rattle.std.proofs.lemmas.List.Kept.{AllPairs-cons}
 use Rattle.std.proofs.lemmas.List.{get_or-append-add}
 use Rattle.std.proofs.lemmas.Grind.{flat_map-append}
-use Rattle.djq_model.specs.Data.{Bytes, Tuple, plain_of}
+use Rattle.djq_model.specs.Data.{Bytes, Tuple, plain_of, rows_of, has_row}
 use Rattle.djq_protocol.specs.declared.limits.TheConstants.{PENDING_BYTES}
 use Rattle.djq_protocol.specs.declared.answer.AddOutcome.TheVariants.{First, More}
 use Rattle.djq_protocol.specs.declared.answer.DeleteOutcome.TheVariants.{Last, Absent}
@@ -40,8 +40,14 @@ use Rattle.djq_hypergraph.proofs.JoinTrees.{free_connex_from}
 use Rattle.djq_protocol.specs.Line.{a_line, front_of, is_blank}
 use Rattle.djq_protocol.specs.Grammar.{Reading, outside, says_command, reading_of, command_of, items_in}
 use Rattle.djq_protocol.specs.Reply.{line, refusal_line, text_of, answer_line, last_line, at_line}
-use Rattle.djq_store_spec.specs.Store.{Store, empty_store}
-use Rattle.djq_machine.specs.State.{State, Session, fresh, session_of, with_session}
+use Rattle.djq_store_spec.specs.Store.{Store, Position, open_at, stale, empty_store}
+use Rattle.djq_store_spec.specs.Listing.{TellsAnswers}
+use Rattle.djq_store_spec.specs.Held.{HeldLine, HeldTransaction, nothing_held, holding}
+use Rattle.djq_store_spec.specs.Lines.{copies_before}
+use Rattle.djq_protocol.specs.declared.held.Verb.TheVariants.{Add as Adds, Delete as Deletes}
+use Rattle.djq_protocol.specs.declared.held.LineRefusal.TheVariants.{Absent as NoneThere}
+use Rattle.djq_protocol.specs.declared.held.DoneRefusal.TheVariants.{Line}
+use Rattle.djq_machine.specs.State.{State, Session, Cursor, fresh, session_of, with_session}
 use Rattle.djq_machine.specs.Effect.{Effect, answers, says, queue_all}
 use Rattle.djq_machine.specs.Keeping.{Keeping, no_line, the_line}
 use Rattle.djq_machine.specs.LineStep.{run, ReadStep, FrontStep, behind_line}
@@ -714,7 +720,7 @@ so_delta =
     let here = first_at (rows_left [] queries 0) y in
     let told : Telling = record { state = new; queued = (1, delta_at (codes "1")) ∷ [] } in
     let start : Telling = record { state = new; queued = [] } in
-    let parts = (1, delta_at (codes "1")) ∷ (1, added) ∷ [] in
+    let parts : List (ℕ × Bytes) = (1, delta_at (codes "1")) ∷ (1, added) ∷ [] in
     is_dialogue delta_first here _ refl
     (_, made (line (codes "query q(x) <- r(x)") ++ line (codes "watch q") ++ adds),
     (_, registered [] 0 (line (codes "watch q") ++ adds) ok (omega arith) refl, (_, watched adds, refl)))
@@ -742,6 +748,197 @@ so_delta =
     (two_clean 1 1 _ added (not_memory_text 0 (delta_at (codes "2")) refl refl) (not_memory_text 0 added refl refl))
     (λ same. end_apart (delta_at (codes "1")) (delta_at (codes "2")) refl same.1) (refl, inl (refl, refl))
 
+-- ---- Cursors.
+
+abbrev cursor_c : Position → Cursor
+cursor_c p = record { name = codes "c"; query = codes "q"; position = p }
+
+opened : (rows : List CountedRow) (n : ℕ) (rest pending : Bytes) → length pending ≤ PENDING_BYTES → few_rows rows ≡ true
+    → IsSure (first_at (rows_left rows queries n) (with_bytes (line (codes "open c q") ++ rest) pending)) opens_c
+    (first_at (rows_left rows queries n)
+    (record (with_bytes rest (pending ++ line (codes "ok open"))) { cursors = cursor_c (open_at [] false) ∷ [] }))
+opened rows n rest pending short few =
+    sure (first_at (rows_left rows queries n) (with_bytes (line (codes "open c q") ++ rest) pending)) opens_c
+    (with_bytes (line (codes "open c q") ++ rest) pending) (says_command (Open (codes "c") (codes "q"))) rest
+    (says 1 (line (codes "ok open")))
+    (first_at (rows_left rows queries n) (record (with_bytes rest pending) { cursors = cursor_c (open_at [] false) ∷ [] }))
+    refl refl reads_open refl refl short (true, record { result = Ok tt; answer = tt; effect = refl; state = refl }) refl refl
+    (ap (λ b. b && true) few) (one_clean 1 _ (not_memory_text 0 (line (codes "ok open")) refl refl))
+
+reads_next_five : reading_of (codes "next c 5") ≡ says_command (Next (codes "c") 5)
+unfolding command_of is_utf8 chars encode tokens
+reads_next_five = refl
+
+reads_next_one : reading_of (codes "next c 1") ≡ says_command (Next (codes "c") 1)
+unfolding command_of is_utf8 chars encode tokens
+reads_next_one = refl
+
+seven_told : (count : ℕ) → 1 ≤ count
+    → TellsAnswers (IsAnswer (in_r (of_seven 1)) sevens) [] count ((Int (pos 7) ∷ []) ∷ []) true
+seven_told count some = record {
+  answers = All-cons (IsAnswer (in_r (of_seven 1)) sevens) (Int (pos 7) ∷ []) []
+      (answer_of (of_seven 1) (Int (pos 7)) (first_there (Int (pos 7) ∷ []) [] (Int (pos 7) ∷ []) refl))
+      (All-nil (IsAnswer (in_r (of_seven 1)) sevens));
+  different = AllPairs-cons (λ (s t : Tuple). s ≡ t → ⊥) (Int (pos 7) ∷ []) [] (All-nil (λ (t : Tuple). Int (pos 7) ∷ [] ≡ t → ⊥))
+      (nothing_apart (λ (s t : Tuple). s ≡ t → ⊥));
+  none_left = λ ends t h. first_there (Int (pos 7) ∷ []) [] t (only_answer (Int (pos 7)) 1 t h);
+  some_left = λ ends. absurd (true≢false ends);
+  at_most = some;
+  all_asked = λ ends. absurd (true≢false ends);
+}
+
+so_page : IsDialogue page_told
+unfolding digits
+so_page =
+    let asks = line (codes "next c 5") in
+    let before = ok_added ++ line (codes "ok query 3") in
+    let pending = before ++ line (codes "ok open") in
+    let y = record (with_bytes asks pending) { cursors = cursor_c (open_at [] false) ∷ [] } in
+    let here = first_at (rows_left (of_seven 1) queries 1) y in
+    let page = line (codes "= 7") ++ line (codes "end") in
+    let other = line (codes "= 7") ++ line (codes "ent") in
+    is_dialogue page_told here _ refl
+    (_, made (line (codes "add r 7") ++ line (codes "query q(x) <- r(x)") ++ line (codes "open c q") ++ asks),
+    (_, added_first (line (codes "query q(x) <- r(x)") ++ line (codes "open c q") ++ asks),
+    (_, registered (of_seven 1) 1 (line (codes "open c q") ++ asks) ok_added (omega arith) refl,
+    (_, opened (of_seven 1) 1 asks before (omega arith) refl, refl))))
+    (runs_with here page_told.last y (says_command (Next (codes "c") 5)) []
+    (record { queued = (1, page) ∷ []; cost = 6; kept = no_line }) (first_at (rows_left (of_seven 1) queries 1)
+    (record (with_bytes [] pending) { cursors = cursor_c (open_at ((Int (pos 7) ∷ []) ∷ []) true) ∷ [] })) refl refl
+    reads_next_five refl refl (omega arith) (
+      true,
+      inl (record {
+        told = (Int (pos 7) ∷ []) ∷ [];
+        end = true;
+        tells = seven_told 5 (omega arith);
+        effect = refl;
+        state = refl;
+      }),
+    ) refl) (one_clean 1 page (not_memory_text 0 page refl refl)) (one_clean 1 other (not_memory_text 0 other refl refl))
+    (λ same. end_apart page other refl same.1) (refl, inl (refl, refl))
+
+so_stale : IsDialogue (ends_with (makes_r ∷ registers_q ∷ opens_c ∷ inserts_seven ∷ []) (codes "next c 1") (codes "stale c r 1") (codes "stale c r 2"))
+unfolding digits
+so_stale =
+    let asks = line (codes "next c 1") in
+    let adds = line (codes "add r 7") ++ asks in
+    let pending = ok_query ++ line (codes "ok open") in
+    let after = pending ++ line (codes "ok added 1 1") in
+    let y = record (with_bytes adds pending) { cursors = cursor_c (open_at [] false) ∷ [] } in
+    let taken = record (with_bytes asks pending) { cursors = cursor_c (open_at [] false) ∷ [] } in
+    let z = record (with_bytes asks after) { cursors = cursor_c (stale (codes "r") 1) ∷ [] } in
+    let here = first_at (rows_left (of_seven 1) queries 1) z in
+    let inserted : IsSure (first_at (rows_left [] queries 0) y) inserts_seven here =
+    sure (first_at (rows_left [] queries 0) y) inserts_seven y (says_command (Add (codes "r") (Int (pos 7) ∷ []))) asks
+    (replies_with (codes "ok added 1 1") the_line) (first_at (rows_left (of_seven 1) queries 1)
+    (record (with_bytes asks pending) { cursors = cursor_c (stale (codes "r") 1) ∷ [] })) refl refl reads_add refl refl
+    (omega arith) (
+      true,
+      record {
+        result = Ok First;
+        store = rows_left (of_seven 1) queries 1;
+        done = record { answer = (refl, omega arith, refl); stays = λ refused. absurd (true≢false (sym refused)) };
+        change = quiet_change (first_at (rows_left [] queries 0) taken) 1
+            (row_in (rows_left [] queries 0).relations (codes "r") (Int (pos 7) ∷ [])) (rows_left (of_seven 1) queries 1)
+            (line (codes "ok added 1 1")) the_line refl (inl refl);
+        kept = refl;
+      },
+    ) refl refl refl (one_clean 1 _ (not_memory_text 0 (line (codes "ok added 1 1")) refl refl)) in
+    plain_dialogue (makes_r ∷ registers_q ∷ opens_c ∷ inserts_seven ∷ []) (codes "next c 1") (codes "stale c r 1")
+    (codes "stale c r 2") here _ refl
+    (_, made (line (codes "query q(x) <- r(x)") ++ line (codes "open c q") ++ adds),
+    (_, registered [] 0 (line (codes "open c q") ++ adds) ok (omega arith) refl,
+    (_, opened [] 0 adds ok_query (omega arith) refl, (_, inserted, refl))))
+    (runs_with here (is_replied (codes "next c 1") (codes "stale c r 1")) z (says_command (Next (codes "c") 1)) []
+    (says 1 (line (codes "stale c r 1"))) (first_at (rows_left (of_seven 1) queries 1)
+    (record (with_bytes [] after) { cursors = cursor_c (stale (codes "r") 1) ∷ [] })) refl refl reads_next_one refl refl
+    (omega arith) (true, (refl, refl)) refl)
+    (not_memory_text 0 (line (codes "stale c r 1")) refl refl) (not_memory_text 0 (line (codes "stale c r 2")) refl refl)
+    refl refl refl
+
+-- ---- Batches.
+
+batched : (store : Store) (watches : List Bytes) (rest pending : Bytes) → length pending ≤ PENDING_BYTES
+    → are_few store.relations ≡ true
+    → IsSure (first_at store (record (with_bytes (line (codes "batch") ++ rest) pending) { watches = watches })) opens_batch
+    (first_at store
+    (record (with_bytes rest (pending ++ line (codes "ok batch"))) { watches = watches; batch = Some nothing_held }))
+batched store watches rest pending short few =
+    sure (first_at store (record (with_bytes (line (codes "batch") ++ rest) pending) { watches = watches })) opens_batch
+    (record (with_bytes (line (codes "batch") ++ rest) pending) { watches = watches }) (says_command Batch) rest
+    (says 1 (line (codes "ok batch")))
+    (first_at store (record (with_bytes rest pending) { watches = watches; batch = Some nothing_held })) refl refl reads_batch
+    refl refl short (true, record { result = Ok tt; answer = tt; effect = refl; state = refl }) refl refl few
+    (one_clean 1 _ (not_memory_text 0 (line (codes "ok batch")) refl refl))
+
+abbrev held_seven : HeldTransaction
+held_seven = holding nothing_held Deletes (codes "r") (Int (pos 7) ∷ []) (codes "del r 7")
+
+holds_seven : (rows : List CountedRow) (listed : List Listed) (n : ℕ) (watches : List Bytes) (rest pending : Bytes)
+    → length pending ≤ PENDING_BYTES → few_rows rows ≡ true
+    → IsSure (first_at (rows_left rows listed n) (record (with_bytes (line (codes "del r 7") ++ rest) pending)
+    { watches = watches; batch = Some nothing_held })) (is_replied (codes "del r 7") (codes "ok held 1"))
+    (first_at (rows_left rows listed n)
+    (record (with_bytes rest (pending ++ line (codes "ok held 1"))) { watches = watches; batch = Some held_seven }))
+unfolding digits
+holds_seven rows listed n watches rest pending short few =
+    sure (first_at (rows_left rows listed n) (record (with_bytes (line (codes "del r 7") ++ rest) pending)
+    { watches = watches; batch = Some nothing_held })) (is_replied (codes "del r 7") (codes "ok held 1"))
+    (record (with_bytes (line (codes "del r 7") ++ rest) pending) { watches = watches; batch = Some nothing_held })
+    (says_command (Del (codes "r") (Int (pos 7) ∷ []))) rest (says 1 (line (codes "ok held 1")))
+    (first_at (rows_left rows listed n) (record (with_bytes rest pending) { watches = watches; batch = Some held_seven }))
+    refl refl reads_del_seven refl refl short (true, record { result = Ok tt; answer = tt; effect = refl; state = refl })
+    refl refl (ap (λ b. b && true) few) (one_clean 1 _ (not_memory_text 0 (line (codes "ok held 1")) refl refl))
+
+so_lacking : IsDialogue (ends_with (makes_r ∷ opens_batch ∷ is_replied (codes "del r 7") (codes "ok held 1") ∷ []) (codes "done") (codes "err 19 absent") (codes "err 18 absent"))
+so_lacking =
+    let ends = line (codes "done") in
+    let deletes = line (codes "del r 7") ++ ends in
+    let pending = (ok ++ line (codes "ok batch")) ++ line (codes "ok held 1") in
+    let y = record (with_bytes ends pending) { batch = Some held_seven } in
+    let here = first_at (rows_left [] [] 0) y in
+    let lines = held_seven.lines in
+    let held : HeldLine = record { verb = Deletes; relation = codes "r"; row = Int (pos 7) ∷ [] } in
+    plain_dialogue (makes_r ∷ opens_batch ∷ is_replied (codes "del r 7") (codes "ok held 1") ∷ []) (codes "done")
+    (codes "err 19 absent") (codes "err 18 absent") here _ refl
+    (_, made (line (codes "batch") ++ deletes),
+    (_, batched (rows_left [] [] 0) [] deletes ok (omega arith) refl,
+    (_, holds_seven [] [] 0 [] ends (ok ++ line (codes "ok batch")) (omega arith) refl, refl)))
+    (runs_with here (is_replied (codes "done") (codes "err 19 absent")) y (says_command (Done None)) []
+    (replies_with (codes "err 19 absent") no_line) (first_at (rows_left [] [] 0) (with_bytes [] pending)) refl refl reads_done
+    refl refl (omega arith) (
+      true,
+      record {
+        result = Err (Line (record { at = 0; refusal = NoneThere }));
+        store = rows_left [] [] 0;
+        done = record {
+          answer = (refl, refl);
+          does = (
+            record {
+              front = [];
+              at = held;
+              rest = [];
+              parts = refl;
+              place = refl;
+              places = refl;
+              stops = (refl, refl);
+            },
+            refl,
+          );
+          counted = All-cons (λ (h : HeldLine). has_row (rows_of (in_r []) h.relation) h.row ≡ true
+              → 1 ≤ copies_before (in_r []) h) held [] (λ there. absurd (true≢false (sym there)))
+              (All-nil (λ (h : HeldLine). has_row (rows_of (in_r []) h.relation) h.row ≡ true
+              → 1 ≤ copies_before (in_r []) h));
+        };
+        change = no_change (first_at (rows_left [] [] 0) (with_bytes [] pending)) 1 (rows_left [] [] 0)
+            (line (codes "err 19 absent")) no_line (inl refl);
+        kept = refl;
+      },
+    ) refl)
+    (not_memory_text 5 (line (codes "err 19 absent")) refl refl)
+    (not_memory_text 5 (line (codes "err 18 absent")) refl refl) refl refl refl
+
 pub are_dialogues : AreDialogues dialogues
 are_dialogues =
-    (so_inserted, (so_copied, (so_deleted, (so_absent, (so_refused, (so_answered, (so_delta, ?a)))))))
+    (so_inserted, (so_copied, (so_deleted, (so_absent, (so_refused, (so_answered, (so_delta, (so_page,
+    (so_stale, (so_lacking, tt))))))))))
