@@ -17,7 +17,7 @@ use Rattle.djq_model.specs.declared.query.Term.TheVariants.{Variable}
 use Rattle.djq_model.specs.Answer.{IsAnswer, Satisfies, HoldsOf, StandForAll}
 use Rattle.djq_protocol.specs.declared.answer.Sign.{Sign}
 use Rattle.djq_protocol.specs.declared.answer.Sign.TheVariants.{Came, Went}
-use Rattle.djq_answer_laws.proofs.Lists.{first_there, first_or_later}
+use Rattle.djq_answer_laws.proofs.Lists.{first_there, later_there, first_or_later}
 use Rattle.djq_run_laws.proofs.Lists.{nothing_apart}
 use Rattle.std.proofs.lemmas.List.Kept.{AllPairs-cons}
 use Rattle.std.proofs.lemmas.List.{get_or-append-add}
@@ -44,12 +44,13 @@ use Rattle.djq_store_spec.specs.Store.{Store, Position, open_at, stale, empty_st
 use Rattle.djq_store_spec.specs.Listing.{TellsAnswers}
 use Rattle.djq_store_spec.specs.Held.{HeldLine, HeldTransaction, nothing_held, holding}
 use Rattle.djq_store_spec.specs.Lines.{copies_before}
+use Rattle.djq_store_spec.specs.Transaction.{lines_change}
 use Rattle.djq_protocol.specs.declared.held.Verb.TheVariants.{Add as Adds, Delete as Deletes}
 use Rattle.djq_protocol.specs.declared.held.LineRefusal.TheVariants.{Absent as NoneThere}
 use Rattle.djq_protocol.specs.declared.held.DoneRefusal.TheVariants.{Line}
 use Rattle.djq_machine.specs.State.{State, Session, Cursor, fresh, session_of, with_session}
 use Rattle.djq_machine.specs.Effect.{Effect, answers, says, queue_all}
-use Rattle.djq_machine.specs.Keeping.{Keeping, no_line, the_line}
+use Rattle.djq_machine.specs.Keeping.{Keeping, no_line, the_line, the_batch}
 use Rattle.djq_machine.specs.LineStep.{run, ReadStep, FrontStep, behind_line}
 use Rattle.djq_machine.specs.Step.{stepped, Step, Acts, SameRelations, with_relations}
 use Rattle.djq_machine.specs.Walk.{Walk}
@@ -60,7 +61,7 @@ use Rattle.djq_store_spec.specs.Delta.{Change, HasChanged, IsDelta, change_lines
 use Rattle.djq_store_spec.specs.DeltaCost.{Delta, Part, ListsAnswers, AreDeltas, ArePartsOf, ListsDelta}
 use Rattle.djq_model.specs.Listed.{Listed, a_query, AnswersOf}
 use Rattle.djq_determinacy.specs.Determinacy.{SameText, is_equal, are_pages, are_deltas, SameQueued, IsNoRefusal}
-use Rattle.djq_determinacy.specs.Sessions.{DialogueLine, Dialogue, RunsWith, IsRunOfMachine, IsDialogue, DifferByOne, start_of, is_replied, ends_with, AreDialogues, dialogues, makes_r, inserts_seven, registers_q, watches_q, opens_c, opens_batch, delta_at, delta_first, page_told}
+use Rattle.djq_determinacy.specs.Sessions.{DialogueLine, Dialogue, RunsWith, IsRunOfMachine, IsDialogue, DifferByOne, start_of, is_replied, ends_with, AreDialogues, dialogues, makes_r, inserts_seven, registers_q, watches_q, opens_c, opens_batch, delta_at, delta_first, page_told, other_session, row_updated}
 use Rattle.djq_determinacy.specs.Dialogues.{sevens, differences}
 use Rattle.djq_determinacy.proofs.Dialogues.{is_list, only_text, not_memory_text, seven_is_answer, reads_rel, reads_add, reads_del, reads_part, reads_has, reads_watch, reads_open, reads_batch, reads_done}
 use Rattle.djq_determinacy.proofs.Prefixes.{step_of, same_relations}
@@ -330,9 +331,12 @@ no_change old s store reply kept replies = record {
 
 -- ---- The states of the dialogues.
 
--- the first session is so, and the second has said nothing
+-- the sessions are so; or the first is, and the second has said nothing
+abbrev both_at : Store → Session → Session → State
+both_at store y z = record { store = store; stopped = false; sessions = y ∷ z ∷ [] }
+
 abbrev first_at : Store → Session → State
-first_at store y = record { store = store; stopped = false; sessions = y ∷ fresh 2 ∷ [] }
+first_at store y = both_at store y (fresh 2)
 
 -- a session with these bytes held, and these pending
 abbrev with_bytes : Bytes → Bytes → Session
@@ -361,12 +365,12 @@ ok = line (codes "ok")
 abbrev ok_added : Bytes
 ok_added = ok ++ line (codes "ok added 1 1")
 
-made : (rest : Bytes) → IsSure (first_at empty_store (with_bytes (line (codes "rel r int") ++ rest) [])) makes_r
-    (first_at (rows_left [] [] 0) (with_bytes rest ok))
-made rest =
-    sure (first_at empty_store (with_bytes (line (codes "rel r int") ++ rest) [])) makes_r
+made_beside : (z : Session) (rest : Bytes) → IsSure (both_at empty_store (with_bytes (line (codes "rel r int") ++ rest) []) z) makes_r
+    (both_at (rows_left [] [] 0) (with_bytes rest ok) z)
+made_beside z rest =
+    sure (both_at empty_store (with_bytes (line (codes "rel r int") ++ rest) []) z) makes_r
     (with_bytes (line (codes "rel r int") ++ rest) []) (says_command (Rel (codes "r") (IntColumn ∷ []))) rest
-    (answers 1 ok true) (first_at (rows_left [] [] 0) (with_bytes rest [])) refl refl reads_rel refl refl (omega arith) (
+    (answers 1 ok true) (both_at (rows_left [] [] 0) (with_bytes rest []) z) refl refl reads_rel refl refl (omega arith) (
       true,
       record {
         result = Ok tt;
@@ -376,6 +380,10 @@ made rest =
         state = refl;
       },
     ) refl refl refl (one_clean 1 ok (not_memory_text 0 ok refl refl))
+
+made : (rest : Bytes) → IsSure (first_at empty_store (with_bytes (line (codes "rel r int") ++ rest) [])) makes_r
+    (first_at (rows_left [] [] 0) (with_bytes rest ok))
+made rest = made_beside (fresh 2) rest
 
 added_first : (rest : Bytes) → IsSure (first_at (rows_left [] [] 0) (with_bytes (line (codes "add r 7") ++ rest) ok)) inserts_seven
     (first_at (rows_left (of_seven 1) [] 1) (with_bytes rest ok_added))
@@ -397,16 +405,16 @@ added_first rest =
       },
     ) refl refl refl (one_clean 1 _ (not_memory_text 0 (line (codes "ok added 1 1")) refl refl))
 
-registered : (rows : List CountedRow) (n : ℕ) (rest pending : Bytes) → length pending ≤ PENDING_BYTES
+registered_beside : (z : Session) (rows : List CountedRow) (n : ℕ) (rest pending : Bytes) → length pending ≤ PENDING_BYTES
     → few_rows rows ≡ true
-    → IsSure (first_at (rows_left rows [] n) (with_bytes (line (codes "query q(x) <- r(x)") ++ rest) pending)) registers_q
-    (first_at (rows_left rows (a_query sevens ∷ []) n) (with_bytes rest (pending ++ line (codes "ok query 3"))))
+    → IsSure (both_at (rows_left rows [] n) (with_bytes (line (codes "query q(x) <- r(x)") ++ rest) pending) z) registers_q
+    (both_at (rows_left rows (a_query sevens ∷ []) n) (with_bytes rest (pending ++ line (codes "ok query 3"))) z)
 unfolding digits
-registered rows n rest pending short few =
-    sure (first_at (rows_left rows [] n) (with_bytes (line (codes "query q(x) <- r(x)") ++ rest) pending)) registers_q
+registered_beside z rows n rest pending short few =
+    sure (both_at (rows_left rows [] n) (with_bytes (line (codes "query q(x) <- r(x)") ++ rest) pending) z) registers_q
     (with_bytes (line (codes "query q(x) <- r(x)") ++ rest) pending) (says_command (Register sevens)) rest
     (answers 1 (line (codes "ok query 3")) true)
-    (first_at (rows_left rows (a_query sevens ∷ []) n) (with_bytes rest pending)) refl refl reads_query refl refl short (
+    (both_at (rows_left rows (a_query sevens ∷ []) n) (with_bytes rest pending) z) refl refl reads_query refl refl short (
       true,
       inl (record {
         result = Ok (Registered 3);
@@ -419,6 +427,12 @@ registered rows n rest pending short few =
         state = refl;
       }),
     ) refl refl (ap (λ b. b && true) few) (one_clean 1 _ (not_memory_text 0 (line (codes "ok query 3")) refl refl))
+
+registered : (rows : List CountedRow) (n : ℕ) (rest pending : Bytes) → length pending ≤ PENDING_BYTES
+    → few_rows rows ≡ true
+    → IsSure (first_at (rows_left rows [] n) (with_bytes (line (codes "query q(x) <- r(x)") ++ rest) pending)) registers_q
+    (first_at (rows_left rows (a_query sevens ∷ []) n) (with_bytes rest (pending ++ line (codes "ok query 3"))))
+registered rows n rest pending short few = registered_beside (fresh 2) rows n rest pending short few
 
 -- a dialogue whose last line has one reply, which is no listing
 plain_dialogue : (before : List DialogueLine) (says reply other : Bytes) (at new : State)
@@ -938,7 +952,295 @@ so_lacking =
     (not_memory_text 5 (line (codes "err 19 absent")) refl refl)
     (not_memory_text 5 (line (codes "err 18 absent")) refl refl) refl refl refl
 
+-- ---- A watch of the other session.
+
+so_other : IsDialogue other_session
+unfolding digits
+so_other =
+    let adds = line (codes "add r 7") in
+    let watch = line (codes "watch q") in
+    let added = line (codes "ok added 1 1") in
+    let z : Session = record (fresh 2) { held = watch } in
+    let y = with_bytes adds ok_query in
+    let watcher : Session = record (fresh 2) { pending = line (codes "ok watch 0"); watches = codes "q" ∷ [] } in
+    let here = both_at (rows_left [] queries 0) y watcher in
+    let new = both_at (rows_left (of_seven 1) queries 1) (with_bytes [] ok_query) watcher in
+    let told : Telling = record { state = new; queued = (2, delta_at (codes "1")) ∷ [] } in
+    let parts : List (ℕ × Bytes) = (2, delta_at (codes "1")) ∷ (1, added) ∷ [] in
+    let start : Telling = record { state = new; queued = [] } in
+    let says_watch : DialogueLine =
+    record { session = 2; says = codes "watch q"; queued = (2, line (codes "ok watch 0")) ∷ [] } in
+    let watches : IsSure (both_at (rows_left [] queries 0) y z) says_watch here =
+    sure (both_at (rows_left [] queries 0) y z) says_watch z (says_command (Watch (codes "q"))) []
+    (says 2 (line (codes "ok watch 0")))
+    (both_at (rows_left [] queries 0) y (record (fresh 2) { watches = codes "q" ∷ [] })) refl refl reads_watch refl refl
+    (omega arith) (true, record { result = Ok tt; answer = tt; effect = refl; state = refl }) refl refl refl
+    (one_clean 2 _ (not_memory_text 0 (line (codes "ok watch 0")) refl refl)) in
+    is_dialogue other_session here _ refl
+    (_, made_beside z (line (codes "query q(x) <- r(x)") ++ adds),
+    (_, registered_beside z [] 0 adds ok (omega arith) refl, (_, watches, refl)))
+    (runs_with here other_session.last y (says_command (Add (codes "r") (Int (pos 7) ∷ []))) []
+    (record { queued = parts; cost = 6; kept = the_line }) new refl refl reads_add refl refl (omega arith) (
+      true,
+      record {
+        result = Ok First;
+        store = rows_left (of_seven 1) queries 1;
+        done = record { answer = (refl, omega arith, refl); stays = λ refused. absurd (true≢false (sym refused)) };
+        change = record {
+          deltas = seven_delta ∷ [];
+          listed = seven_listed;
+          told = told;
+          tells = (told, (start, refl, (told, inr (inl (omega arith, refl)), refl)), refl);
+          last = record { state = new; queued = parts };
+          replies = inl refl;
+          queued = refl;
+          cost = refl;
+          state = refl;
+        };
+        kept = refl;
+      },
+    ) refl) (two_clean 2 1 _ added (not_memory_text 0 (delta_at (codes "1")) refl refl) (not_memory_text 0 added refl refl))
+    (two_clean 2 1 _ added (not_memory_text 0 (delta_at (codes "2")) refl refl) (not_memory_text 0 added refl refl))
+    (λ same. end_apart (delta_at (codes "1")) (delta_at (codes "2")) refl same.1) (refl, inl (refl, refl))
+
+-- ---- A row that a batch updates.
+
+one_went : (Before After : Tuple → Type 0) (u : Tuple) → Before u → (After u → ⊥)
+    → ((t : Tuple) → Before t → (u ≡ t) ⊎ After t) → ((t : Tuple) → After t → Before t)
+    → IsDelta Before After (went u ∷ [])
+one_went Before After u old new more stays = record {
+  different = AllPairs-cons (λ (s t : Tuple). s ≡ t → ⊥) u [] (All-nil (λ (t : Tuple). u ≡ t → ⊥))
+      (nothing_apart (λ (s t : Tuple). s ≡ t → ⊥));
+  changed = All-cons (λ (c : Change). HasChanged Before After c.sign c.answer) (went u) [] (old, new)
+      (All-nil (λ (c : Change). HasChanged Before After c.sign c.answer));
+  complete = by;
+}
+  where
+    by : (sign : Sign) (t : Tuple) → HasChanged Before After sign t → Contains (went u ∷ []) (record { sign = sign; answer = t })
+    by Came t h = absurd (h.1 (stays t h.0))
+    by Went t h = last (more t h.0)
+      where
+        last : (u ≡ t) ⊎ After t → Contains (went u ∷ []) (went t)
+        last (inl same) = first_there (went u) [] (went t) (ap went same)
+        last (inr after) = absurd (h.1 after)
+
+went_came : (Before After : Tuple → Type 0) (u w : Tuple) → Before u → (After u → ⊥) → After w → (Before w → ⊥)
+    → ((t : Tuple) → Before t → u ≡ t) → ((t : Tuple) → After t → w ≡ t) → (u ≡ w → ⊥)
+    → IsDelta Before After (went u ∷ came w ∷ [])
+went_came Before After u w old gone new late befores afters apart = record {
+  different = AllPairs-cons (λ (s t : Tuple). s ≡ t → ⊥) u (w ∷ [])
+      (All-cons (λ (t : Tuple). u ≡ t → ⊥) w [] apart (All-nil (λ (t : Tuple). u ≡ t → ⊥)))
+      (AllPairs-cons (λ (s t : Tuple). s ≡ t → ⊥) w [] (All-nil (λ (t : Tuple). w ≡ t → ⊥))
+      (nothing_apart (λ (s t : Tuple). s ≡ t → ⊥)));
+  changed = All-cons (λ (c : Change). HasChanged Before After c.sign c.answer) (went u) (came w ∷ []) (old, gone)
+      (All-cons (λ (c : Change). HasChanged Before After c.sign c.answer) (came w) [] (new, late)
+      (All-nil (λ (c : Change). HasChanged Before After c.sign c.answer)));
+  complete = by;
+}
+  where
+    by : (sign : Sign) (t : Tuple) → HasChanged Before After sign t
+        → Contains (went u ∷ came w ∷ []) (record { sign = sign; answer = t })
+    by Went t h = first_there (went u) (came w ∷ []) (went t) (ap went (befores t h.0))
+    by Came t h = later_there (went u) (came w ∷ []) (came t) (first_there (came w) [] (came t) (ap came (afters t h.0)))
+
+abbrev row_seven : Tuple
+row_seven = Int (pos 7) ∷ []
+
+abbrev row_eight : Tuple
+row_eight = Int (pos 8) ∷ []
+
+rows_differ : row_seven ≡ row_eight → ⊥
+rows_differ e = absurd (cc (e))
+
+abbrev of_eight : List CountedRow
+of_eight = record { row = row_eight; copies = 1 } ∷ []
+
+abbrev of_both : List CountedRow
+of_both = record { row = row_seven; copies = 1 } ∷ of_eight
+
+seven_before : IsAnswer (in_r (of_seven 1)) sevens row_seven
+seven_before = answer_of (of_seven 1) (Int (pos 7)) (first_there row_seven [] row_seven refl)
+
+eight_after : IsAnswer (in_r of_eight) sevens row_eight
+eight_after = answer_of of_eight (Int (pos 8)) (first_there row_eight [] row_eight refl)
+
+seven_between : IsAnswer (in_r of_both) sevens row_seven
+seven_between = answer_of of_both (Int (pos 7)) (first_there row_seven (row_eight ∷ []) row_seven refl)
+
+eight_between : IsAnswer (in_r of_both) sevens row_eight
+eight_between = answer_of of_both (Int (pos 8))
+    (later_there row_seven (row_eight ∷ []) row_eight (first_there row_eight [] row_eight refl))
+
+between_is : (t : Tuple) → IsAnswer (in_r of_both) sevens t → (row_seven ≡ t) ⊎ (row_eight ≡ t)
+between_is t h = by (first_or_later row_seven (row_eight ∷ []) t (answer_in of_both t h))
+  where
+    last : (row_eight ≡ t) ⊎ Contains [] t → (row_seven ≡ t) ⊎ (row_eight ≡ t)
+    last (inl same) = inr same
+    last (inr none) = absurd (omega (arith, none.1))
+
+    by : (row_seven ≡ t) ⊎ Contains (row_eight ∷ []) t → (row_seven ≡ t) ⊎ (row_eight ≡ t)
+    by (inl same) = inl same
+    by (inr later) = last (first_or_later row_eight [] t later)
+
+not_eight_before : IsAnswer (in_r (of_seven 1)) sevens row_eight → ⊥
+not_eight_before h = rows_differ (only_answer (Int (pos 7)) 1 row_eight h)
+
+not_seven_after : IsAnswer (in_r of_eight) sevens row_seven → ⊥
+not_seven_after h = rows_differ (sym (only_answer (Int (pos 8)) 1 row_seven h))
+
+eight_inserted : IsDelta (IsAnswer (in_r (of_seven 1)) sevens) (IsAnswer (in_r of_both) sevens) (came row_eight ∷ [])
+eight_inserted =
+    one_came (IsAnswer (in_r (of_seven 1)) sevens) (IsAnswer (in_r of_both) sevens) row_eight eight_between not_eight_before
+    (λ t h. by t (between_is t h))
+    (λ t h. subst (λ u. IsAnswer (in_r of_both) sevens u) (only_answer (Int (pos 7)) 1 t h) seven_between)
+  where
+    by : (t : Tuple) → (row_seven ≡ t) ⊎ (row_eight ≡ t) → (row_eight ≡ t) ⊎ IsAnswer (in_r (of_seven 1)) sevens t
+    by t (inl same) = inr (subst (λ u. IsAnswer (in_r (of_seven 1)) sevens u) same seven_before)
+    by t (inr same) = inl same
+
+seven_deleted : IsDelta (IsAnswer (in_r of_both) sevens) (IsAnswer (in_r of_eight) sevens) (went row_seven ∷ [])
+seven_deleted =
+    one_went (IsAnswer (in_r of_both) sevens) (IsAnswer (in_r of_eight) sevens) row_seven seven_between not_seven_after
+    (λ t h. by t (between_is t h))
+    (λ t h. subst (λ u. IsAnswer (in_r of_both) sevens u) (only_answer (Int (pos 8)) 1 t h) eight_between)
+  where
+    by : (t : Tuple) → (row_seven ≡ t) ⊎ (row_eight ≡ t) → (row_seven ≡ t) ⊎ IsAnswer (in_r of_eight) sevens t
+    by t (inl same) = inl same
+    by t (inr same) = inr (subst (λ u. IsAnswer (in_r of_eight) sevens u) same eight_after)
+
+seven_to_eight : IsDelta (IsAnswer (in_r (of_seven 1)) sevens) (IsAnswer (in_r of_eight) sevens)
+    (went row_seven ∷ came row_eight ∷ [])
+seven_to_eight =
+    went_came (IsAnswer (in_r (of_seven 1)) sevens) (IsAnswer (in_r of_eight) sevens) row_seven row_eight seven_before
+    not_seven_after eight_after not_eight_before (λ t h. only_answer (Int (pos 7)) 1 t h)
+    (λ t h. only_answer (Int (pos 8)) 1 t h) rows_differ
+
+abbrev held_both : HeldTransaction
+held_both = holding held_seven Adds (codes "r") row_eight (codes "add r 8")
+
+abbrev update_delta : Delta
+update_delta = record { query = a_query sevens; changes = went row_seven ∷ came row_eight ∷ []; listed = 2; parts = [] }
+
+abbrev update : RowsChange
+update = lines_change (in_r (of_seven 1)) held_both.lines
+
+update_listed : AreDeltas (in_r (of_seven 1)) update (a_query sevens ∷ []) (update_delta ∷ [])
+update_listed = record {
+  of_queries = refl;
+  are_deltas = All-cons (λ (d : Delta). IsDelta (AnswersOf (in_r (of_seven 1)) d.query) (AnswersOf update.after d.query) d.changes)
+      update_delta [] seven_to_eight
+      (All-nil (λ (d : Delta). IsDelta (AnswersOf (in_r (of_seven 1)) d.query) (AnswersOf update.after d.query) d.changes));
+  have_parts = All-cons (ArePartsOf (in_r (of_seven 1)) update) update_delta [] (record {
+    of_members = refl;
+    are_deltas = All-nil (λ (p : Part). IsDelta (IsAnswer (in_r (of_seven 1)) p.query) (IsAnswer update.after p.query) p.changes);
+    list = All-nil (λ (p : Part). ListsAnswers (in_r (of_seven 1)) update p.query p.changes p.listed);
+  }) (All-nil (ArePartsOf (in_r (of_seven 1)) update));
+  list = All-cons (ListsDelta (in_r (of_seven 1)) update) update_delta [] (record {
+    came = came row_eight ∷ [];
+    went = went row_seven ∷ [];
+    inserts = eight_inserted;
+    deletes = seven_deleted;
+    count = refl;
+  }) (All-nil (ListsDelta (in_r (of_seven 1)) update));
+}
+
+reads_add_eight : reading_of (codes "add r 8") ≡ says_command (Add (codes "r") row_eight)
+unfolding command_of is_utf8 chars encode tokens
+reads_add_eight = refl
+
+-- what the session is sent before the batch
+abbrev before_batch : Bytes
+before_batch = (ok_added ++ line (codes "ok query 3")) ++ line (codes "ok watch 1")
+
+abbrev watching_q : Bytes → Bytes → Option HeldTransaction → Session
+watching_q held pending batch = record (with_bytes held pending) { watches = codes "q" ∷ []; batch = batch }
+
+watched_one : (rest : Bytes) → IsSure (first_at (rows_left (of_seven 1) queries 1)
+    (with_bytes (line (codes "watch q") ++ rest) (ok_added ++ line (codes "ok query 3"))))
+    (is_replied (codes "watch q") (codes "ok watch 1"))
+    (first_at (rows_left (of_seven 1) queries 1) (watching_q rest before_batch None))
+unfolding digits
+watched_one rest =
+    let pending = ok_added ++ line (codes "ok query 3") in
+    sure (first_at (rows_left (of_seven 1) queries 1) (with_bytes (line (codes "watch q") ++ rest) pending))
+    (is_replied (codes "watch q") (codes "ok watch 1")) (with_bytes (line (codes "watch q") ++ rest) pending)
+    (says_command (Watch (codes "q"))) rest (says 1 (line (codes "ok watch 1")))
+    (first_at (rows_left (of_seven 1) queries 1) (watching_q rest pending None)) refl refl reads_watch refl refl
+    (omega arith) (true, record { result = Ok tt; answer = tt; effect = refl; state = refl }) refl refl refl
+    (one_clean 1 _ (not_memory_text 0 (line (codes "ok watch 1")) refl refl))
+
+holds_eight : (rest pending : Bytes) → length pending ≤ PENDING_BYTES
+    → IsSure (first_at (rows_left (of_seven 1) queries 1) (watching_q (line (codes "add r 8") ++ rest) pending (Some held_seven)))
+    (is_replied (codes "add r 8") (codes "ok held 2")) (first_at (rows_left (of_seven 1) queries 1)
+    (watching_q rest (pending ++ line (codes "ok held 2")) (Some held_both)))
+unfolding digits
+holds_eight rest pending short =
+    sure (first_at (rows_left (of_seven 1) queries 1) (watching_q (line (codes "add r 8") ++ rest) pending (Some held_seven)))
+    (is_replied (codes "add r 8") (codes "ok held 2"))
+    (watching_q (line (codes "add r 8") ++ rest) pending (Some held_seven)) (says_command (Add (codes "r") row_eight)) rest
+    (says 1 (line (codes "ok held 2")))
+    (first_at (rows_left (of_seven 1) queries 1) (watching_q rest pending (Some held_both))) refl refl reads_add_eight refl
+    refl short (true, record { result = Ok tt; answer = tt; effect = refl; state = refl }) refl refl refl
+    (one_clean 1 _ (not_memory_text 0 (line (codes "ok held 2")) refl refl))
+
+so_updated : IsDialogue row_updated
+unfolding digits
+so_updated =
+    let ends = line (codes "done") in
+    let adds = line (codes "add r 8") ++ ends in
+    let deletes = line (codes "del r 7") ++ adds in
+    let opens = line (codes "batch") ++ deletes in
+    let watch = line (codes "watch q") ++ opens in
+    let one = before_batch ++ line (codes "ok batch") in
+    let two = one ++ line (codes "ok held 1") in
+    let pending = two ++ line (codes "ok held 2") in
+    let delta = line (codes "- q 7") ++ line (codes "+ q 8") ++ line (codes "at q 2") in
+    let reply = line (codes "ok done 2 2") in
+    let other = line (codes "ok done 3 2") in
+    let here = first_at (rows_left (of_seven 1) queries 1) (watching_q ends pending (Some held_both)) in
+    let new = first_at (rows_left of_eight queries 2) (watching_q [] pending None) in
+    let told : Telling = record { state = new; queued = (1, delta) ∷ [] } in
+    let parts : List (ℕ × Bytes) = (1, delta) ∷ (1, reply) ∷ [] in
+    let deleted : HeldLine = record { verb = Deletes; relation = codes "r"; row = row_seven } in
+    let added : HeldLine = record { verb = Adds; relation = codes "r"; row = row_eight } in
+    let Counted : HeldLine → Type 0 = λ (h : HeldLine). has_row (rows_of (in_r (of_seven 1)) h.relation) h.row ≡ true
+    → 1 ≤ copies_before (in_r (of_seven 1)) h in
+    is_dialogue row_updated here _ refl
+    (_, made (line (codes "add r 7") ++ line (codes "query q(x) <- r(x)") ++ watch),
+    (_, added_first (line (codes "query q(x) <- r(x)") ++ watch), (_, registered (of_seven 1) 1 watch ok_added (omega arith) refl,
+    (_, watched_one opens, (_, batched (rows_left (of_seven 1) queries 1) (codes "q" ∷ []) deletes before_batch (omega arith) refl,
+    (_, holds_seven (of_seven 1) queries 1 (codes "q" ∷ []) adds one (omega arith) refl,
+    (_, holds_eight ends two (omega arith), refl)))))))
+    (runs_with here row_updated.last (watching_q ends pending (Some held_both)) (says_command (Done None)) []
+    (record { queued = parts; cost = 12; kept = the_batch held_both.logged }) new refl refl reads_done refl refl (omega arith) (
+      true,
+      record {
+        result = Ok 2;
+        store = rows_left of_eight queries 2;
+        done = record {
+          answer = refl;
+          does = (refl, refl);
+          counted = All-cons Counted deleted (added ∷ []) (λ there. omega arith)
+              (All-cons Counted added [] (λ there. absurd (true≢false (sym there))) (All-nil Counted));
+        };
+        change = record {
+          deltas = update_delta ∷ [];
+          listed = update_listed;
+          told = told;
+          tells = (told, (told, inr (inl (omega arith, refl)), (told, refl, refl)), refl);
+          last = record { state = new; queued = parts };
+          replies = inl refl;
+          queued = refl;
+          cost = refl;
+          state = refl;
+        };
+        kept = refl;
+      },
+    ) refl) (two_clean 1 1 delta reply (not_memory_text 0 delta refl refl) (not_memory_text 0 reply refl refl))
+    (two_clean 1 1 delta other (not_memory_text 0 delta refl refl) (not_memory_text 0 other refl refl))
+    (λ same. one_apart 1 reply other refl refl same.2) (refl, inr (refl, (refl, inl (refl, refl))))
+
 pub are_dialogues : AreDialogues dialogues
 are_dialogues =
-    (so_inserted, (so_copied, (so_deleted, (so_absent, (so_refused, (so_answered, (so_delta, (so_page,
-    (so_stale, (so_lacking, tt))))))))))
+    (so_inserted, (so_copied, (so_deleted, (so_absent, (so_refused, (so_answered, (so_delta, (so_other, (so_page,
+    (so_stale, (so_lacking, (so_updated, tt))))))))))))

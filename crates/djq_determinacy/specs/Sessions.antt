@@ -145,11 +145,13 @@ dialogues =
     ∷ ends_with (makes_r ∷ []) (codes "rel") (codes "err 1 syntax") (codes "err 2 syntax")
     ∷ ends_with (makes_r ∷ inserts_seven ∷ registers_q ∷ []) (codes "has q 7") (codes "yes") (codes "yet")
     ∷ delta_first
+    ∷ other_session
     ∷ page_told
     ∷ ends_with (makes_r ∷ registers_q ∷ opens_c ∷ inserts_seven ∷ []) (codes "next c 1") (codes "stale c r 1")
     (codes "stale c r 2")
     ∷ ends_with (makes_r ∷ opens_batch ∷ is_replied (codes "del r 7") (codes "ok held 1") ∷ []) (codes "done")
     (codes "err 19 absent") (codes "err 18 absent")
+    ∷ row_updated
     ∷ []
 
 -- Each of these is one.
