@@ -28,7 +28,12 @@ use Rattle.djq_protocol.specs.declared.answer.AddOutcome.TheVariants.{First, Mor
 use Rattle.djq_protocol.specs.declared.answer.DeleteOutcome.TheVariants.{Last, Absent}
 use Rattle.djq_protocol.specs.declared.command.Command.TheVariants.{Rel, Add, Del, Has, Watch, Open, Next, Batch, Done, Query as Register}
 use Rattle.djq_protocol.specs.declared.answer.Refusal.TheVariants.{Syntax}
-use Rattle.djq_protocol.specs.declared.rest.QueryOutcome.TheVariants.{Registered}
+use Rattle.djq_protocol.specs.declared.rest.QueryOutcome.TheVariants.{Registered, Cyclic}
+use Rattle.djq_protocol.specs.declared.rest.NamedRest.{NamedRest}
+use Rattle.djq_protocol.specs.Rest.{is_before, IsNamedRest}
+use Rattle.djq_hypergraph.specs.Refusing.{IsCyclic}
+use Rattle.djq_model.specs.declared.query.Query.{Query}
+use Rattle.djq_determinacy.proofs.Triangle.{triangle, triangle_cyclic}
 use Rattle.djq_value.specs.Token.{tokens}
 use Rattle.std.specs.Str.{is_utf8, chars}
 use lib.Utf8.{encode}
@@ -1240,7 +1245,107 @@ so_updated =
     (two_clean 1 1 delta other (not_memory_text 0 delta refl refl) (not_memory_text 0 other refl refl))
     (λ same. one_apart 1 reply other refl refl same.2) (refl, inr (refl, (refl, inl (refl, refl))))
 
+-- ---- A cyclic query.
+
+-- t(x,y,z) <- e(x,y), e(y,z), e(z,x)
+abbrev over_e : Bytes → Bytes → Atom
+over_e a b = record { relation = codes "e"; terms = Variable a ∷ Variable b ∷ [] }
+
+abbrev ring : Query
+ring = record {
+  name = codes "t";
+  head = codes "x" ∷ codes "y" ∷ codes "z" ∷ [];
+  atoms = over_e (codes "x") (codes "y") ∷ over_e (codes "y") (codes "z") ∷ over_e (codes "z") (codes "x") ∷ [];
+  comparisons = [];
+}
+
+reads_ring : reading_of (codes "query t(x,y,z) <- e(x,y), e(y,z), e(z,x)") ≡ says_command (Register ring)
+unfolding command_of is_utf8 chars encode tokens items_in
+reads_ring = refl
+
+reads_rel_two : reading_of (codes "rel e int int") ≡ says_command (Rel (codes "e") (IntColumn ∷ IntColumn ∷ []))
+unfolding command_of is_utf8 chars encode tokens
+reads_rel_two = refl
+
+ring_edges : edges_of ring ≡ triangle
+unfolding edges_from numbers_in
+ring_edges = refl
+
+abbrev ring_rest : NamedRest
+ring_rest = record {
+  edges = (0 ∷ 1 ∷ []) ∷ (0 ∷ 2 ∷ []) ∷ (1 ∷ 2 ∷ []) ∷ [];
+  names = codes "x" ∷ codes "y" ∷ codes "z" ∷ [];
+}
+
+ring_named : IsNamedRest ring triangle ring_rest
+ring_named = record {
+  order = AllPairs-cons (λ e f. is_before e f ≡ true) (0 ∷ 1 ∷ []) ((0 ∷ 2 ∷ []) ∷ (1 ∷ 2 ∷ []) ∷ [])
+      (All-cons (λ f. is_before (0 ∷ 1 ∷ []) f ≡ true) (0 ∷ 2 ∷ []) ((1 ∷ 2 ∷ []) ∷ []) refl
+      (All-cons (λ f. is_before (0 ∷ 1 ∷ []) f ≡ true) (1 ∷ 2 ∷ []) [] refl (All-nil (λ f. is_before (0 ∷ 1 ∷ []) f ≡ true))))
+      (AllPairs-cons (λ e f. is_before e f ≡ true) (0 ∷ 2 ∷ []) ((1 ∷ 2 ∷ []) ∷ [])
+      (All-cons (λ f. is_before (0 ∷ 2 ∷ []) f ≡ true) (1 ∷ 2 ∷ []) [] refl (All-nil (λ f. is_before (0 ∷ 2 ∷ []) f ≡ true)))
+      (AllPairs-cons (λ e f. is_before e f ≡ true) (1 ∷ 2 ∷ []) [] (All-nil (λ f. is_before (1 ∷ 2 ∷ []) f ≡ true))
+      (nothing_apart (λ e f. is_before e f ≡ true))));
+  edges = λ e. (
+    swapped (0 ∷ 1 ∷ []) (0 ∷ 2 ∷ []) (1 ∷ 2 ∷ []) e,
+    swapped (0 ∷ 1 ∷ []) (1 ∷ 2 ∷ []) (0 ∷ 2 ∷ []) e,
+  );
+  names = refl;
+}
+  where
+    swapped : (a b c e : List ℕ) → Contains (a ∷ b ∷ c ∷ []) e → Contains (a ∷ c ∷ b ∷ []) e
+    swapped a b c e h = first (first_or_later a (b ∷ c ∷ []) e h)
+      where
+        third : (c ≡ e) ⊎ Contains [] e → Contains (a ∷ c ∷ b ∷ []) e
+        third (inl same) = later_there a (c ∷ b ∷ []) e (first_there c (b ∷ []) e same)
+        third (inr none) = absurd (omega (arith, none.1))
+
+        second : (b ≡ e) ⊎ Contains (c ∷ []) e → Contains (a ∷ c ∷ b ∷ []) e
+        second (inl same) = later_there a (c ∷ b ∷ []) e (later_there c (b ∷ []) e (first_there b [] e same))
+        second (inr later) = third (first_or_later c [] e later)
+
+        first : (a ≡ e) ⊎ Contains (b ∷ c ∷ []) e → Contains (a ∷ c ∷ b ∷ []) e
+        first (inl same) = first_there a (c ∷ b ∷ []) e same
+        first (inr later) = second (first_or_later b (c ∷ []) e later)
+
+abbrev of_e : Store
+of_e = record empty_store {
+  relations = record { name = codes "e"; types = IntColumn ∷ IntColumn ∷ []; rows = [] } ∷ [];
+}
+
+so_cyclic : IsDialogue (ends_with (is_replied (codes "rel e int int") (codes "ok") ∷ []) (codes "query t(x,y,z) <- e(x,y), e(y,z), e(z,x)") (codes "no cyclic x,y x,z y,z") (codes "no cyclic x,y x,z y,x"))
+so_cyclic =
+    let asks = line (codes "query t(x,y,z) <- e(x,y), e(y,z), e(z,x)") in
+    let reply = line (codes "no cyclic x,y x,z y,z") in
+    let begins = with_bytes (line (codes "rel e int int") ++ asks) [] in
+    let makes = is_replied (codes "rel e int int") (codes "ok") in
+    let here = first_at of_e (with_bytes asks ok) in
+    let is_made : IsSure (first_at empty_store begins) makes here =
+    sure (first_at empty_store begins) makes begins (says_command (Rel (codes "e") (IntColumn ∷ IntColumn ∷ []))) asks
+    (answers 1 ok true) (first_at of_e (with_bytes asks [])) refl refl reads_rel_two refl refl (omega arith) (
+      true,
+      record { result = Ok tt; store = of_e; done = record { answer = refl; stays = tt }; effect = refl; state = refl },
+    ) refl refl refl (one_clean 1 ok (not_memory_text 0 ok refl refl)) in
+    plain_dialogue (makes ∷ []) (codes "query t(x,y,z) <- e(x,y), e(y,z), e(z,x)") (codes "no cyclic x,y x,z y,z")
+    (codes "no cyclic x,y x,z y,x") here _ refl (_, is_made, refl)
+    (runs_with here (is_replied (codes "query t(x,y,z) <- e(x,y), e(y,z), e(z,x)") (codes "no cyclic x,y x,z y,z"))
+    (with_bytes asks ok) (says_command (Register ring)) [] (answers 1 reply false) (first_at of_e (with_bytes [] ok)) refl refl
+    reads_ring refl refl (omega arith) (
+      true,
+      inl (record {
+        result = Ok (Cyclic ring_rest);
+        store = of_e;
+        done = record {
+          answer = ((triangle, subst (λ E. IsCyclic E triangle) (sym ring_edges) triangle_cyclic, ring_named), refl);
+          stays = λ refused. refl;
+        };
+        effect = refl;
+        state = refl;
+      }),
+    ) refl)
+    (not_memory_text 0 reply refl refl) (not_memory_text 0 (line (codes "no cyclic x,y x,z y,x")) refl refl) refl refl refl
+
 pub are_dialogues : AreDialogues dialogues
 are_dialogues =
     (so_inserted, (so_copied, (so_deleted, (so_absent, (so_refused, (so_answered, (so_delta, (so_other, (so_page,
-    (so_stale, (so_lacking, (so_updated, tt))))))))))))
+    (so_stale, (so_lacking, (so_updated, (so_cyclic, tt)))))))))))))

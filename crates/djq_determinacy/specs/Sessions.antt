@@ -152,6 +152,8 @@ dialogues =
     ∷ ends_with (makes_r ∷ opens_batch ∷ is_replied (codes "del r 7") (codes "ok held 1") ∷ []) (codes "done")
     (codes "err 19 absent") (codes "err 18 absent")
     ∷ row_updated
+    ∷ ends_with (is_replied (codes "rel e int int") (codes "ok") ∷ []) (codes "query t(x,y,z) <- e(x,y), e(y,z), e(z,x)")
+    (codes "no cyclic x,y x,z y,z") (codes "no cyclic x,y x,z y,x")
     ∷ []
 
 -- Each of these is one.
