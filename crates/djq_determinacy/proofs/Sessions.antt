@@ -1,6 +1,7 @@
 -- Dialogues of sessions, as theorems.
-use Rattle.std.specs.Prelude.{ℕ, List, [], ◌∷◌, ◌++◌, ◌≡◌, ◌≤◌, ◌+◌, ◌-◌, ◌==◌, Contains, map, get_or, ◌&&◌, ◌⊎◌, Bool, true, false, nat_le, None, Some, Option, IsSomeAnd, Ok, Err, All, codes, pos, length, IsPermutation, ⊤}
+use Rattle.std.specs.Prelude.{ℕ, List, [], ◌∷◌, ◌++◌, ◌≡◌, ◌≤◌, ◌+◌, ◌-◌, ◌==◌, Contains, map, get_or, ◌&&◌, ◌||◌, ◌⊎◌, Bool, true, false, nat_le, None, Some, Option, IsSomeAnd, Ok, Err, All, codes, pos, length, IsPermutation, ⊤}
 use Rattle.std.specs.Str.{bytes_eq}
+use Rattle.std.specs.List.{list_any}
 use Rattle.std.specs.Fmt.{digits}
 use Rattle.std.proofs.Common.{refl, sym, ap, ◌∙◌, subst, inl, inr, arith, length-append, append-nil}
 use Rattle.std.proofs.lemmas.Bool.{true≢false, and_parts, eqb-false}
@@ -44,7 +45,7 @@ use Rattle.djq_hypergraph.proofs.LabelTrees.{Rooted, hung_on}
 use Rattle.djq_hypergraph.proofs.JoinTrees.{free_connex_from}
 use Rattle.djq_protocol.specs.Line.{a_line, front_of, is_blank}
 use Rattle.djq_protocol.specs.Grammar.{Reading, outside, says_command, reading_of, command_of, items_in}
-use Rattle.djq_protocol.specs.Reply.{line, refusal_line, text_of, answer_line, last_line, at_line}
+use Rattle.djq_protocol.specs.Reply.{line, refusal_line, text_of, answer_line, last_line, listing_lines, cells_text}
 use Rattle.djq_store_spec.specs.Store.{Store, Position, open_at, stale, empty_store}
 use Rattle.djq_store_spec.specs.Listing.{TellsAnswers}
 use Rattle.djq_store_spec.specs.Held.{HeldLine, HeldTransaction, nothing_held, holding}
@@ -62,11 +63,11 @@ use Rattle.djq_machine.specs.Walk.{Walk}
 use Rattle.djq_machine.specs.Outdating.{changed}
 use Rattle.djq_machine.specs.Watch.{Telling, affected, RepliesLast, ChangeStep}
 use Rattle.djq_store_spec.specs.Changes.{RowsChange, accepted, unchanged, row_in, row_out}
-use Rattle.djq_store_spec.specs.Delta.{Change, HasChanged, IsDelta, change_lines}
+use Rattle.djq_store_spec.specs.Delta.{Change, HasChanged, IsDelta, delta_lines}
 use Rattle.djq_store_spec.specs.DeltaCost.{Delta, Part, ListsAnswers, AreDeltas, ArePartsOf, ListsDelta}
 use Rattle.djq_model.specs.Listed.{Listed, a_query, AnswersOf}
 use Rattle.djq_determinacy.specs.Determinacy.{SameText, is_equal, are_pages, are_deltas, SameQueued, IsNoRefusal}
-use Rattle.djq_determinacy.specs.Sessions.{DialogueLine, Dialogue, RunsWith, IsRunOfMachine, IsDialogue, DifferByOne, start_of, is_replied, ends_with, AreDialogues, dialogues, makes_r, inserts_seven, registers_q, watches_q, opens_c, opens_batch, delta_at, delta_first, page_told, other_session, row_updated}
+use Rattle.djq_determinacy.specs.Sessions.{DialogueLine, Dialogue, RunsWith, IsRunOfMachine, IsDialogue, DifferByOne, start_of, is_replied, ends_with, AreDialogues, dialogues, makes_r, inserts_seven, registers_q, watches_q, opens_c, opens_batch, delta_of, delta_first, page_told, other_session, row_updated}
 use Rattle.djq_determinacy.specs.Dialogues.{sevens, differences}
 use Rattle.djq_determinacy.proofs.Dialogues.{is_list, only_text, not_memory_text, seven_is_answer, reads_rel, reads_add, reads_del, reads_part, reads_has, reads_watch, reads_open, reads_batch, reads_done}
 use Rattle.djq_determinacy.proofs.Prefixes.{step_of, same_relations}
@@ -84,20 +85,26 @@ abbrev are_few : List Relation → Bool
 are_few [] = true
 are_few (r ∷ rs) = few_rows r.rows && are_few rs
 
-one_order : (xs ys : List CountedRow) → few_rows xs ≡ true → IsPermutation xs ys → ys ≡ xs
-one_order [] ys few moved = by ys (length_permutation [] ys moved)
+no_others : {A : Type 0} (ys : List A) → IsPermutation [] ys → ys ≡ []
+no_others ys moved = by ys (length_permutation [] ys moved)
   where
-    by : (ys : List CountedRow) → length ys ≡ 0 → ys ≡ []
+    by : {A : Type 0} (ys : List A) → length ys ≡ 0 → ys ≡ []
     by [] is = refl
     by (y ∷ ys) is = absurd (omega (arith, is))
-one_order (x ∷ []) ys few moved =
-    by ys (length_permutation (x ∷ []) ys moved) (All-permutation (λ (z : CountedRow). z ≡ x) (x ∷ []) ys moved
-    (All-cons (λ (z : CountedRow). z ≡ x) x [] refl (All-nil (λ (z : CountedRow). z ≡ x))))
+
+that_one : {A : Type 0} (x : A) (ys : List A) → IsPermutation (x ∷ []) ys → ys ≡ x ∷ []
+that_one {A = A} x ys moved =
+    by ys (length_permutation (x ∷ []) ys moved) (All-permutation (λ (z : A). z ≡ x) (x ∷ []) ys moved
+    (All-cons (λ (z : A). z ≡ x) x [] refl (All-nil (λ (z : A). z ≡ x))))
   where
-    by : (ys : List CountedRow) → length ys ≡ 1 → All (λ (z : CountedRow). z ≡ x) ys → ys ≡ x ∷ []
+    by : (ys : List A) → length ys ≡ 1 → All (λ (z : A). z ≡ x) ys → ys ≡ x ∷ []
     by [] is all = absurd (omega (arith, is))
-    by (y ∷ []) is all = ap (λ (z : CountedRow). z ∷ []) (All-head (λ (z : CountedRow). z ≡ x) y [] all)
+    by (y ∷ []) is all = ap (λ (z : A). z ∷ []) (All-head (λ (z : A). z ≡ x) y [] all)
     by (y ∷ z ∷ ys) is all = absurd (omega (arith, is))
+
+one_order : (xs ys : List CountedRow) → few_rows xs ≡ true → IsPermutation xs ys → ys ≡ xs
+one_order [] ys few moved = no_others ys moved
+one_order (x ∷ []) ys few moved = that_one x ys moved
 one_order (x ∷ z ∷ xs) ys few moved = absurd (true≢false (sym few))
 
 same_few : (rs qs : List Relation) → are_few rs ≡ true → SameRelations rs qs → qs ≡ rs
@@ -672,27 +679,68 @@ text_more : (lines : List Bytes) (last : Bytes) → text_of (lines ++ last ∷ [
 text_more lines last =
     flat_map-append (λ (l : Bytes). l) lines (last ∷ []) ∙ ap (λ b. text_of lines ++ b) (append-nil last)
 
-same_end : (a b : Bytes) → SameText a b → get_or a (length a - 2) 0 ≡ get_or b (length b - 2) 0
-same_end a b (is_equal same) = ap (λ (t : Bytes). get_or t (length t - 2) 0) same
-same_end a b (are_pages told told' end is is' long moved) =
-    ap (λ (t : Bytes). get_or t (length t - 2) 0) (is ∙ text_more (map answer_line told) (last_line end))
-    ∙ ends_at (text_of (map answer_line told)) (last_line end) (two end)
-    ∙ sym (ends_at (text_of (map answer_line told')) (last_line end) (two end))
-    ∙ sym (ap (λ (t : Bytes). get_or t (length t - 2) 0) (is' ∙ text_more (map answer_line told') (last_line end)))
-  where
-    two : (end : Bool) → 2 ≤ length (last_line end)
-    two true = omega arith
-    two false = omega arith
-same_end a b (are_deltas query changes changes' n moved is is') =
-    let two : 2 ≤ length (at_line query n) = omega arith in
-    ap (λ (t : Bytes). get_or t (length t - 2) 0) (is ∙ text_more (change_lines query changes) (at_line query n))
-    ∙ ends_at (text_of (change_lines query changes)) (at_line query n) two
-    ∙ sym (ends_at (text_of (change_lines query changes')) (at_line query n) two)
-    ∙ sym (ap (λ (t : Bytes). get_or t (length t - 2) 0) (is' ∙ text_more (change_lines query changes') (at_line query n)))
+-- ---- A page or a delta of one line is the only one.
 
-end_apart : (a b : Bytes) → (get_or a (length a - 2) 0 == get_or b (length b - 2) 0) ≡ false → SameText a b → ⊥
-end_apart a b other same =
-    eqb-false (get_or a (length a - 2) 0) (get_or b (length b - 2) 0) other (same_end a b same)
+-- the byte before the last line end
+abbrev ends_by : Bytes → ℕ
+ends_by text = get_or text (length text - 2) 0
+
+-- whether a byte begins a line of an answer or of a change
+abbrev is_sign : ℕ → Bool
+is_sign b = b == 61 || b == 43 || b == 45
+
+abbrev signs_later : Bytes → Bool
+signs_later [] = false
+signs_later (b ∷ bs) = list_any is_sign bs
+
+sign_among : (front : Bytes) (b : ℕ) (more : Bytes) → is_sign b ≡ true → list_any is_sign (front ++ b ∷ more) ≡ true
+sign_among [] b more h = ap (λ c. c || list_any is_sign more) h
+sign_among (f ∷ front) b more h = by (is_sign f) (sign_among front b more h)
+  where
+    by : (c : Bool) → list_any is_sign (front ++ b ∷ more) ≡ true → (c || list_any is_sign (front ++ b ∷ more)) ≡ true
+    by true later = refl
+    by false later = later
+
+-- a page of two answers has a sign in its second line, and so has a delta of two changes
+two_answers : (t u : Tuple) (ts : List Tuple) (end : Bool) → signs_later (text_of (listing_lines (t ∷ u ∷ ts) end)) ≡ true
+two_answers t u ts end = sign_among (cells_text t ++ 10 ∷ []) 61 _ refl
+
+two_changes : (query : Bytes) (c d : Change) (cs : List Change) (n : ℕ)
+    → signs_later (text_of (delta_lines query (c ∷ d ∷ cs) n)) ≡ true
+two_changes query c d cs n = by c.sign d.sign
+  where
+    by : (s s' : Sign) → signs_later (text_of (delta_lines query (record { sign = s; answer = c.answer }
+        ∷ record { sign = s'; answer = d.answer } ∷ cs) n)) ≡ true
+    by Came Came = sign_among (32 ∷ ((query ++ cells_text c.answer) ++ 10 ∷ [])) 43 _ refl
+    by Came Went = sign_among (32 ∷ ((query ++ cells_text c.answer) ++ 10 ∷ [])) 45 _ refl
+    by Went Came = sign_among (32 ∷ ((query ++ cells_text c.answer) ++ 10 ∷ [])) 43 _ refl
+    by Went Went = sign_among (32 ∷ ((query ++ cells_text c.answer) ++ 10 ∷ [])) 45 _ refl
+
+more_ends : (told : List Tuple) → ends_by (text_of (listing_lines told false)) ≡ 101
+more_ends told =
+    ap ends_by (text_more (map answer_line told) (last_line false))
+    ∙ ends_at (text_of (map answer_line told)) (last_line false) (omega arith)
+
+one_line : (a b : Bytes) → signs_later a ≡ false → (ends_by a == 101) ≡ false → SameText a b → a ≡ b
+one_line a b alone last (is_equal same) = same
+one_line a b alone last (are_pages told told' false is is' long moved) =
+    absurd (eqb-false (ends_by a) 101 last (ap ends_by is ∙ more_ends told))
+one_line a b alone last (are_pages told told' true is is' long moved) = by told is (moved refl)
+  where
+    by : (told : List Tuple) → a ≡ text_of (listing_lines told true) → IsPermutation told told' → a ≡ b
+    by [] is moved = is ∙ ap (λ ts. text_of (listing_lines ts true)) (sym (no_others told' moved)) ∙ sym is'
+    by (t ∷ []) is moved = is ∙ ap (λ ts. text_of (listing_lines ts true)) (sym (that_one t told' moved)) ∙ sym is'
+    by (t ∷ u ∷ ts) is moved = absurd (true≢false (sym (two_answers t u ts true) ∙ ap signs_later (sym is) ∙ alone))
+one_line a b alone last (are_deltas query changes changes' n moved is is') = by changes is moved
+  where
+    by : (changes : List Change) → a ≡ text_of (delta_lines query changes n) → IsPermutation changes changes' → a ≡ b
+    by [] is moved = is ∙ ap (λ cs. text_of (delta_lines query cs n)) (sym (no_others changes' moved)) ∙ sym is'
+    by (c ∷ []) is moved = is ∙ ap (λ cs. text_of (delta_lines query cs n)) (sym (that_one c changes' moved)) ∙ sym is'
+    by (c ∷ d ∷ cs) is moved = absurd (true≢false (sym (two_changes query c d cs n) ∙ ap signs_later (sym is) ∙ alone))
+
+line_apart : (a b : Bytes) → signs_later a ≡ false → (ends_by a == 101) ≡ false → bytes_eq a b ≡ false → SameText a b → ⊥
+line_apart a b alone last differ same =
+    true≢false (sym ((bytes_eq-Decides a b).1 (one_line a b alone last same)) ∙ differ)
 
 -- ---- A delta before the reply.
 
@@ -737,9 +785,9 @@ so_delta =
     let old = first_at (rows_left [] queries 0) (record (with_bytes [] ok_watch) { watches = codes "q" ∷ [] }) in
     let new = first_at (rows_left (of_seven 1) queries 1) (record (with_bytes [] ok_watch) { watches = codes "q" ∷ [] }) in
     let here = first_at (rows_left [] queries 0) y in
-    let told : Telling = record { state = new; queued = (1, delta_at (codes "1")) ∷ [] } in
+    let told : Telling = record { state = new; queued = (1, delta_of (codes "+ q 7")) ∷ [] } in
     let start : Telling = record { state = new; queued = [] } in
-    let parts : List (ℕ × Bytes) = (1, delta_at (codes "1")) ∷ (1, added) ∷ [] in
+    let parts : List (ℕ × Bytes) = (1, delta_of (codes "+ q 7")) ∷ (1, added) ∷ [] in
     is_dialogue delta_first here _ refl
     (_, made (line (codes "query q(x) <- r(x)") ++ line (codes "watch q") ++ adds),
     (_, registered [] 0 (line (codes "watch q") ++ adds) ok (omega arith) refl, (_, watched adds, refl)))
@@ -763,9 +811,9 @@ so_delta =
         };
         kept = refl;
       },
-    ) refl) (two_clean 1 1 _ added (not_memory_text 0 (delta_at (codes "1")) refl refl) (not_memory_text 0 added refl refl))
-    (two_clean 1 1 _ added (not_memory_text 0 (delta_at (codes "2")) refl refl) (not_memory_text 0 added refl refl))
-    (λ same. end_apart (delta_at (codes "1")) (delta_at (codes "2")) refl same.1) (refl, inl (refl, refl))
+    ) refl) (two_clean 1 1 _ added (not_memory_text 0 (delta_of (codes "+ q 7")) refl refl) (not_memory_text 0 added refl refl))
+    (two_clean 1 1 _ added (not_memory_text 0 (delta_of (codes "- q 7")) refl refl) (not_memory_text 0 added refl refl))
+    (λ same. line_apart (delta_of (codes "+ q 7")) (delta_of (codes "- q 7")) refl refl refl same.1) (refl, inl (refl, refl))
 
 -- ---- Cursors.
 
@@ -815,7 +863,7 @@ so_page =
     let y = record (with_bytes asks pending) { cursors = cursor_c (open_at [] false) ∷ [] } in
     let here = first_at (rows_left (of_seven 1) queries 1) y in
     let page = line (codes "= 7") ++ line (codes "end") in
-    let other = line (codes "= 7") ++ line (codes "ent") in
+    let other = line (codes "= 8") ++ line (codes "end") in
     is_dialogue page_told here _ refl
     (_, made (line (codes "add r 7") ++ line (codes "query q(x) <- r(x)") ++ line (codes "open c q") ++ asks),
     (_, added_first (line (codes "query q(x) <- r(x)") ++ line (codes "open c q") ++ asks),
@@ -834,7 +882,7 @@ so_page =
         state = refl;
       }),
     ) refl) (one_clean 1 page (not_memory_text 0 page refl refl)) (one_clean 1 other (not_memory_text 0 other refl refl))
-    (λ same. end_apart page other refl same.1) (refl, inl (refl, refl))
+    (λ same. line_apart page other refl refl refl same.1) (refl, inl (refl, refl))
 
 so_stale : IsDialogue (ends_with (makes_r ∷ registers_q ∷ opens_c ∷ inserts_seven ∷ []) (codes "next c 1") (codes "stale c r 1") (codes "stale c r 2"))
 unfolding digits
@@ -970,8 +1018,8 @@ so_other =
     let watcher : Session = record (fresh 2) { pending = line (codes "ok watch 0"); watches = codes "q" ∷ [] } in
     let here = both_at (rows_left [] queries 0) y watcher in
     let new = both_at (rows_left (of_seven 1) queries 1) (with_bytes [] ok_query) watcher in
-    let told : Telling = record { state = new; queued = (2, delta_at (codes "1")) ∷ [] } in
-    let parts : List (ℕ × Bytes) = (2, delta_at (codes "1")) ∷ (1, added) ∷ [] in
+    let told : Telling = record { state = new; queued = (2, delta_of (codes "+ q 7")) ∷ [] } in
+    let parts : List (ℕ × Bytes) = (2, delta_of (codes "+ q 7")) ∷ (1, added) ∷ [] in
     let start : Telling = record { state = new; queued = [] } in
     let says_watch : DialogueLine =
     record { session = 2; says = codes "watch q"; queued = (2, line (codes "ok watch 0")) ∷ [] } in
@@ -1004,9 +1052,9 @@ so_other =
         };
         kept = refl;
       },
-    ) refl) (two_clean 2 1 _ added (not_memory_text 0 (delta_at (codes "1")) refl refl) (not_memory_text 0 added refl refl))
-    (two_clean 2 1 _ added (not_memory_text 0 (delta_at (codes "2")) refl refl) (not_memory_text 0 added refl refl))
-    (λ same. end_apart (delta_at (codes "1")) (delta_at (codes "2")) refl same.1) (refl, inl (refl, refl))
+    ) refl) (two_clean 2 1 _ added (not_memory_text 0 (delta_of (codes "+ q 7")) refl refl) (not_memory_text 0 added refl refl))
+    (two_clean 2 1 _ added (not_memory_text 0 (delta_of (codes "+ q 8")) refl refl) (not_memory_text 0 added refl refl))
+    (λ same. line_apart (delta_of (codes "+ q 7")) (delta_of (codes "+ q 8")) refl refl refl same.1) (refl, inl (refl, refl))
 
 -- ---- A row that a batch updates.
 

@@ -1,4 +1,4 @@
--- Twelve dialogues of sessions, as theorems: each is a run of the machine, and with one byte of what is queued changed
+-- Thirteen dialogues of sessions, as theorems: each is a run of the machine, and with one byte of what is queued changed
 -- it is none.
 use Rattle.std.specs.Prelude.{ℕ, List, [], ◌∷◌, ◌++◌, ◌==◌, ◌≡◌, ◌⊎◌, filter, false, map, codes, ⊤}
 use Rattle.djq_model.specs.Data.{Bytes}
@@ -93,16 +93,16 @@ opens_c = is_replied (codes "open c q") (codes "ok open")
 abbrev pub opens_batch : DialogueLine
 opens_batch = is_replied (codes "batch") (codes "ok batch")
 
--- the delta of the row 7, after so many changes
-abbrev pub delta_at : Bytes → Bytes
-delta_at n = line (codes "+ q 7") ++ line (codes "at q " ++ n)
+-- a delta of one line, of the first change
+abbrev pub delta_of : Bytes → Bytes
+delta_of change = line change ++ line (codes "at q 1")
 
 -- The delta comes before the reply.
 abbrev pub delta_first : Dialogue
 delta_first = record {
   before = makes_r ∷ registers_q ∷ watches_q ∷ [];
-  last = first_says (codes "add r 7") (delta_at (codes "1") ∷ line (codes "ok added 1 1") ∷ []);
-  other = (1, delta_at (codes "2")) ∷ (1, line (codes "ok added 1 1")) ∷ [];
+  last = first_says (codes "add r 7") (delta_of (codes "+ q 7") ∷ line (codes "ok added 1 1") ∷ []);
+  other = (1, delta_of (codes "- q 7")) ∷ (1, line (codes "ok added 1 1")) ∷ [];
 }
 
 -- The second session watches, and the first inserts.
@@ -113,9 +113,9 @@ other_session = record {
   last = record {
     session = 1;
     says = codes "add r 7";
-    queued = (2, delta_at (codes "1")) ∷ (1, line (codes "ok added 1 1")) ∷ [];
+    queued = (2, delta_of (codes "+ q 7")) ∷ (1, line (codes "ok added 1 1")) ∷ [];
   };
-  other = (2, delta_at (codes "2")) ∷ (1, line (codes "ok added 1 1")) ∷ [];
+  other = (2, delta_of (codes "+ q 8")) ∷ (1, line (codes "ok added 1 1")) ∷ [];
 }
 
 -- A batch updates a row: one change, of an answer that is removed and one that is added.
@@ -133,7 +133,7 @@ abbrev pub page_told : Dialogue
 page_told = record {
   before = makes_r ∷ inserts_seven ∷ registers_q ∷ opens_c ∷ [];
   last = first_says (codes "next c 5") ((line (codes "= 7") ++ line (codes "end")) ∷ []);
-  other = (1, line (codes "= 7") ++ line (codes "ent")) ∷ [];
+  other = (1, line (codes "= 8") ++ line (codes "end")) ∷ [];
 }
 
 abbrev pub dialogues : List Dialogue
