@@ -33,7 +33,7 @@ use Rattle.djq_machine.specs.Effect.{EndsWith, RefusedStep}
 use Rattle.djq_protocol.specs.declared.answer.EndCause.{EndCause}
 use Rattle.djq_protocol.specs.Reply.{text_of, end_memory, listing_lines, answer_line}
 use Rattle.djq_protocol.specs.Hypergraph.{edges_of, head_of}
-use Rattle.djq_store_spec.specs.Store.{Position, open_at, stale}
+use Rattle.djq_store_spec.specs.Store.{Store, Position, open_at, stale}
 use Rattle.djq_store_spec.specs.Registering.{answer_steps}
 use Rattle.djq_store_spec.specs.Listing.{TellsAnswers}
 use Rattle.djq_tree.specs.Tree.{Tree}
@@ -107,9 +107,16 @@ said s text e is = ap (λ (d : Effect). d.queued) is
 pub answered : (s : ℕ) (text : Bytes) (test : Bool) (e : Effect) → e ≡ answers s text test → e.queued ≡ (s, text) ∷ []
 answered s text test e is = ap (λ (d : Effect). d.queued) is
 
--- the same is queued, and the same store is left before rows are reordered
+-- the same is queued, and the same state is left before rows are reordered
 abbrev pub Same : Effect → State → Effect → State → Type 0
-Same e new e' new' = SameQueued e.queued e'.queued × (new.store ≡ new'.store)
+Same e new e' new' = SameQueued e.queued e'.queued × (new ≡ new')
+
+-- the same is queued, and the same store is left
+abbrev pub SameLeft : Effect → State → Effect → State → Type 0
+SameLeft e new e' new' = SameQueued e.queued e'.queued × (new.store ≡ new'.store)
+
+pub left_of : (e e' : Effect) (new new' : State) → Same e new e' new' → SameLeft e new e' new'
+left_of e e' new new' same = (same.0, ap (λ (st : State). st.store) same.1)
 
 -- ---- The commands.
 
@@ -205,9 +212,9 @@ module _ (old : State) (s : ℕ) (e e' : Effect) (new new' : State) (told : IsTo
       (not_err (ok_reply (codes "ok")) s h.result e refl q told)
       (not_err (ok_reply (codes "ok")) s k.result e' refl q' told') h.done.answer k.done.answer in (
         same_alone s _ _ e e' q q' (ap (ok_reply (codes "ok")) same),
-        ap (λ (st : State). st.store) h.state
-            ∙ by h.result h.done (subst (λ r. MakesRelation old.store name types r k.store) (sym same) k.done)
-            ∙ sym (ap (λ (st : State). st.store) k.state),
+        h.state
+            ∙ ap (λ (st : Store). record old { store = st }) (by h.result h.done (subst (λ r. MakesRelation old.store name types r k.store) (sym same) k.done))
+            ∙ sym k.state,
       )
     where
       by : (r : Result ⊤ Refusal) → MakesRelation old.store name types r h.store
@@ -225,9 +232,9 @@ module _ (old : State) (s : ℕ) (e e' : Effect) (new new' : State) (told : IsTo
       (not_err (ok_reply (codes "ok")) s h.result e refl is told)
       (not_err (ok_reply (codes "ok")) s k.result e' refl is' told') h.done.answer k.done.answer in (
         same_alone s _ _ e e' is is' (ap (ok_reply (codes "ok")) same),
-        ap (λ (st : State). st.store) h.state
-            ∙ by h.result h.done (subst (λ r. DropsQuery old.store used q r k.store) (sym same) k.done)
-            ∙ sym (ap (λ (st : State). st.store) k.state),
+        h.state
+            ∙ ap (λ (st : Store). record old { store = st }) (by h.result h.done (subst (λ r. DropsQuery old.store used q r k.store) (sym same) k.done))
+            ∙ sym k.state,
       )
     where
       by : (r : Result ⊤ Refusal) → DropsQuery old.store (list_any (uses q) old.sessions) q r h.store
@@ -236,21 +243,17 @@ module _ (old : State) (s : ℕ) (e e' : Effect) (new new' : State) (told : IsTo
           ∙ sym (done_of (drop_refusal old.store (list_any (uses q) old.sessions) q) a _ (OutOfMemoryWhere ⊥) y.answer)
       by (Err r) x y = x.stays ∙ sym y.stays
 
-  -- a command of a session leaves the store
-  turned_same : (f : Session → Session) (r r' : Result ⊤ Refusal) → BecomesWhere old s f new r
-      → BecomesWhere old s f new' r' → new.store ≡ new'.store
-  turned_same f r r' h k = stays r h ∙ sym (stays' r' k)
+  -- a command of a session changes it alike
+  turned_same : (f : Session → Session) (r r' : Result ⊤ Refusal) → r ≡ r' → BecomesWhere old s f new r
+      → BecomesWhere old s f new' r' → new ≡ new'
+  turned_same f r r' same h k = by r h (subst (λ (x : Result ⊤ Refusal). BecomesWhere old s f new' x) (sym same) k)
     where
-      stays : (r : Result ⊤ Refusal) → BecomesWhere old s f new r → new.store ≡ old.store
-      stays (Ok a) h = ap (λ (st : State). st.store) h
-      stays (Err w) h = ap (λ (st : State). st.store) h
+      by : (r : Result ⊤ Refusal) → BecomesWhere old s f new r → BecomesWhere old s f new' r → new ≡ new'
+      by (Ok a) h k = h ∙ sym k
+      by (Err w) h k = h ∙ sym k
 
-      stays' : (r : Result ⊤ Refusal) → BecomesWhere old s f new' r → new'.store ≡ old.store
-      stays' (Ok a) h = ap (λ (st : State). st.store) h
-      stays' (Err w) h = ap (λ (st : State). st.store) h
-
-  same_store : new ≡ old → new' ≡ old → new.store ≡ new'.store
-  same_store h k = ap (λ (st : State). st.store) (h ∙ sym k)
+  same_state : new ≡ old → new' ≡ old → new ≡ new'
+  same_state h k = h ∙ sym k
 
   pub open_same : (x : Session) (c q : Bytes) → OpenStep old s x c q e new → OpenStep old s x c q e' new' → Same e new e' new'
   open_same x c q h k =
@@ -260,16 +263,12 @@ module _ (old : State) (s : ℕ) (e e' : Effect) (new new' : State) (told : IsTo
       (not_err (ok_reply (codes "ok open")) s h.result e refl is told)
       (not_err (ok_reply (codes "ok open")) s k.result e' refl is' told') h.answer k.answer in (
         same_alone s _ _ e e' is is' (ap (ok_reply (codes "ok open")) same),
-        stays h.result h.state ∙ sym (stays' k.result k.state),
+        by h.result h.state (subst (λ (r : Result ⊤ Refusal). OpensTo old s c q new' r) (sym same) k.state),
       )
     where
-      stays : (r : Result ⊤ Refusal) → OpensTo old s c q new r → new.store ≡ old.store
-      stays (Ok a) h = ap (λ (st : State). st.store) h
-      stays (Err w) h = ap (λ (st : State). st.store) h
-
-      stays' : (r : Result ⊤ Refusal) → OpensTo old s c q new' r → new'.store ≡ old.store
-      stays' (Ok a) h = ap (λ (st : State). st.store) h
-      stays' (Err w) h = ap (λ (st : State). st.store) h
+      by : (r : Result ⊤ Refusal) → OpensTo old s c q new r → OpensTo old s c q new' r → new ≡ new'
+      by (Ok a) h k = h ∙ sym k
+      by (Err w) h k = h ∙ sym k
 
   pub watch_same : (x : Session) (q : Bytes) → WatchStep old s x q e new → WatchStep old s x q e' new' → Same e new e' new'
   watch_same x q h k =
@@ -278,7 +277,7 @@ module _ (old : State) (s : ℕ) (e e' : Effect) (new new' : State) (told : IsTo
       let is' = said s (reply k.result) e' k.effect in
       let same = same_answer (watch_refusal old.store q) h.result k.result _ _ _ _ (λ a b _ _. refl)
       (not_err reply s h.result e refl is told) (not_err reply s k.result e' refl is' told') h.answer k.answer in
-      (same_alone s _ _ e e' is is' (ap reply same), turned_same (with_watch q) h.result k.result h.state k.state)
+      (same_alone s _ _ e e' is is' (ap reply same), turned_same (with_watch q) h.result k.result same h.state k.state)
 
   pub unwatch_same : (q : Bytes) → UnwatchStep old s q e new → UnwatchStep old s q e' new' → Same e new e' new'
   unwatch_same q h k =
@@ -288,7 +287,7 @@ module _ (old : State) (s : ℕ) (e e' : Effect) (new new' : State) (told : IsTo
       (not_err (ok_reply (codes "ok")) s h.result e refl is told)
       (not_err (ok_reply (codes "ok")) s k.result e' refl is' told') h.answer k.answer in (
         same_alone s _ _ e e' is is' (ap (ok_reply (codes "ok")) same),
-        turned_same (without_watch q) h.result k.result h.state k.state,
+        turned_same (without_watch q) h.result k.result same h.state k.state,
       )
 
   pub batch_same : BatchStep old s e new → BatchStep old s e' new' → Same e new e' new'
@@ -299,7 +298,7 @@ module _ (old : State) (s : ℕ) (e e' : Effect) (new new' : State) (told : IsTo
       (not_err (ok_reply (codes "ok batch")) s h.result e refl is told)
       (not_err (ok_reply (codes "ok batch")) s k.result e' refl is' told') h.answer k.answer in (
         same_alone s _ _ e e' is is' (ap (ok_reply (codes "ok batch")) same),
-        turned_same (with_batch nothing_held) h.result k.result h.state k.state,
+        turned_same (with_batch nothing_held) h.result k.result same h.state k.state,
       )
 
   pub hold_same : (held : HeldTransaction) (l : Bytes) (verb : Verb) (name : Bytes) (row : Tuple)
@@ -311,7 +310,7 @@ module _ (old : State) (s : ℕ) (e e' : Effect) (new new' : State) (told : IsTo
       let same = same_answer (hold_refusal old.store held l name row) h.result k.result _ _ _ _ (λ a b _ _. refl)
       (not_err reply s h.result e refl is told) (not_err reply s k.result e' refl is' told') h.answer k.answer in (
         same_alone s _ _ e e' is is' (ap reply same),
-        turned_same (with_batch (holding held verb name row l)) h.result k.result h.state k.state,
+        turned_same (with_batch (holding held verb name row l)) h.result k.result same h.state k.state,
       )
 
   pub has_same : (q : Bytes) (t : Tuple) → HasStep old s q t e new → HasStep old s q t e' new' → Same e new e' new'
@@ -321,7 +320,7 @@ module _ (old : State) (s : ℕ) (e e' : Effect) (new new' : State) (told : IsTo
       let same = same_answer (has_refusal old.store q t) h.result k.result _ _ ⊥ ⊥ (alike (listed_of old.store.queries q))
       (not_err has_reply s h.result e refl is told) (not_err has_reply s k.result e' refl is' told')
       h.tells.answer k.tells.answer in
-      (same_alone s _ _ e e' is is' (ap has_reply same), same_store h.state k.state)
+      (same_alone s _ _ e e' is is' (ap has_reply same), same_state h.state k.state)
     where
       tells : (P : Type 0) (a b : Bool) → Tells P a → Tells P b → a ≡ b
       tells P true true h k = refl
@@ -342,7 +341,7 @@ module _ (old : State) (s : ℕ) (e e' : Effect) (new new' : State) (told : IsTo
       _ _ ⊥ ⊥ (alike (listed_of old.store.queries q))
       (not_err shape_reply s h.result e refl is told) (not_err shape_reply s k.result e' refl is' told')
       h.tells.answer k.tells.answer in
-      (same_alone s _ _ e e' is is' (ap shape_reply same), same_store h.state k.state)
+      (same_alone s _ _ e e' is is' (ap shape_reply same), same_state h.state k.state)
     where
       shapes : (l : Listed) (a b : ShapeOf) → IsShapeOf l a → IsShapeOf l b → a ≡ b
       shapes (a_query q) Flat Flat h k = refl
@@ -372,7 +371,7 @@ module _ (old : State) (s : ℕ) (e e' : Effect) (new new' : State) (told : IsTo
       → Same e new e' new'
   lines_same lines lines' same (inl h) (inl k) = (
     same_alone s _ _ e e' (said s _ e h.0) (said s _ e' k.0) (ap text_of same),
-    same_store h.1 k.1,
+    same_state h.1 k.1,
   )
   lines_same lines lines' same (inr h) k = absurd (cut_short _ (text_of h.0) refl e.queued (said s _ e h.4.0) told)
   lines_same lines lines' same (inl h) (inr k) =
@@ -385,19 +384,19 @@ module _ (old : State) (s : ℕ) (e e' : Effect) (new new' : State) (told : IsTo
       (ap (explain_lines q) (one_tree (edges_of q) (head_of q) h.tree k.tree h.named k.named)) h.tells k.tells
 
   pub refused_same : (r : Refusal) → RefusedStep old s r e new → RefusedStep old s r e' new' → Same e new e' new'
-  refused_same r h k = (same_alone s _ _ e e' (said s _ e h.0) (said s _ e' k.0) refl, same_store h.1 k.1)
+  refused_same r h k = (same_alone s _ _ e e' (said s _ e h.0) (said s _ e' k.0) refl, same_state h.1 k.1)
 
   pub ends_same : (text : Bytes) (cause : EndCause) (st : State) → EndsWith text cause st s e new → EndsWith text cause st s e' new'
       → Same e new e' new'
   ends_same text cause st h k = (
     same_alone s _ _ e e' (said s _ e h.0) (said s _ e' k.0) refl,
-    ap (λ (x : State). x.store) (h.1 ∙ sym k.1),
+    h.1 ∙ sym k.1,
   )
 
   pub close_same : (c : Bytes) → CloseStep old s c e new → CloseStep old s c e' new' → Same e new e' new'
   close_same c h k = (
     same_alone s _ _ e e' (said s _ e h.0) (said s _ e' k.0) refl,
-    ap (λ (x : State). x.store) (h.1 ∙ sym k.1),
+    h.1 ∙ sym k.1,
   )
 
   pub union_same : (name : Bytes) (members : List Bytes) → UnionStep old s name members e new
@@ -410,9 +409,9 @@ module _ (old : State) (s : ℕ) (e e' : Effect) (new new' : State) (told : IsTo
       (not_err union_reply s h.result e refl is told) (not_err union_reply s k.result e' refl is' told')
       h.done.answer k.done.answer in (
         same_alone s _ _ e e' is is' (ap union_reply same),
-        ap (λ (st : State). st.store) h.state
-            ∙ by h.result h.done (subst (λ r. RegistersUnion old.store name members r k.store) (sym same) k.done)
-            ∙ sym (ap (λ (st : State). st.store) k.state),
+        h.state
+            ∙ ap (λ (st : Store). record old { store = st }) (by h.result h.done (subst (λ r. RegistersUnion old.store name members r k.store) (sym same) k.done))
+            ∙ sym k.state,
       )
     where
       by : (r : Result ℕ Refusal) → RegistersUnion old.store name members r h.store
@@ -425,7 +424,7 @@ module _ (old : State) (s : ℕ) (e e' : Effect) (new new' : State) (told : IsTo
       by (Err r) x y = x.stays ∙ sym y.stays
 
   page_same : (c : Bytes) (q : Listed) (given : List Tuple) (count : ℕ) → NextStep old s c q given count e new
-      → NextStep old s c q given count e' new' → Same e new e' new'
+      → NextStep old s c q given count e' new' → SameLeft e new e' new'
   page_same c q given count h k = (
     subst (λ qs. SameQueued qs e'.queued) (sym (ap (λ (d : Effect). d.queued) h.effect))
         (subst (λ qs. SameQueued ((s, text_of (listing_lines h.told h.end)) ∷ []) qs)
@@ -435,10 +434,10 @@ module _ (old : State) (s : ℕ) (e e' : Effect) (new new' : State) (told : IsTo
   )
 
   pub next_same : (c : Bytes) (q : Listed) (count : ℕ) (p : Position) → NextStepAt old s c q count p e new
-      → NextStepAt old s c q count p e' new' → Same e new e' new'
+      → NextStepAt old s c q count p e' new' → SameLeft e new e' new'
   next_same c q count (stale relation n) h k = (
     same_alone s _ _ e e' (said s _ e h.0) (said s _ e' k.0) refl,
-    same_store h.1 k.1,
+    ap (λ (x : State). x.store) (h.1 ∙ sym k.1),
   )
   next_same c q count (open_at given ended) (inl h) (inl k) = page_same c q given count h k
   next_same c q count (open_at given ended) (inr h) k =

@@ -45,7 +45,7 @@ use Rattle.djq_determinacy.proofs.Steps.{is_determined}
 -- ---- A reply that is neither a page nor a delta is the only one.
 
 -- whether a text may begin a page or a delta
-abbrev is_list : Bytes → Bool
+abbrev pub is_list : Bytes → Bool
 is_list text =
     let first = get_or text 0 0 in
     first == 61 || first == 43 || first == 45 || first == 97 || bytes_eq text (line (codes "end"))
@@ -64,7 +64,7 @@ delta_is_list query (c ∷ cs) n = by c.sign
     by Came = refl
     by Went = refl
 
-only_text : (a b : Bytes) → SameText a b → is_list a ≡ false → a ≡ b
+pub only_text : (a b : Bytes) → SameText a b → is_list a ≡ false → a ≡ b
 only_text a b (is_equal same) plain = same
 only_text a b (are_pages told told' end is is' long moved) plain =
     absurd (true≢false (sym (page_is_list told end) ∙ ap is_list (sym is) ∙ plain))
@@ -110,7 +110,7 @@ only_so x plain so = λ other. differs (bytes_eq-Decides (line x.reply) (line x.
 -- ---- The exchanges.
 
 -- a text that is neither refusal of memory
-not_memory_text : (k : ℕ) (text : Bytes) → (get_or text k 0 == get_or memory_text k 0) ≡ false
+pub not_memory_text : (k : ℕ) (text : Bytes) → (get_or text k 0 == get_or memory_text k 0) ≡ false
     → (get_or text (length text - 2) 0 == 121) ≡ false → IsNoRefusal text
 not_memory_text k text first last = (differs_at k text first, ends_otherwise text last)
 
@@ -157,19 +157,19 @@ exchange x r e mid reads front blank plain reply_first other_first differ one st
       }) so;
     }
 
-reads_rel : reading_of (codes "rel r int") ≡ says_command (Rel (codes "r") (IntColumn ∷ []))
+pub reads_rel : reading_of (codes "rel r int") ≡ says_command (Rel (codes "r") (IntColumn ∷ []))
 unfolding command_of is_utf8 chars encode tokens
 reads_rel = refl
 
-reads_part : reading_of (codes "rel") ≡ outside
+pub reads_part : reading_of (codes "rel") ≡ outside
 unfolding command_of is_utf8 chars encode tokens
 reads_part = refl
 
-reads_has : reading_of (codes "has q 7") ≡ says_command (Has (codes "q") (Int (pos 7) ∷ []))
+pub reads_has : reading_of (codes "has q 7") ≡ says_command (Has (codes "q") (Int (pos 7) ∷ []))
 unfolding command_of is_utf8 chars encode tokens
 reads_has = refl
 
-reads_open : reading_of (codes "open c q") ≡ says_command (Open (codes "c") (codes "q"))
+pub reads_open : reading_of (codes "open c q") ≡ says_command (Open (codes "c") (codes "q"))
 unfolding command_of is_utf8 chars encode tokens
 reads_open = refl
 
@@ -177,23 +177,23 @@ reads_close : reading_of (codes "close c") ≡ says_command (Close (codes "c"))
 unfolding command_of is_utf8 chars encode tokens
 reads_close = refl
 
-reads_watch : reading_of (codes "watch q") ≡ says_command (Watch (codes "q"))
+pub reads_watch : reading_of (codes "watch q") ≡ says_command (Watch (codes "q"))
 unfolding command_of is_utf8 chars encode tokens
 reads_watch = refl
 
-reads_add : reading_of (codes "add r 7") ≡ says_command (Add (codes "r") (Int (pos 7) ∷ []))
+pub reads_add : reading_of (codes "add r 7") ≡ says_command (Add (codes "r") (Int (pos 7) ∷ []))
 unfolding command_of is_utf8 chars encode tokens
 reads_add = refl
 
-reads_del : reading_of (codes "del r 8") ≡ says_command (Del (codes "r") (Int (pos 8) ∷ []))
+pub reads_del : reading_of (codes "del r 8") ≡ says_command (Del (codes "r") (Int (pos 8) ∷ []))
 unfolding command_of is_utf8 chars encode tokens
 reads_del = refl
 
-reads_batch : reading_of (codes "batch") ≡ says_command Batch
+pub reads_batch : reading_of (codes "batch") ≡ says_command Batch
 unfolding command_of is_utf8 chars encode tokens
 reads_batch = refl
 
-reads_done : reading_of (codes "done") ≡ says_command (Done None)
+pub reads_done : reading_of (codes "done") ≡ says_command (Done None)
 unfolding command_of is_utf8 chars encode tokens
 reads_done = refl
 
@@ -208,7 +208,7 @@ two_copies = record one_row {
 }
 
 -- a number that stands in r is an answer of q
-seven_is_answer : IsAnswer (seven ∷ []) sevens (Int (pos 7) ∷ [])
+pub seven_is_answer : IsAnswer (seven ∷ []) sevens (Int (pos 7) ∷ [])
 seven_is_answer = record {
   assignment = λ x. Int (pos 7);
   satisfies = All-cons (Satisfies (seven ∷ []) (λ x. Int (pos 7))) (record { relation = codes "r"; terms = Variable (codes "x") ∷ [] }) []

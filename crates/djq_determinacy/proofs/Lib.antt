@@ -9,3 +9,5 @@ pub mod RestsSame
 pub mod QuerySame
 pub mod Steps
 pub mod Dialogues
+pub mod Triangle
+pub mod Sessions

@@ -104,7 +104,7 @@ module _ (old : State) (s : ℕ) (e e' : Effect) (new new' : State) (told : IsTo
       h.done.stays k.done.stays h.done.answer k.done.answer in (
         subst (λ qs. SameQueued qs e'.queued) (sym is)
             (subst (λ qs. SameQueued ((s, query_reply h.result) ∷ []) qs) (sym is') (refl, same.0, tt)),
-        ap (λ (st : State). st.store) h.state ∙ same.1 ∙ sym (ap (λ (st : State). st.store) k.state),
+        h.state ∙ ap (λ (st : Store). record old { store = st }) same.1 ∙ sym k.state,
       )
 
   pub query_same : (q : Query) → QueryStep old s q e new ⊎ QueryCutStep old s q e new

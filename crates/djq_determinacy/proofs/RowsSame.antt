@@ -102,8 +102,7 @@ same_change old s o o' store store' reply reply' e e' new new' told told' outcom
     let k' = subst (λ x. ChangeStep old s x store reply e' new') (sym outcome)
     (subst (λ (x : Store). ChangeStep old s o' x reply e' new') (sym same)
     (subst (λ x. ChangeStep old s o' store' x e' new') (sym text) k)) in
-    let both = change_same old s o store reply e e' new new' told told' h k' in
-    (both.0, ap (λ (st : State). st.store) both.1)
+    change_same old s o store reply e e' new new' told told' h k'
 
 -- ---- `del`
 

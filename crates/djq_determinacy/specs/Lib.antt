@@ -3,3 +3,4 @@ pub mod Prefixes
 pub mod Determinacy
 pub mod Reductions
 pub mod Dialogues
+pub mod Sessions

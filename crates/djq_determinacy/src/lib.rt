@@ -10,6 +10,7 @@
 //! never_refused_for_memory     del, drop, next, close, has, unwatch, explain, shape, abandon, quit, stop
 //! prefixes_return              a run of serve that is cut off is a first part of one that returns
 //! exchanges_are_answered       has q 7: yes, and not yet
+//! dialogues_are_runs           add r 7, add r 7: ok added 1 1, ok added 1 2, and not ok added 1 1 again
 //! ```
 //!
 //! What "the same" leaves open is said by `SameText`: the order of the answers on a page and of the changes in a delta,
@@ -22,7 +23,9 @@
 //!
 //! Inside, `proofs/Steps.antt` goes through the events and the commands. What a change of rows tells is followed delta by
 //! delta and session by session in `ChangesSame.antt`. That a query that isn't free-connex has one rest is in
-//! `RestsSame.antt`: what two ways of reducing its edges come to covers each other.
+//! `RestsSame.antt`: what two ways of reducing its edges come to covers each other. That a dialogue is the only run of its
+//! lines rests on `run_same` in `Steps.antt`: two steps of one line, memory aside, leave one state, with its sessions, unless
+//! the line is `next`, by which a cursor may give other answers; and rows have one order where a relation has one row at most.
 #![tactic(auto)]
 
 ghost use Rattle.djq_determinacy.specs.Determinacy.{StepsAreDetermined};
@@ -30,6 +33,7 @@ ghost use Rattle.djq_determinacy.specs.Dialogues.{AllAnswered, exchanges};
 ghost use Rattle.djq_determinacy.specs.Memory.{NeverRefusedForMemory};
 ghost use Rattle.djq_determinacy.specs.Prefixes.{PrefixesReturn};
 ghost use Rattle.djq_determinacy.specs.Reductions.{RestsAgree};
+ghost use Rattle.djq_determinacy.specs.Sessions.{AreDialogues, dialogues};
 
 /// Two steps of one event from one state, to neither of which memory is refused, queue the same to each session, up to
 /// the order of a listing, and leave the same store, up to the order of rows.
@@ -55,4 +59,10 @@ pub fn prefixes_return()
 /// Twelve exchanges of a session: each may be answered so, and with one byte of the reply changed it may not.
 pub fn exchanges_are_answered()
     ensures { AllAnswered exchanges }
+{}
+
+/// Thirteen dialogues of two to eight lines, over an empty store: each is a run of the machine, and with one byte of what
+/// is queued for its last line changed it is none.
+pub fn dialogues_are_runs()
+    ensures { AreDialogues dialogues }
 {}
