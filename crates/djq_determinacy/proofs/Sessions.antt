@@ -788,9 +788,11 @@ so_delta =
     let told : Telling = record { state = new; queued = (1, delta_of (codes "+ q 7")) ∷ [] } in
     let start : Telling = record { state = new; queued = [] } in
     let parts : List (ℕ × Bytes) = (1, delta_of (codes "+ q 7")) ∷ (1, added) ∷ [] in
-    is_dialogue delta_first here _ refl
-    (_, made (line (codes "query q(x) <- r(x)") ++ line (codes "watch q") ++ adds),
-    (_, registered [] 0 (line (codes "watch q") ++ adds) ok (omega arith) refl, (_, watched adds, refl)))
+    is_dialogue delta_first here _ refl (
+      _,
+      made (line (codes "query q(x) <- r(x)") ++ line (codes "watch q") ++ adds),
+      (_, registered [] 0 (line (codes "watch q") ++ adds) ok (omega arith) refl, (_, watched adds, refl)),
+    )
     (runs_with here delta_first.last y (says_command (Add (codes "r") (Int (pos 7) ∷ []))) []
     (record { queued = parts; cost = 6; kept = the_line }) new refl refl reads_add refl refl (omega arith) (
       true,
@@ -864,11 +866,19 @@ so_page =
     let here = first_at (rows_left (of_seven 1) queries 1) y in
     let page = line (codes "= 7") ++ line (codes "end") in
     let other = line (codes "= 8") ++ line (codes "end") in
-    is_dialogue page_told here _ refl
-    (_, made (line (codes "add r 7") ++ line (codes "query q(x) <- r(x)") ++ line (codes "open c q") ++ asks),
-    (_, added_first (line (codes "query q(x) <- r(x)") ++ line (codes "open c q") ++ asks),
-    (_, registered (of_seven 1) 1 (line (codes "open c q") ++ asks) ok_added (omega arith) refl,
-    (_, opened (of_seven 1) 1 asks before (omega arith) refl, refl))))
+    is_dialogue page_told here _ refl (
+      _,
+      made (line (codes "add r 7") ++ line (codes "query q(x) <- r(x)") ++ line (codes "open c q") ++ asks),
+      (
+        _,
+        added_first (line (codes "query q(x) <- r(x)") ++ line (codes "open c q") ++ asks),
+        (
+          _,
+          registered (of_seven 1) 1 (line (codes "open c q") ++ asks) ok_added (omega arith) refl,
+          (_, opened (of_seven 1) 1 asks before (omega arith) refl, refl),
+        ),
+      ),
+    )
     (runs_with here page_told.last y (says_command (Next (codes "c") 5)) []
     (record { queued = (1, page) ∷ []; cost = 6; kept = no_line }) (first_at (rows_left (of_seven 1) queries 1)
     (record (with_bytes [] pending) { cursors = cursor_c (open_at ((Int (pos 7) ∷ []) ∷ []) true) ∷ [] })) refl refl
@@ -912,10 +922,15 @@ so_stale =
       },
     ) refl refl refl (one_clean 1 _ (not_memory_text 0 (line (codes "ok added 1 1")) refl refl)) in
     plain_dialogue (makes_r ∷ registers_q ∷ opens_c ∷ inserts_seven ∷ []) (codes "next c 1") (codes "stale c r 1")
-    (codes "stale c r 2") here _ refl
-    (_, made (line (codes "query q(x) <- r(x)") ++ line (codes "open c q") ++ adds),
-    (_, registered [] 0 (line (codes "open c q") ++ adds) ok (omega arith) refl,
-    (_, opened [] 0 adds ok_query (omega arith) refl, (_, inserted, refl))))
+    (codes "stale c r 2") here _ refl (
+      _,
+      made (line (codes "query q(x) <- r(x)") ++ line (codes "open c q") ++ adds),
+      (
+        _,
+        registered [] 0 (line (codes "open c q") ++ adds) ok (omega arith) refl,
+        (_, opened [] 0 adds ok_query (omega arith) refl, (_, inserted, refl)),
+      ),
+    )
     (runs_with here (is_replied (codes "next c 1") (codes "stale c r 1")) z (says_command (Next (codes "c") 1)) []
     (says 1 (line (codes "stale c r 1"))) (first_at (rows_left (of_seven 1) queries 1)
     (record (with_bytes [] after) { cursors = cursor_c (stale (codes "r") 1) ∷ [] })) refl refl reads_next_one refl refl
@@ -967,10 +982,15 @@ so_lacking =
     let lines = held_seven.lines in
     let held : HeldLine = record { verb = Deletes; relation = codes "r"; row = Int (pos 7) ∷ [] } in
     plain_dialogue (makes_r ∷ opens_batch ∷ is_replied (codes "del r 7") (codes "ok held 1") ∷ []) (codes "done")
-    (codes "err 19 absent") (codes "err 18 absent") here _ refl
-    (_, made (line (codes "batch") ++ deletes),
-    (_, batched (rows_left [] [] 0) [] deletes ok (omega arith) refl,
-    (_, holds_seven [] [] 0 [] ends (ok ++ line (codes "ok batch")) (omega arith) refl, refl)))
+    (codes "err 19 absent") (codes "err 18 absent") here _ refl (
+      _,
+      made (line (codes "batch") ++ deletes),
+      (
+        _,
+        batched (rows_left [] [] 0) [] deletes ok (omega arith) refl,
+        (_, holds_seven [] [] 0 [] ends (ok ++ line (codes "ok batch")) (omega arith) refl, refl),
+      ),
+    )
     (runs_with here (is_replied (codes "done") (codes "err 19 absent")) y (says_command (Done None)) []
     (replies_with (codes "err 19 absent") no_line) (first_at (rows_left [] [] 0) (with_bytes [] pending)) refl refl reads_done
     refl refl (omega arith) (
@@ -1029,9 +1049,11 @@ so_other =
     (both_at (rows_left [] queries 0) y (record (fresh 2) { watches = codes "q" ∷ [] })) refl refl reads_watch refl refl
     (omega arith) (true, record { result = Ok tt; answer = tt; effect = refl; state = refl }) refl refl refl
     (one_clean 2 _ (not_memory_text 0 (line (codes "ok watch 0")) refl refl)) in
-    is_dialogue other_session here _ refl
-    (_, made_beside z (line (codes "query q(x) <- r(x)") ++ adds),
-    (_, registered_beside z [] 0 adds ok (omega arith) refl, (_, watches, refl)))
+    is_dialogue other_session here _ refl (
+      _,
+      made_beside z (line (codes "query q(x) <- r(x)") ++ adds),
+      (_, registered_beside z [] 0 adds ok (omega arith) refl, (_, watches, refl)),
+    )
     (runs_with here other_session.last y (says_command (Add (codes "r") (Int (pos 7) ∷ []))) []
     (record { queued = parts; cost = 6; kept = the_line }) new refl refl reads_add refl refl (omega arith) (
       true,
@@ -1258,12 +1280,31 @@ so_updated =
     let added : HeldLine = record { verb = Adds; relation = codes "r"; row = row_eight } in
     let Counted : HeldLine → Type 0 = λ (h : HeldLine). has_row (rows_of (in_r (of_seven 1)) h.relation) h.row ≡ true
     → 1 ≤ copies_before (in_r (of_seven 1)) h in
-    is_dialogue row_updated here _ refl
-    (_, made (line (codes "add r 7") ++ line (codes "query q(x) <- r(x)") ++ watch),
-    (_, added_first (line (codes "query q(x) <- r(x)") ++ watch), (_, registered (of_seven 1) 1 watch ok_added (omega arith) refl,
-    (_, watched_one opens, (_, batched (rows_left (of_seven 1) queries 1) (codes "q" ∷ []) deletes before_batch (omega arith) refl,
-    (_, holds_seven (of_seven 1) queries 1 (codes "q" ∷ []) adds one (omega arith) refl,
-    (_, holds_eight ends two (omega arith), refl)))))))
+    is_dialogue row_updated here _ refl (
+      _,
+      made (line (codes "add r 7") ++ line (codes "query q(x) <- r(x)") ++ watch),
+      (
+        _,
+        added_first (line (codes "query q(x) <- r(x)") ++ watch),
+        (
+          _,
+          registered (of_seven 1) 1 watch ok_added (omega arith) refl,
+          (
+            _,
+            watched_one opens,
+            (
+              _,
+              batched (rows_left (of_seven 1) queries 1) (codes "q" ∷ []) deletes before_batch (omega arith) refl,
+              (
+                _,
+                holds_seven (of_seven 1) queries 1 (codes "q" ∷ []) adds one (omega arith) refl,
+                (_, holds_eight ends two (omega arith), refl),
+              ),
+            ),
+          ),
+        ),
+      ),
+    )
     (runs_with here row_updated.last (watching_q ends pending (Some held_both)) (says_command (Done None)) []
     (record { queued = parts; cost = 12; kept = the_batch held_both.logged }) new refl refl reads_done refl refl (omega arith) (
       true,
@@ -1394,6 +1435,31 @@ so_cyclic =
     (not_memory_text 0 reply refl refl) (not_memory_text 0 (line (codes "no cyclic x,y x,z y,x")) refl refl) refl refl refl
 
 pub are_dialogues : AreDialogues dialogues
-are_dialogues =
-    (so_inserted, (so_copied, (so_deleted, (so_absent, (so_refused, (so_answered, (so_delta, (so_other, (so_page,
-    (so_stale, (so_lacking, (so_updated, (so_cyclic, tt)))))))))))))
+are_dialogues = (
+  so_inserted,
+  (
+    so_copied,
+    (
+      so_deleted,
+      (
+        so_absent,
+        (
+          so_refused,
+          (
+            so_answered,
+            (
+              so_delta,
+              (
+                so_other,
+                (
+                  so_page,
+                  (so_stale, (so_lacking, (so_updated, (so_cyclic, tt)))),
+                ),
+              ),
+            ),
+          ),
+        ),
+      ),
+    ),
+  ),
+)

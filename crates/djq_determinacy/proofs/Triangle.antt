@@ -78,8 +78,14 @@ no_progress r (inl all) =
     let within = all xy (omega (arith, r.those xy)) 0 in omega (arith, within)
 no_progress r (inr (inl own)) =
     not_one own.var
-    (omega (arith, degree_same own.var r.order triangle r.those, degree_same own.var r.order (own.label ∷ own.rest) own.here,
-    own.within, own.alone, one_le (member own.var own.label)))
+    (omega (
+      arith,
+      degree_same own.var r.order triangle r.those,
+      degree_same own.var r.order (own.label ∷ own.rest) own.here,
+      own.within,
+      own.alone,
+      one_le (member own.var own.label),
+    ))
 no_progress r (inr (inr inner)) =
     let side = is_side inner.label (omega (arith, inner.here inner.label, r.those inner.label, count_self inner.label inner.rest)) in
     let side' = is_side inner.over (omega (arith, inner.there, inner.here inner.over, r.those inner.over)) in
