@@ -1,5 +1,5 @@
 -- Dialogues of sessions, as theorems.
-use Rattle.std.specs.Prelude.{ℕ, List, [], ◌∷◌, ◌++◌, ◌≡◌, ◌≤◌, ◌+◌, ◌-◌, ◌==◌, Contains, map, get_or, ◌&&◌, ◌||◌, ◌⊎◌, Bool, true, false, nat_le, None, Some, Option, IsSomeAnd, Ok, Err, All, codes, pos, length, IsPermutation, ⊤}
+use Rattle.std.specs.Prelude.{ℕ, List, [], ◌∷◌, ◌++◌, ◌≡◌, ◌≤◌, ◌+◌, ◌-◌, ◌==◌, Contains, map, get_or, ◌&&◌, ◌||◌, ◌⊎◌, Bool, true, false, None, Some, Option, IsSomeAnd, Ok, Err, All, codes, pos, length, IsPermutation}
 use Rattle.std.specs.Str.{bytes_eq}
 use Rattle.std.specs.List.{list_any}
 use Rattle.std.specs.Fmt.{digits}
@@ -67,7 +67,7 @@ use Rattle.djq_store_spec.specs.Delta.{Change, HasChanged, IsDelta, delta_lines}
 use Rattle.djq_store_spec.specs.DeltaCost.{Delta, Part, ListsAnswers, AreDeltas, ArePartsOf, ListsDelta}
 use Rattle.djq_model.specs.Listed.{Listed, a_query, AnswersOf}
 use Rattle.djq_determinacy.specs.Determinacy.{SameText, is_equal, are_pages, are_deltas, SameQueued, IsNoRefusal}
-use Rattle.djq_determinacy.specs.Sessions.{DialogueLine, Dialogue, RunsWith, IsRunOfMachine, IsDialogue, DifferByOne, start_of, is_replied, ends_with, AreDialogues, dialogues, makes_r, inserts_seven, registers_q, watches_q, opens_c, opens_batch, delta_of, delta_first, page_told, other_session, row_updated}
+use Rattle.djq_determinacy.specs.Sessions.{DialogueLine, Dialogue, RunsWith, IsRunOfMachine, IsMachineDialogue, DifferByOne, start_of, is_replied, ends_with, AreDialogues, dialogues, makes_r, inserts_seven, registers_q, watches_q, opens_c, opens_batch, delta_of, delta_first, page_told, other_session, row_updated}
 use Rattle.djq_determinacy.specs.Dialogues.{sevens, differences}
 use Rattle.djq_determinacy.proofs.Dialogues.{is_list, only_text, not_memory_text, seven_is_answer, reads_rel, reads_add, reads_del, reads_part, reads_has, reads_watch, reads_open, reads_batch, reads_done}
 use Rattle.djq_determinacy.proofs.Prefixes.{step_of, same_relations}
@@ -181,7 +181,7 @@ join_last (y ∷ ys) x old at new w last =
 is_dialogue : (d : Dialogue) (at new : State)
     → start_of (d.before ++ record d.last { queued = d.other } ∷ []) ≡ start_of (d.before ++ d.last ∷ [])
     → Walk IsSure (start_of (d.before ++ d.last ∷ [])) d.before at → RunsWith at d.last new → IsClean d.last.queued
-    → IsClean d.other → (SameQueued d.last.queued d.other → ⊥) → DifferByOne d.last.queued d.other → IsDialogue d
+    → IsClean d.other → (SameQueued d.last.queued d.other → ⊥) → DifferByOne d.last.queued d.other → IsMachineDialogue d
 is_dialogue d at new start way last clean clean' apart one = record {
   so = (new, join_last d.before d.last (start_of (d.before ++ d.last ∷ [])) at new way last);
   one_byte = one;
@@ -452,12 +452,12 @@ plain_dialogue : (before : List DialogueLine) (says reply other : Bytes) (at new
     → Walk IsSure (start_of (before ++ is_replied says reply ∷ [])) before at → RunsWith at (is_replied says reply) new
     → IsNoRefusal (line reply) → IsNoRefusal (line other) → is_list (line reply) ≡ false
     → bytes_eq (line reply) (line other) ≡ false → differences (line reply) (line other) ≡ 1
-    → IsDialogue (ends_with before says reply other)
+    → IsMachineDialogue (ends_with before says reply other)
 plain_dialogue before says reply other at new start way last clean clean' plain differ one =
     is_dialogue (ends_with before says reply other) at new start way last (one_clean 1 (line reply) clean)
     (one_clean 1 (line other) clean') (one_apart 1 (line reply) (line other) plain differ) (refl, inl (one, refl))
 
-so_inserted : IsDialogue (ends_with (makes_r ∷ []) (codes "add r 7") (codes "ok added 1 1") (codes "ok added 2 1"))
+so_inserted : IsMachineDialogue (ends_with (makes_r ∷ []) (codes "add r 7") (codes "ok added 1 1") (codes "ok added 2 1"))
 so_inserted =
     plain_dialogue (makes_r ∷ []) (codes "add r 7") (codes "ok added 1 1") (codes "ok added 2 1")
     (first_at (rows_left [] [] 0) (with_bytes (line (codes "add r 7")) ok)) _ refl
@@ -465,7 +465,7 @@ so_inserted =
     (not_memory_text 0 (line (codes "ok added 1 1")) refl refl) (not_memory_text 0 (line (codes "ok added 2 1")) refl refl)
     refl refl refl
 
-so_copied : IsDialogue (ends_with (makes_r ∷ inserts_seven ∷ []) (codes "add r 7") (codes "ok added 1 2") (codes "ok added 1 1"))
+so_copied : IsMachineDialogue (ends_with (makes_r ∷ inserts_seven ∷ []) (codes "add r 7") (codes "ok added 1 2") (codes "ok added 1 1"))
 unfolding digits
 so_copied =
     plain_dialogue (makes_r ∷ inserts_seven ∷ []) (codes "add r 7") (codes "ok added 1 2") (codes "ok added 1 1")
@@ -488,7 +488,7 @@ so_copied =
     (not_memory_text 0 (line (codes "ok added 1 2")) refl refl) (not_memory_text 0 (line (codes "ok added 1 1")) refl refl)
     refl refl refl
 
-so_deleted : IsDialogue (ends_with (makes_r ∷ inserts_seven ∷ []) (codes "del r 7") (codes "ok removed 2 0") (codes "ok removed 1 0"))
+so_deleted : IsMachineDialogue (ends_with (makes_r ∷ inserts_seven ∷ []) (codes "del r 7") (codes "ok removed 2 0") (codes "ok removed 1 0"))
 unfolding digits
 so_deleted =
     plain_dialogue (makes_r ∷ inserts_seven ∷ []) (codes "del r 7") (codes "ok removed 2 0") (codes "ok removed 1 0")
@@ -512,7 +512,7 @@ so_deleted =
     (not_memory_text 0 (line (codes "ok removed 2 0")) refl refl)
     (not_memory_text 0 (line (codes "ok removed 1 0")) refl refl) refl refl refl
 
-so_absent : IsDialogue (ends_with (makes_r ∷ inserts_seven ∷ []) (codes "del r 8") (codes "ok absent 1") (codes "ok absent 2"))
+so_absent : IsMachineDialogue (ends_with (makes_r ∷ inserts_seven ∷ []) (codes "del r 8") (codes "ok absent 1") (codes "ok absent 2"))
 unfolding digits
 so_absent =
     plain_dialogue (makes_r ∷ inserts_seven ∷ []) (codes "del r 8") (codes "ok absent 1") (codes "ok absent 2")
@@ -535,7 +535,7 @@ so_absent =
     (not_memory_text 0 (line (codes "ok absent 1")) refl refl) (not_memory_text 0 (line (codes "ok absent 2")) refl refl)
     refl refl refl
 
-so_refused : IsDialogue (ends_with (makes_r ∷ []) (codes "rel") (codes "err 1 syntax") (codes "err 2 syntax"))
+so_refused : IsMachineDialogue (ends_with (makes_r ∷ []) (codes "rel") (codes "err 1 syntax") (codes "err 2 syntax"))
 so_refused =
     plain_dialogue (makes_r ∷ []) (codes "rel") (codes "err 1 syntax") (codes "err 2 syntax")
     (first_at (rows_left [] [] 0) (with_bytes (line (codes "rel")) ok)) _ refl (_, made (line (codes "rel")), refl)
@@ -561,7 +561,7 @@ after_query rest = (
   ),
 )
 
-so_answered : IsDialogue (ends_with (makes_r ∷ inserts_seven ∷ registers_q ∷ []) (codes "has q 7") (codes "yes") (codes "yet"))
+so_answered : IsMachineDialogue (ends_with (makes_r ∷ inserts_seven ∷ registers_q ∷ []) (codes "has q 7") (codes "yes") (codes "yet"))
 so_answered =
     let asks = line (codes "has q 7") in
     let here = first_at (rows_left (of_seven 1) (a_query sevens ∷ []) 1)
@@ -750,13 +750,6 @@ queries = a_query sevens ∷ []
 abbrev ok_query : Bytes
 ok_query = ok ++ line (codes "ok query 3")
 
--- a query is registered over no rows, before what is still held
-query_alone : (rest : Bytes)
-    → Walk IsSure (first_at empty_store (with_bytes (line (codes "rel r int") ++ line (codes "query q(x) <- r(x)") ++ rest) []))
-    (makes_r ∷ registers_q ∷ []) (first_at (rows_left [] queries 0) (with_bytes rest ok_query))
-query_alone rest =
-    (_, made (line (codes "query q(x) <- r(x)") ++ rest), (_, registered [] 0 rest ok (omega arith) refl, refl))
-
 abbrev ok_watch : Bytes
 ok_watch = ok_query ++ line (codes "ok watch 0")
 
@@ -776,7 +769,7 @@ two_clean : (s s' : ℕ) (a b : Bytes) → IsNoRefusal a → IsNoRefusal b → I
 two_clean s s' a b none none' =
     All-cons (λ (q : ℕ × Bytes). IsNoRefusal q.1) (s, a) ((s', b) ∷ []) none (one_clean s' b none')
 
-so_delta : IsDialogue delta_first
+so_delta : IsMachineDialogue delta_first
 unfolding digits
 so_delta =
     let adds = line (codes "add r 7") in
@@ -786,11 +779,12 @@ so_delta =
     let new = first_at (rows_left (of_seven 1) queries 1) (record (with_bytes [] ok_watch) { watches = codes "q" ∷ [] }) in
     let here = first_at (rows_left [] queries 0) y in
     let told : Telling = record { state = new; queued = (1, delta_of (codes "+ q 7")) ∷ [] } in
-    let start : Telling = record { state = new; queued = [] } in
     let parts : List (ℕ × Bytes) = (1, delta_of (codes "+ q 7")) ∷ (1, added) ∷ [] in
-    is_dialogue delta_first here _ refl
-    (_, made (line (codes "query q(x) <- r(x)") ++ line (codes "watch q") ++ adds),
-    (_, registered [] 0 (line (codes "watch q") ++ adds) ok (omega arith) refl, (_, watched adds, refl)))
+    is_dialogue delta_first here _ refl (
+      _,
+      made (line (codes "query q(x) <- r(x)") ++ line (codes "watch q") ++ adds),
+      (_, registered [] 0 (line (codes "watch q") ++ adds) ok (omega arith) refl, (_, watched adds, refl)),
+    )
     (runs_with here delta_first.last y (says_command (Add (codes "r") (Int (pos 7) ∷ []))) []
     (record { queued = parts; cost = 6; kept = the_line }) new refl refl reads_add refl refl (omega arith) (
       true,
@@ -854,7 +848,7 @@ seven_told count some = record {
   all_asked = λ ends. absurd (true≢false ends);
 }
 
-so_page : IsDialogue page_told
+so_page : IsMachineDialogue page_told
 unfolding digits
 so_page =
     let asks = line (codes "next c 5") in
@@ -864,11 +858,19 @@ so_page =
     let here = first_at (rows_left (of_seven 1) queries 1) y in
     let page = line (codes "= 7") ++ line (codes "end") in
     let other = line (codes "= 8") ++ line (codes "end") in
-    is_dialogue page_told here _ refl
-    (_, made (line (codes "add r 7") ++ line (codes "query q(x) <- r(x)") ++ line (codes "open c q") ++ asks),
-    (_, added_first (line (codes "query q(x) <- r(x)") ++ line (codes "open c q") ++ asks),
-    (_, registered (of_seven 1) 1 (line (codes "open c q") ++ asks) ok_added (omega arith) refl,
-    (_, opened (of_seven 1) 1 asks before (omega arith) refl, refl))))
+    is_dialogue page_told here _ refl (
+      _,
+      made (line (codes "add r 7") ++ line (codes "query q(x) <- r(x)") ++ line (codes "open c q") ++ asks),
+      (
+        _,
+        added_first (line (codes "query q(x) <- r(x)") ++ line (codes "open c q") ++ asks),
+        (
+          _,
+          registered (of_seven 1) 1 (line (codes "open c q") ++ asks) ok_added (omega arith) refl,
+          (_, opened (of_seven 1) 1 asks before (omega arith) refl, refl),
+        ),
+      ),
+    )
     (runs_with here page_told.last y (says_command (Next (codes "c") 5)) []
     (record { queued = (1, page) ∷ []; cost = 6; kept = no_line }) (first_at (rows_left (of_seven 1) queries 1)
     (record (with_bytes [] pending) { cursors = cursor_c (open_at ((Int (pos 7) ∷ []) ∷ []) true) ∷ [] })) refl refl
@@ -884,7 +886,7 @@ so_page =
     ) refl) (one_clean 1 page (not_memory_text 0 page refl refl)) (one_clean 1 other (not_memory_text 0 other refl refl))
     (λ same. line_apart page other refl refl refl same.1) (refl, inl (refl, refl))
 
-so_stale : IsDialogue (ends_with (makes_r ∷ registers_q ∷ opens_c ∷ inserts_seven ∷ []) (codes "next c 1") (codes "stale c r 1") (codes "stale c r 2"))
+so_stale : IsMachineDialogue (ends_with (makes_r ∷ registers_q ∷ opens_c ∷ inserts_seven ∷ []) (codes "next c 1") (codes "stale c r 1") (codes "stale c r 2"))
 unfolding digits
 so_stale =
     let asks = line (codes "next c 1") in
@@ -912,10 +914,15 @@ so_stale =
       },
     ) refl refl refl (one_clean 1 _ (not_memory_text 0 (line (codes "ok added 1 1")) refl refl)) in
     plain_dialogue (makes_r ∷ registers_q ∷ opens_c ∷ inserts_seven ∷ []) (codes "next c 1") (codes "stale c r 1")
-    (codes "stale c r 2") here _ refl
-    (_, made (line (codes "query q(x) <- r(x)") ++ line (codes "open c q") ++ adds),
-    (_, registered [] 0 (line (codes "open c q") ++ adds) ok (omega arith) refl,
-    (_, opened [] 0 adds ok_query (omega arith) refl, (_, inserted, refl))))
+    (codes "stale c r 2") here _ refl (
+      _,
+      made (line (codes "query q(x) <- r(x)") ++ line (codes "open c q") ++ adds),
+      (
+        _,
+        registered [] 0 (line (codes "open c q") ++ adds) ok (omega arith) refl,
+        (_, opened [] 0 adds ok_query (omega arith) refl, (_, inserted, refl)),
+      ),
+    )
     (runs_with here (is_replied (codes "next c 1") (codes "stale c r 1")) z (says_command (Next (codes "c") 1)) []
     (says 1 (line (codes "stale c r 1"))) (first_at (rows_left (of_seven 1) queries 1)
     (record (with_bytes [] after) { cursors = cursor_c (stale (codes "r") 1) ∷ [] })) refl refl reads_next_one refl refl
@@ -957,7 +964,7 @@ holds_seven rows listed n watches rest pending short few =
     refl refl reads_del_seven refl refl short (true, record { result = Ok tt; answer = tt; effect = refl; state = refl })
     refl refl (ap (λ b. b && true) few) (one_clean 1 _ (not_memory_text 0 (line (codes "ok held 1")) refl refl))
 
-so_lacking : IsDialogue (ends_with (makes_r ∷ opens_batch ∷ is_replied (codes "del r 7") (codes "ok held 1") ∷ []) (codes "done") (codes "err 19 absent") (codes "err 18 absent"))
+so_lacking : IsMachineDialogue (ends_with (makes_r ∷ opens_batch ∷ is_replied (codes "del r 7") (codes "ok held 1") ∷ []) (codes "done") (codes "err 19 absent") (codes "err 18 absent"))
 so_lacking =
     let ends = line (codes "done") in
     let deletes = line (codes "del r 7") ++ ends in
@@ -967,10 +974,15 @@ so_lacking =
     let lines = held_seven.lines in
     let held : HeldLine = record { verb = Deletes; relation = codes "r"; row = Int (pos 7) ∷ [] } in
     plain_dialogue (makes_r ∷ opens_batch ∷ is_replied (codes "del r 7") (codes "ok held 1") ∷ []) (codes "done")
-    (codes "err 19 absent") (codes "err 18 absent") here _ refl
-    (_, made (line (codes "batch") ++ deletes),
-    (_, batched (rows_left [] [] 0) [] deletes ok (omega arith) refl,
-    (_, holds_seven [] [] 0 [] ends (ok ++ line (codes "ok batch")) (omega arith) refl, refl)))
+    (codes "err 19 absent") (codes "err 18 absent") here _ refl (
+      _,
+      made (line (codes "batch") ++ deletes),
+      (
+        _,
+        batched (rows_left [] [] 0) [] deletes ok (omega arith) refl,
+        (_, holds_seven [] [] 0 [] ends (ok ++ line (codes "ok batch")) (omega arith) refl, refl),
+      ),
+    )
     (runs_with here (is_replied (codes "done") (codes "err 19 absent")) y (says_command (Done None)) []
     (replies_with (codes "err 19 absent") no_line) (first_at (rows_left [] [] 0) (with_bytes [] pending)) refl refl reads_done
     refl refl (omega arith) (
@@ -1007,7 +1019,7 @@ so_lacking =
 
 -- ---- A watch of the other session.
 
-so_other : IsDialogue other_session
+so_other : IsMachineDialogue other_session
 unfolding digits
 so_other =
     let adds = line (codes "add r 7") in
@@ -1029,9 +1041,11 @@ so_other =
     (both_at (rows_left [] queries 0) y (record (fresh 2) { watches = codes "q" ∷ [] })) refl refl reads_watch refl refl
     (omega arith) (true, record { result = Ok tt; answer = tt; effect = refl; state = refl }) refl refl refl
     (one_clean 2 _ (not_memory_text 0 (line (codes "ok watch 0")) refl refl)) in
-    is_dialogue other_session here _ refl
-    (_, made_beside z (line (codes "query q(x) <- r(x)") ++ adds),
-    (_, registered_beside z [] 0 adds ok (omega arith) refl, (_, watches, refl)))
+    is_dialogue other_session here _ refl (
+      _,
+      made_beside z (line (codes "query q(x) <- r(x)") ++ adds),
+      (_, registered_beside z [] 0 adds ok (omega arith) refl, (_, watches, refl)),
+    )
     (runs_with here other_session.last y (says_command (Add (codes "r") (Int (pos 7) ∷ []))) []
     (record { queued = parts; cost = 6; kept = the_line }) new refl refl reads_add refl refl (omega arith) (
       true,
@@ -1236,7 +1250,7 @@ holds_eight rest pending short =
     refl short (true, record { result = Ok tt; answer = tt; effect = refl; state = refl }) refl refl refl
     (one_clean 1 _ (not_memory_text 0 (line (codes "ok held 2")) refl refl))
 
-so_updated : IsDialogue row_updated
+so_updated : IsMachineDialogue row_updated
 unfolding digits
 so_updated =
     let ends = line (codes "done") in
@@ -1258,12 +1272,31 @@ so_updated =
     let added : HeldLine = record { verb = Adds; relation = codes "r"; row = row_eight } in
     let Counted : HeldLine → Type 0 = λ (h : HeldLine). has_row (rows_of (in_r (of_seven 1)) h.relation) h.row ≡ true
     → 1 ≤ copies_before (in_r (of_seven 1)) h in
-    is_dialogue row_updated here _ refl
-    (_, made (line (codes "add r 7") ++ line (codes "query q(x) <- r(x)") ++ watch),
-    (_, added_first (line (codes "query q(x) <- r(x)") ++ watch), (_, registered (of_seven 1) 1 watch ok_added (omega arith) refl,
-    (_, watched_one opens, (_, batched (rows_left (of_seven 1) queries 1) (codes "q" ∷ []) deletes before_batch (omega arith) refl,
-    (_, holds_seven (of_seven 1) queries 1 (codes "q" ∷ []) adds one (omega arith) refl,
-    (_, holds_eight ends two (omega arith), refl)))))))
+    is_dialogue row_updated here _ refl (
+      _,
+      made (line (codes "add r 7") ++ line (codes "query q(x) <- r(x)") ++ watch),
+      (
+        _,
+        added_first (line (codes "query q(x) <- r(x)") ++ watch),
+        (
+          _,
+          registered (of_seven 1) 1 watch ok_added (omega arith) refl,
+          (
+            _,
+            watched_one opens,
+            (
+              _,
+              batched (rows_left (of_seven 1) queries 1) (codes "q" ∷ []) deletes before_batch (omega arith) refl,
+              (
+                _,
+                holds_seven (of_seven 1) queries 1 (codes "q" ∷ []) adds one (omega arith) refl,
+                (_, holds_eight ends two (omega arith), refl),
+              ),
+            ),
+          ),
+        ),
+      ),
+    )
     (runs_with here row_updated.last (watching_q ends pending (Some held_both)) (says_command (Done None)) []
     (record { queued = parts; cost = 12; kept = the_batch held_both.logged }) new refl refl reads_done refl refl (omega arith) (
       true,
@@ -1361,7 +1394,7 @@ of_e = record empty_store {
   relations = record { name = codes "e"; types = IntColumn ∷ IntColumn ∷ []; rows = [] } ∷ [];
 }
 
-so_cyclic : IsDialogue (ends_with (is_replied (codes "rel e int int") (codes "ok") ∷ []) (codes "query t(x,y,z) <- e(x,y), e(y,z), e(z,x)") (codes "no cyclic x,y x,z y,z") (codes "no cyclic x,y x,z y,x"))
+so_cyclic : IsMachineDialogue (ends_with (is_replied (codes "rel e int int") (codes "ok") ∷ []) (codes "query t(x,y,z) <- e(x,y), e(y,z), e(z,x)") (codes "no cyclic x,y x,z y,z") (codes "no cyclic x,y x,z y,x"))
 so_cyclic =
     let asks = line (codes "query t(x,y,z) <- e(x,y), e(y,z), e(z,x)") in
     let reply = line (codes "no cyclic x,y x,z y,z") in
@@ -1394,6 +1427,31 @@ so_cyclic =
     (not_memory_text 0 reply refl refl) (not_memory_text 0 (line (codes "no cyclic x,y x,z y,x")) refl refl) refl refl refl
 
 pub are_dialogues : AreDialogues dialogues
-are_dialogues =
-    (so_inserted, (so_copied, (so_deleted, (so_absent, (so_refused, (so_answered, (so_delta, (so_other, (so_page,
-    (so_stale, (so_lacking, (so_updated, (so_cyclic, tt)))))))))))))
+are_dialogues = (
+  so_inserted,
+  (
+    so_copied,
+    (
+      so_deleted,
+      (
+        so_absent,
+        (
+          so_refused,
+          (
+            so_answered,
+            (
+              so_delta,
+              (
+                so_other,
+                (
+                  so_page,
+                  (so_stale, (so_lacking, (so_updated, (so_cyclic, tt)))),
+                ),
+              ),
+            ),
+          ),
+        ),
+      ),
+    ),
+  ),
+)

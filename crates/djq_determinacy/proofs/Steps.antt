@@ -114,6 +114,7 @@ module _ (s : ℕ) (e e' : Effect) (new new' : State) (told : IsTold e) (told' :
           (λ q. NextStepAt old s c q count y.position e' new')) → SameLeft e new e' new'
       by None h k = left_of e e' new new' (refused_same old s e e' new new' told told' NoCursor h k)
       by (Some y) h k = by_query y (listed_of old.store.queries y.query) h k
+
   command_left : (old : State) (x : Session) (l : Bytes) (c : Command) → GoesOn old s
       → CommandStep old s x l c e new → CommandStep old s x l c e' new' → SameLeft e new e' new'
   command_left old x l (Next c count) goes h k = next_left old x l c count h k

@@ -51,7 +51,7 @@ DifferByOne (p ∷ ps) (q ∷ qs) =
 DifferByOne _ _ = ⊥
 
 -- It is a run of the machine; and with the one byte changed it is none.
-pub record IsDialogue (d : Dialogue) : Type 0 where
+pub record IsMachineDialogue (d : Dialogue) : Type 0 where
   pub so : IsRunOfMachine (d.before ++ d.last ∷ [])
   pub one_byte : DifferByOne d.last.queued d.other
   pub not_so : IsRunOfMachine (d.before ++ record d.last { queued = d.other } ∷ []) → ⊥
@@ -159,4 +159,4 @@ dialogues =
 -- Each of these is one.
 abbrev pub AreDialogues : List Dialogue → Type 0
 AreDialogues [] = ⊤
-AreDialogues (d ∷ ds) = IsDialogue d × AreDialogues ds
+AreDialogues (d ∷ ds) = IsMachineDialogue d × AreDialogues ds
