@@ -67,7 +67,7 @@ use Rattle.djq_store_spec.specs.Delta.{Change, HasChanged, IsDelta, delta_lines}
 use Rattle.djq_store_spec.specs.DeltaCost.{Delta, Part, ListsAnswers, AreDeltas, ArePartsOf, ListsDelta}
 use Rattle.djq_model.specs.Listed.{Listed, a_query, AnswersOf}
 use Rattle.djq_determinacy.specs.Determinacy.{SameText, is_equal, are_pages, are_deltas, SameQueued, IsNoRefusal}
-use Rattle.djq_determinacy.specs.Sessions.{DialogueLine, Dialogue, RunsWith, IsRunOfMachine, IsMachineDialogue, DifferByOne, start_of, is_replied, ends_with, AreDialogues, dialogues, makes_r, inserts_seven, registers_q, watches_q, opens_c, opens_batch, delta_of, delta_first, page_told, other_session, row_updated}
+use Rattle.djq_determinacy.specs.Sessions.{DialogueLine, Dialogue, RunsWith, IsRunOfMachine, IsMachineDialogue, DifferByOne, start_of, says_and_gets, ends_with, AreDialogues, dialogues, makes_r, inserts_seven, registers_q, watches_q, opens_c, opens_batch, delta_of, delta_first, page_sent, other_session, row_updated}
 use Rattle.djq_determinacy.specs.Dialogues.{sevens, differences}
 use Rattle.djq_determinacy.proofs.Dialogues.{is_list, only_text, not_memory_text, seven_is_answer, reads_rel, reads_add, reads_del, reads_part, reads_has, reads_watch, reads_open, reads_batch, reads_done}
 use Rattle.djq_determinacy.proofs.Prefixes.{step_of, same_relations}
@@ -448,8 +448,8 @@ registered rows n rest pending short few = registered_beside (fresh 2) rows n re
 
 -- a dialogue whose last line has one reply, which is no listing
 plain_dialogue : (before : List DialogueLine) (says reply other : Bytes) (at new : State)
-    → start_of (before ++ is_replied says other ∷ []) ≡ start_of (before ++ is_replied says reply ∷ [])
-    → Walk IsSure (start_of (before ++ is_replied says reply ∷ [])) before at → RunsWith at (is_replied says reply) new
+    → start_of (before ++ says_and_gets says other ∷ []) ≡ start_of (before ++ says_and_gets says reply ∷ [])
+    → Walk IsSure (start_of (before ++ says_and_gets says reply ∷ [])) before at → RunsWith at (says_and_gets says reply) new
     → IsNoRefusal (line reply) → IsNoRefusal (line other) → is_list (line reply) ≡ false
     → bytes_eq (line reply) (line other) ≡ false → differences (line reply) (line other) ≡ 1
     → IsMachineDialogue (ends_with before says reply other)
@@ -472,7 +472,7 @@ so_copied =
     (first_at (rows_left (of_seven 1) [] 1) (with_bytes (line (codes "add r 7")) ok_added)) _ refl
     (_, made (line (codes "add r 7") ++ line (codes "add r 7")), (_, added_first (line (codes "add r 7")), refl))
     (runs_with (first_at (rows_left (of_seven 1) [] 1) (with_bytes (line (codes "add r 7")) ok_added))
-    (is_replied (codes "add r 7") (codes "ok added 1 2")) (with_bytes (line (codes "add r 7")) ok_added)
+    (says_and_gets (codes "add r 7") (codes "ok added 1 2")) (with_bytes (line (codes "add r 7")) ok_added)
     (says_command (Add (codes "r") (Int (pos 7) ∷ []))) [] (replies_with (codes "ok added 1 2") the_line)
     (first_at (rows_left (of_seven 2) [] 1) (with_bytes [] ok_added)) refl refl reads_add refl refl (omega arith) (
       true,
@@ -495,7 +495,7 @@ so_deleted =
     (first_at (rows_left (of_seven 1) [] 1) (with_bytes (line (codes "del r 7")) ok_added)) _ refl
     (_, made (line (codes "add r 7") ++ line (codes "del r 7")), (_, added_first (line (codes "del r 7")), refl))
     (runs_with (first_at (rows_left (of_seven 1) [] 1) (with_bytes (line (codes "del r 7")) ok_added))
-    (is_replied (codes "del r 7") (codes "ok removed 2 0")) (with_bytes (line (codes "del r 7")) ok_added)
+    (says_and_gets (codes "del r 7") (codes "ok removed 2 0")) (with_bytes (line (codes "del r 7")) ok_added)
     (says_command (Del (codes "r") (Int (pos 7) ∷ []))) [] (replies_with (codes "ok removed 2 0") the_line)
     (first_at (rows_left [] [] 2) (with_bytes [] ok_added)) refl refl reads_del_seven refl refl (omega arith) (
       true,
@@ -519,7 +519,7 @@ so_absent =
     (first_at (rows_left (of_seven 1) [] 1) (with_bytes (line (codes "del r 8")) ok_added)) _ refl
     (_, made (line (codes "add r 7") ++ line (codes "del r 8")), (_, added_first (line (codes "del r 8")), refl))
     (runs_with (first_at (rows_left (of_seven 1) [] 1) (with_bytes (line (codes "del r 8")) ok_added))
-    (is_replied (codes "del r 8") (codes "ok absent 1")) (with_bytes (line (codes "del r 8")) ok_added)
+    (says_and_gets (codes "del r 8") (codes "ok absent 1")) (with_bytes (line (codes "del r 8")) ok_added)
     (says_command (Del (codes "r") (Int (pos 8) ∷ []))) [] (replies_with (codes "ok absent 1") no_line)
     (first_at (rows_left (of_seven 1) [] 1) (with_bytes [] ok_added)) refl refl reads_del refl refl (omega arith) (
       true,
@@ -540,7 +540,7 @@ so_refused =
     plain_dialogue (makes_r ∷ []) (codes "rel") (codes "err 1 syntax") (codes "err 2 syntax")
     (first_at (rows_left [] [] 0) (with_bytes (line (codes "rel")) ok)) _ refl (_, made (line (codes "rel")), refl)
     (runs_with (first_at (rows_left [] [] 0) (with_bytes (line (codes "rel")) ok))
-    (is_replied (codes "rel") (codes "err 1 syntax")) (with_bytes (line (codes "rel")) ok) outside []
+    (says_and_gets (codes "rel") (codes "err 1 syntax")) (with_bytes (line (codes "rel")) ok) outside []
     (says 1 (refusal_line Syntax)) (first_at (rows_left [] [] 0) (with_bytes [] ok)) refl refl reads_part refl refl
     (omega arith) (refl, refl) refl)
     (not_memory_text 5 (line (codes "err 1 syntax")) refl refl) (not_memory_text 4 (line (codes "err 2 syntax")) refl refl)
@@ -568,7 +568,7 @@ so_answered =
     (with_bytes asks (ok_added ++ line (codes "ok query 3"))) in
     plain_dialogue (makes_r ∷ inserts_seven ∷ registers_q ∷ []) (codes "has q 7") (codes "yes") (codes "yet") here _ refl
     (after_query asks)
-    (runs_with here (is_replied (codes "has q 7") (codes "yes")) (with_bytes asks (ok_added ++ line (codes "ok query 3")))
+    (runs_with here (says_and_gets (codes "has q 7") (codes "yes")) (with_bytes asks (ok_added ++ line (codes "ok query 3")))
     (says_command (Has (codes "q") (Int (pos 7) ∷ []))) []
     (record { queued = (1, line (codes "yes")) ∷ []; cost = 1; kept = no_line })
     (first_at (rows_left (of_seven 1) (a_query sevens ∷ []) 1) (with_bytes [] (ok_added ++ line (codes "ok query 3")))) refl
@@ -848,7 +848,7 @@ seven_told count some = record {
   all_asked = λ ends. absurd (true≢false ends);
 }
 
-so_page : IsMachineDialogue page_told
+so_page : IsMachineDialogue page_sent
 unfolding digits
 so_page =
     let asks = line (codes "next c 5") in
@@ -858,7 +858,7 @@ so_page =
     let here = first_at (rows_left (of_seven 1) queries 1) y in
     let page = line (codes "= 7") ++ line (codes "end") in
     let other = line (codes "= 8") ++ line (codes "end") in
-    is_dialogue page_told here _ refl (
+    is_dialogue page_sent here _ refl (
       _,
       made (line (codes "add r 7") ++ line (codes "query q(x) <- r(x)") ++ line (codes "open c q") ++ asks),
       (
@@ -871,7 +871,7 @@ so_page =
         ),
       ),
     )
-    (runs_with here page_told.last y (says_command (Next (codes "c") 5)) []
+    (runs_with here page_sent.last y (says_command (Next (codes "c") 5)) []
     (record { queued = (1, page) ∷ []; cost = 6; kept = no_line }) (first_at (rows_left (of_seven 1) queries 1)
     (record (with_bytes [] pending) { cursors = cursor_c (open_at ((Int (pos 7) ∷ []) ∷ []) true) ∷ [] })) refl refl
     reads_next_five refl refl (omega arith) (
@@ -923,7 +923,7 @@ so_stale =
         (_, opened [] 0 adds ok_query (omega arith) refl, (_, inserted, refl)),
       ),
     )
-    (runs_with here (is_replied (codes "next c 1") (codes "stale c r 1")) z (says_command (Next (codes "c") 1)) []
+    (runs_with here (says_and_gets (codes "next c 1") (codes "stale c r 1")) z (says_command (Next (codes "c") 1)) []
     (says 1 (line (codes "stale c r 1"))) (first_at (rows_left (of_seven 1) queries 1)
     (record (with_bytes [] after) { cursors = cursor_c (stale (codes "r") 1) ∷ [] })) refl refl reads_next_one refl refl
     (omega arith) (true, (refl, refl)) refl)
@@ -951,20 +951,20 @@ held_seven = holding nothing_held Deletes (codes "r") (Int (pos 7) ∷ []) (code
 holds_seven : (rows : List CountedRow) (listed : List Listed) (n : ℕ) (watches : List Bytes) (rest pending : Bytes)
     → length pending ≤ PENDING_BYTES → few_rows rows ≡ true
     → IsSure (first_at (rows_left rows listed n) (record (with_bytes (line (codes "del r 7") ++ rest) pending)
-    { watches = watches; batch = Some nothing_held })) (is_replied (codes "del r 7") (codes "ok held 1"))
+    { watches = watches; batch = Some nothing_held })) (says_and_gets (codes "del r 7") (codes "ok held 1"))
     (first_at (rows_left rows listed n)
     (record (with_bytes rest (pending ++ line (codes "ok held 1"))) { watches = watches; batch = Some held_seven }))
 unfolding digits
 holds_seven rows listed n watches rest pending short few =
     sure (first_at (rows_left rows listed n) (record (with_bytes (line (codes "del r 7") ++ rest) pending)
-    { watches = watches; batch = Some nothing_held })) (is_replied (codes "del r 7") (codes "ok held 1"))
+    { watches = watches; batch = Some nothing_held })) (says_and_gets (codes "del r 7") (codes "ok held 1"))
     (record (with_bytes (line (codes "del r 7") ++ rest) pending) { watches = watches; batch = Some nothing_held })
     (says_command (Del (codes "r") (Int (pos 7) ∷ []))) rest (says 1 (line (codes "ok held 1")))
     (first_at (rows_left rows listed n) (record (with_bytes rest pending) { watches = watches; batch = Some held_seven }))
     refl refl reads_del_seven refl refl short (true, record { result = Ok tt; answer = tt; effect = refl; state = refl })
     refl refl (ap (λ b. b && true) few) (one_clean 1 _ (not_memory_text 0 (line (codes "ok held 1")) refl refl))
 
-so_lacking : IsMachineDialogue (ends_with (makes_r ∷ opens_batch ∷ is_replied (codes "del r 7") (codes "ok held 1") ∷ []) (codes "done") (codes "err 19 absent") (codes "err 18 absent"))
+so_lacking : IsMachineDialogue (ends_with (makes_r ∷ opens_batch ∷ says_and_gets (codes "del r 7") (codes "ok held 1") ∷ []) (codes "done") (codes "err 19 absent") (codes "err 18 absent"))
 so_lacking =
     let ends = line (codes "done") in
     let deletes = line (codes "del r 7") ++ ends in
@@ -973,7 +973,7 @@ so_lacking =
     let here = first_at (rows_left [] [] 0) y in
     let lines = held_seven.lines in
     let held : HeldLine = record { verb = Deletes; relation = codes "r"; row = Int (pos 7) ∷ [] } in
-    plain_dialogue (makes_r ∷ opens_batch ∷ is_replied (codes "del r 7") (codes "ok held 1") ∷ []) (codes "done")
+    plain_dialogue (makes_r ∷ opens_batch ∷ says_and_gets (codes "del r 7") (codes "ok held 1") ∷ []) (codes "done")
     (codes "err 19 absent") (codes "err 18 absent") here _ refl (
       _,
       made (line (codes "batch") ++ deletes),
@@ -983,7 +983,7 @@ so_lacking =
         (_, holds_seven [] [] 0 [] ends (ok ++ line (codes "ok batch")) (omega arith) refl, refl),
       ),
     )
-    (runs_with here (is_replied (codes "done") (codes "err 19 absent")) y (says_command (Done None)) []
+    (runs_with here (says_and_gets (codes "done") (codes "err 19 absent")) y (says_command (Done None)) []
     (replies_with (codes "err 19 absent") no_line) (first_at (rows_left [] [] 0) (with_bytes [] pending)) refl refl reads_done
     refl refl (omega arith) (
       true,
@@ -1224,13 +1224,13 @@ watching_q held pending batch = record (with_bytes held pending) { watches = cod
 
 watched_one : (rest : Bytes) → IsSure (first_at (rows_left (of_seven 1) queries 1)
     (with_bytes (line (codes "watch q") ++ rest) (ok_added ++ line (codes "ok query 3"))))
-    (is_replied (codes "watch q") (codes "ok watch 1"))
+    (says_and_gets (codes "watch q") (codes "ok watch 1"))
     (first_at (rows_left (of_seven 1) queries 1) (watching_q rest before_batch None))
 unfolding digits
 watched_one rest =
     let pending = ok_added ++ line (codes "ok query 3") in
     sure (first_at (rows_left (of_seven 1) queries 1) (with_bytes (line (codes "watch q") ++ rest) pending))
-    (is_replied (codes "watch q") (codes "ok watch 1")) (with_bytes (line (codes "watch q") ++ rest) pending)
+    (says_and_gets (codes "watch q") (codes "ok watch 1")) (with_bytes (line (codes "watch q") ++ rest) pending)
     (says_command (Watch (codes "q"))) rest (says 1 (line (codes "ok watch 1")))
     (first_at (rows_left (of_seven 1) queries 1) (watching_q rest pending None)) refl refl reads_watch refl refl
     (omega arith) (true, record { result = Ok tt; answer = tt; effect = refl; state = refl }) refl refl refl
@@ -1238,12 +1238,12 @@ watched_one rest =
 
 holds_eight : (rest pending : Bytes) → length pending ≤ PENDING_BYTES
     → IsSure (first_at (rows_left (of_seven 1) queries 1) (watching_q (line (codes "add r 8") ++ rest) pending (Some held_seven)))
-    (is_replied (codes "add r 8") (codes "ok held 2")) (first_at (rows_left (of_seven 1) queries 1)
+    (says_and_gets (codes "add r 8") (codes "ok held 2")) (first_at (rows_left (of_seven 1) queries 1)
     (watching_q rest (pending ++ line (codes "ok held 2")) (Some held_both)))
 unfolding digits
 holds_eight rest pending short =
     sure (first_at (rows_left (of_seven 1) queries 1) (watching_q (line (codes "add r 8") ++ rest) pending (Some held_seven)))
-    (is_replied (codes "add r 8") (codes "ok held 2"))
+    (says_and_gets (codes "add r 8") (codes "ok held 2"))
     (watching_q (line (codes "add r 8") ++ rest) pending (Some held_seven)) (says_command (Add (codes "r") row_eight)) rest
     (says 1 (line (codes "ok held 2")))
     (first_at (rows_left (of_seven 1) queries 1) (watching_q rest pending (Some held_both))) refl refl reads_add_eight refl
@@ -1394,12 +1394,12 @@ of_e = record empty_store {
   relations = record { name = codes "e"; types = IntColumn ∷ IntColumn ∷ []; rows = [] } ∷ [];
 }
 
-so_cyclic : IsMachineDialogue (ends_with (is_replied (codes "rel e int int") (codes "ok") ∷ []) (codes "query t(x,y,z) <- e(x,y), e(y,z), e(z,x)") (codes "no cyclic x,y x,z y,z") (codes "no cyclic x,y x,z y,x"))
+so_cyclic : IsMachineDialogue (ends_with (says_and_gets (codes "rel e int int") (codes "ok") ∷ []) (codes "query t(x,y,z) <- e(x,y), e(y,z), e(z,x)") (codes "no cyclic x,y x,z y,z") (codes "no cyclic x,y x,z y,x"))
 so_cyclic =
     let asks = line (codes "query t(x,y,z) <- e(x,y), e(y,z), e(z,x)") in
     let reply = line (codes "no cyclic x,y x,z y,z") in
     let begins = with_bytes (line (codes "rel e int int") ++ asks) [] in
-    let makes = is_replied (codes "rel e int int") (codes "ok") in
+    let makes = says_and_gets (codes "rel e int int") (codes "ok") in
     let here = first_at of_e (with_bytes asks ok) in
     let is_made : IsSure (first_at empty_store begins) makes here =
     sure (first_at empty_store begins) makes begins (says_command (Rel (codes "e") (IntColumn ∷ IntColumn ∷ []))) asks
@@ -1409,7 +1409,7 @@ so_cyclic =
     ) refl refl refl (one_clean 1 ok (not_memory_text 0 ok refl refl)) in
     plain_dialogue (makes ∷ []) (codes "query t(x,y,z) <- e(x,y), e(y,z), e(z,x)") (codes "no cyclic x,y x,z y,z")
     (codes "no cyclic x,y x,z y,x") here _ refl (_, is_made, refl)
-    (runs_with here (is_replied (codes "query t(x,y,z) <- e(x,y), e(y,z), e(z,x)") (codes "no cyclic x,y x,z y,z"))
+    (runs_with here (says_and_gets (codes "query t(x,y,z) <- e(x,y), e(y,z), e(z,x)") (codes "no cyclic x,y x,z y,z"))
     (with_bytes asks ok) (says_command (Register ring)) [] (answers 1 reply false) (first_at of_e (with_bytes [] ok)) refl refl
     reads_ring refl refl (omega arith) (
       true,
