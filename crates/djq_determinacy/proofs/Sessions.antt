@@ -1,5 +1,5 @@
 -- Dialogues of sessions, as theorems.
-use Rattle.std.specs.Prelude.{ℕ, List, [], ◌∷◌, ◌++◌, ◌≡◌, ◌≤◌, ◌+◌, ◌-◌, ◌==◌, Contains, map, get_or, ◌&&◌, ◌||◌, ◌⊎◌, Bool, true, false, nat_le, None, Some, Option, IsSomeAnd, Ok, Err, All, codes, pos, length, IsPermutation, ⊤}
+use Rattle.std.specs.Prelude.{ℕ, List, [], ◌∷◌, ◌++◌, ◌≡◌, ◌≤◌, ◌+◌, ◌-◌, ◌==◌, Contains, map, get_or, ◌&&◌, ◌||◌, ◌⊎◌, Bool, true, false, None, Some, Option, IsSomeAnd, Ok, Err, All, codes, pos, length, IsPermutation}
 use Rattle.std.specs.Str.{bytes_eq}
 use Rattle.std.specs.List.{list_any}
 use Rattle.std.specs.Fmt.{digits}
@@ -67,7 +67,7 @@ use Rattle.djq_store_spec.specs.Delta.{Change, HasChanged, IsDelta, delta_lines}
 use Rattle.djq_store_spec.specs.DeltaCost.{Delta, Part, ListsAnswers, AreDeltas, ArePartsOf, ListsDelta}
 use Rattle.djq_model.specs.Listed.{Listed, a_query, AnswersOf}
 use Rattle.djq_determinacy.specs.Determinacy.{SameText, is_equal, are_pages, are_deltas, SameQueued, IsNoRefusal}
-use Rattle.djq_determinacy.specs.Sessions.{DialogueLine, Dialogue, RunsWith, IsRunOfMachine, IsDialogue, DifferByOne, start_of, is_replied, ends_with, AreDialogues, dialogues, makes_r, inserts_seven, registers_q, watches_q, opens_c, opens_batch, delta_of, delta_first, page_told, other_session, row_updated}
+use Rattle.djq_determinacy.specs.Sessions.{DialogueLine, Dialogue, RunsWith, IsRunOfMachine, IsMachineDialogue, DifferByOne, start_of, says_and_gets, ends_with, AreDialogues, dialogues, makes_r, inserts_seven, registers_q, watches_q, opens_c, opens_batch, delta_of, delta_first, page_sent, other_session, row_updated}
 use Rattle.djq_determinacy.specs.Dialogues.{sevens, differences}
 use Rattle.djq_determinacy.proofs.Dialogues.{is_list, only_text, not_memory_text, seven_is_answer, reads_rel, reads_add, reads_del, reads_part, reads_has, reads_watch, reads_open, reads_batch, reads_done}
 use Rattle.djq_determinacy.proofs.Prefixes.{step_of, same_relations}
@@ -181,7 +181,7 @@ join_last (y ∷ ys) x old at new w last =
 is_dialogue : (d : Dialogue) (at new : State)
     → start_of (d.before ++ record d.last { queued = d.other } ∷ []) ≡ start_of (d.before ++ d.last ∷ [])
     → Walk IsSure (start_of (d.before ++ d.last ∷ [])) d.before at → RunsWith at d.last new → IsClean d.last.queued
-    → IsClean d.other → (SameQueued d.last.queued d.other → ⊥) → DifferByOne d.last.queued d.other → IsDialogue d
+    → IsClean d.other → (SameQueued d.last.queued d.other → ⊥) → DifferByOne d.last.queued d.other → IsMachineDialogue d
 is_dialogue d at new start way last clean clean' apart one = record {
   so = (new, join_last d.before d.last (start_of (d.before ++ d.last ∷ [])) at new way last);
   one_byte = one;
@@ -448,16 +448,16 @@ registered rows n rest pending short few = registered_beside (fresh 2) rows n re
 
 -- a dialogue whose last line has one reply, which is no listing
 plain_dialogue : (before : List DialogueLine) (says reply other : Bytes) (at new : State)
-    → start_of (before ++ is_replied says other ∷ []) ≡ start_of (before ++ is_replied says reply ∷ [])
-    → Walk IsSure (start_of (before ++ is_replied says reply ∷ [])) before at → RunsWith at (is_replied says reply) new
+    → start_of (before ++ says_and_gets says other ∷ []) ≡ start_of (before ++ says_and_gets says reply ∷ [])
+    → Walk IsSure (start_of (before ++ says_and_gets says reply ∷ [])) before at → RunsWith at (says_and_gets says reply) new
     → IsNoRefusal (line reply) → IsNoRefusal (line other) → is_list (line reply) ≡ false
     → bytes_eq (line reply) (line other) ≡ false → differences (line reply) (line other) ≡ 1
-    → IsDialogue (ends_with before says reply other)
+    → IsMachineDialogue (ends_with before says reply other)
 plain_dialogue before says reply other at new start way last clean clean' plain differ one =
     is_dialogue (ends_with before says reply other) at new start way last (one_clean 1 (line reply) clean)
     (one_clean 1 (line other) clean') (one_apart 1 (line reply) (line other) plain differ) (refl, inl (one, refl))
 
-so_inserted : IsDialogue (ends_with (makes_r ∷ []) (codes "add r 7") (codes "ok added 1 1") (codes "ok added 2 1"))
+so_inserted : IsMachineDialogue (ends_with (makes_r ∷ []) (codes "add r 7") (codes "ok added 1 1") (codes "ok added 2 1"))
 so_inserted =
     plain_dialogue (makes_r ∷ []) (codes "add r 7") (codes "ok added 1 1") (codes "ok added 2 1")
     (first_at (rows_left [] [] 0) (with_bytes (line (codes "add r 7")) ok)) _ refl
@@ -465,14 +465,14 @@ so_inserted =
     (not_memory_text 0 (line (codes "ok added 1 1")) refl refl) (not_memory_text 0 (line (codes "ok added 2 1")) refl refl)
     refl refl refl
 
-so_copied : IsDialogue (ends_with (makes_r ∷ inserts_seven ∷ []) (codes "add r 7") (codes "ok added 1 2") (codes "ok added 1 1"))
+so_copied : IsMachineDialogue (ends_with (makes_r ∷ inserts_seven ∷ []) (codes "add r 7") (codes "ok added 1 2") (codes "ok added 1 1"))
 unfolding digits
 so_copied =
     plain_dialogue (makes_r ∷ inserts_seven ∷ []) (codes "add r 7") (codes "ok added 1 2") (codes "ok added 1 1")
     (first_at (rows_left (of_seven 1) [] 1) (with_bytes (line (codes "add r 7")) ok_added)) _ refl
     (_, made (line (codes "add r 7") ++ line (codes "add r 7")), (_, added_first (line (codes "add r 7")), refl))
     (runs_with (first_at (rows_left (of_seven 1) [] 1) (with_bytes (line (codes "add r 7")) ok_added))
-    (is_replied (codes "add r 7") (codes "ok added 1 2")) (with_bytes (line (codes "add r 7")) ok_added)
+    (says_and_gets (codes "add r 7") (codes "ok added 1 2")) (with_bytes (line (codes "add r 7")) ok_added)
     (says_command (Add (codes "r") (Int (pos 7) ∷ []))) [] (replies_with (codes "ok added 1 2") the_line)
     (first_at (rows_left (of_seven 2) [] 1) (with_bytes [] ok_added)) refl refl reads_add refl refl (omega arith) (
       true,
@@ -488,14 +488,14 @@ so_copied =
     (not_memory_text 0 (line (codes "ok added 1 2")) refl refl) (not_memory_text 0 (line (codes "ok added 1 1")) refl refl)
     refl refl refl
 
-so_deleted : IsDialogue (ends_with (makes_r ∷ inserts_seven ∷ []) (codes "del r 7") (codes "ok removed 2 0") (codes "ok removed 1 0"))
+so_deleted : IsMachineDialogue (ends_with (makes_r ∷ inserts_seven ∷ []) (codes "del r 7") (codes "ok removed 2 0") (codes "ok removed 1 0"))
 unfolding digits
 so_deleted =
     plain_dialogue (makes_r ∷ inserts_seven ∷ []) (codes "del r 7") (codes "ok removed 2 0") (codes "ok removed 1 0")
     (first_at (rows_left (of_seven 1) [] 1) (with_bytes (line (codes "del r 7")) ok_added)) _ refl
     (_, made (line (codes "add r 7") ++ line (codes "del r 7")), (_, added_first (line (codes "del r 7")), refl))
     (runs_with (first_at (rows_left (of_seven 1) [] 1) (with_bytes (line (codes "del r 7")) ok_added))
-    (is_replied (codes "del r 7") (codes "ok removed 2 0")) (with_bytes (line (codes "del r 7")) ok_added)
+    (says_and_gets (codes "del r 7") (codes "ok removed 2 0")) (with_bytes (line (codes "del r 7")) ok_added)
     (says_command (Del (codes "r") (Int (pos 7) ∷ []))) [] (replies_with (codes "ok removed 2 0") the_line)
     (first_at (rows_left [] [] 2) (with_bytes [] ok_added)) refl refl reads_del_seven refl refl (omega arith) (
       true,
@@ -512,14 +512,14 @@ so_deleted =
     (not_memory_text 0 (line (codes "ok removed 2 0")) refl refl)
     (not_memory_text 0 (line (codes "ok removed 1 0")) refl refl) refl refl refl
 
-so_absent : IsDialogue (ends_with (makes_r ∷ inserts_seven ∷ []) (codes "del r 8") (codes "ok absent 1") (codes "ok absent 2"))
+so_absent : IsMachineDialogue (ends_with (makes_r ∷ inserts_seven ∷ []) (codes "del r 8") (codes "ok absent 1") (codes "ok absent 2"))
 unfolding digits
 so_absent =
     plain_dialogue (makes_r ∷ inserts_seven ∷ []) (codes "del r 8") (codes "ok absent 1") (codes "ok absent 2")
     (first_at (rows_left (of_seven 1) [] 1) (with_bytes (line (codes "del r 8")) ok_added)) _ refl
     (_, made (line (codes "add r 7") ++ line (codes "del r 8")), (_, added_first (line (codes "del r 8")), refl))
     (runs_with (first_at (rows_left (of_seven 1) [] 1) (with_bytes (line (codes "del r 8")) ok_added))
-    (is_replied (codes "del r 8") (codes "ok absent 1")) (with_bytes (line (codes "del r 8")) ok_added)
+    (says_and_gets (codes "del r 8") (codes "ok absent 1")) (with_bytes (line (codes "del r 8")) ok_added)
     (says_command (Del (codes "r") (Int (pos 8) ∷ []))) [] (replies_with (codes "ok absent 1") no_line)
     (first_at (rows_left (of_seven 1) [] 1) (with_bytes [] ok_added)) refl refl reads_del refl refl (omega arith) (
       true,
@@ -535,12 +535,12 @@ so_absent =
     (not_memory_text 0 (line (codes "ok absent 1")) refl refl) (not_memory_text 0 (line (codes "ok absent 2")) refl refl)
     refl refl refl
 
-so_refused : IsDialogue (ends_with (makes_r ∷ []) (codes "rel") (codes "err 1 syntax") (codes "err 2 syntax"))
+so_refused : IsMachineDialogue (ends_with (makes_r ∷ []) (codes "rel") (codes "err 1 syntax") (codes "err 2 syntax"))
 so_refused =
     plain_dialogue (makes_r ∷ []) (codes "rel") (codes "err 1 syntax") (codes "err 2 syntax")
     (first_at (rows_left [] [] 0) (with_bytes (line (codes "rel")) ok)) _ refl (_, made (line (codes "rel")), refl)
     (runs_with (first_at (rows_left [] [] 0) (with_bytes (line (codes "rel")) ok))
-    (is_replied (codes "rel") (codes "err 1 syntax")) (with_bytes (line (codes "rel")) ok) outside []
+    (says_and_gets (codes "rel") (codes "err 1 syntax")) (with_bytes (line (codes "rel")) ok) outside []
     (says 1 (refusal_line Syntax)) (first_at (rows_left [] [] 0) (with_bytes [] ok)) refl refl reads_part refl refl
     (omega arith) (refl, refl) refl)
     (not_memory_text 5 (line (codes "err 1 syntax")) refl refl) (not_memory_text 4 (line (codes "err 2 syntax")) refl refl)
@@ -561,14 +561,14 @@ after_query rest = (
   ),
 )
 
-so_answered : IsDialogue (ends_with (makes_r ∷ inserts_seven ∷ registers_q ∷ []) (codes "has q 7") (codes "yes") (codes "yet"))
+so_answered : IsMachineDialogue (ends_with (makes_r ∷ inserts_seven ∷ registers_q ∷ []) (codes "has q 7") (codes "yes") (codes "yet"))
 so_answered =
     let asks = line (codes "has q 7") in
     let here = first_at (rows_left (of_seven 1) (a_query sevens ∷ []) 1)
     (with_bytes asks (ok_added ++ line (codes "ok query 3"))) in
     plain_dialogue (makes_r ∷ inserts_seven ∷ registers_q ∷ []) (codes "has q 7") (codes "yes") (codes "yet") here _ refl
     (after_query asks)
-    (runs_with here (is_replied (codes "has q 7") (codes "yes")) (with_bytes asks (ok_added ++ line (codes "ok query 3")))
+    (runs_with here (says_and_gets (codes "has q 7") (codes "yes")) (with_bytes asks (ok_added ++ line (codes "ok query 3")))
     (says_command (Has (codes "q") (Int (pos 7) ∷ []))) []
     (record { queued = (1, line (codes "yes")) ∷ []; cost = 1; kept = no_line })
     (first_at (rows_left (of_seven 1) (a_query sevens ∷ []) 1) (with_bytes [] (ok_added ++ line (codes "ok query 3")))) refl
@@ -750,13 +750,6 @@ queries = a_query sevens ∷ []
 abbrev ok_query : Bytes
 ok_query = ok ++ line (codes "ok query 3")
 
--- a query is registered over no rows, before what is still held
-query_alone : (rest : Bytes)
-    → Walk IsSure (first_at empty_store (with_bytes (line (codes "rel r int") ++ line (codes "query q(x) <- r(x)") ++ rest) []))
-    (makes_r ∷ registers_q ∷ []) (first_at (rows_left [] queries 0) (with_bytes rest ok_query))
-query_alone rest =
-    (_, made (line (codes "query q(x) <- r(x)") ++ rest), (_, registered [] 0 rest ok (omega arith) refl, refl))
-
 abbrev ok_watch : Bytes
 ok_watch = ok_query ++ line (codes "ok watch 0")
 
@@ -776,7 +769,7 @@ two_clean : (s s' : ℕ) (a b : Bytes) → IsNoRefusal a → IsNoRefusal b → I
 two_clean s s' a b none none' =
     All-cons (λ (q : ℕ × Bytes). IsNoRefusal q.1) (s, a) ((s', b) ∷ []) none (one_clean s' b none')
 
-so_delta : IsDialogue delta_first
+so_delta : IsMachineDialogue delta_first
 unfolding digits
 so_delta =
     let adds = line (codes "add r 7") in
@@ -786,7 +779,6 @@ so_delta =
     let new = first_at (rows_left (of_seven 1) queries 1) (record (with_bytes [] ok_watch) { watches = codes "q" ∷ [] }) in
     let here = first_at (rows_left [] queries 0) y in
     let told : Telling = record { state = new; queued = (1, delta_of (codes "+ q 7")) ∷ [] } in
-    let start : Telling = record { state = new; queued = [] } in
     let parts : List (ℕ × Bytes) = (1, delta_of (codes "+ q 7")) ∷ (1, added) ∷ [] in
     is_dialogue delta_first here _ refl (
       _,
@@ -856,7 +848,7 @@ seven_told count some = record {
   all_asked = λ ends. absurd (true≢false ends);
 }
 
-so_page : IsDialogue page_told
+so_page : IsMachineDialogue page_sent
 unfolding digits
 so_page =
     let asks = line (codes "next c 5") in
@@ -866,7 +858,11 @@ so_page =
     let here = first_at (rows_left (of_seven 1) queries 1) y in
     let page = line (codes "= 7") ++ line (codes "end") in
     let other = line (codes "= 8") ++ line (codes "end") in
+<<<<<<< HEAD
     is_dialogue page_told here _ refl (
+=======
+    is_dialogue page_sent here _ refl (
+>>>>>>> dialogues/withwords
       _,
       made (line (codes "add r 7") ++ line (codes "query q(x) <- r(x)") ++ line (codes "open c q") ++ asks),
       (
@@ -879,7 +875,11 @@ so_page =
         ),
       ),
     )
+<<<<<<< HEAD
     (runs_with here page_told.last y (says_command (Next (codes "c") 5)) []
+=======
+    (runs_with here page_sent.last y (says_command (Next (codes "c") 5)) []
+>>>>>>> dialogues/withwords
     (record { queued = (1, page) ∷ []; cost = 6; kept = no_line }) (first_at (rows_left (of_seven 1) queries 1)
     (record (with_bytes [] pending) { cursors = cursor_c (open_at ((Int (pos 7) ∷ []) ∷ []) true) ∷ [] })) refl refl
     reads_next_five refl refl (omega arith) (
@@ -894,7 +894,7 @@ so_page =
     ) refl) (one_clean 1 page (not_memory_text 0 page refl refl)) (one_clean 1 other (not_memory_text 0 other refl refl))
     (λ same. line_apart page other refl refl refl same.1) (refl, inl (refl, refl))
 
-so_stale : IsDialogue (ends_with (makes_r ∷ registers_q ∷ opens_c ∷ inserts_seven ∷ []) (codes "next c 1") (codes "stale c r 1") (codes "stale c r 2"))
+so_stale : IsMachineDialogue (ends_with (makes_r ∷ registers_q ∷ opens_c ∷ inserts_seven ∷ []) (codes "next c 1") (codes "stale c r 1") (codes "stale c r 2"))
 unfolding digits
 so_stale =
     let asks = line (codes "next c 1") in
@@ -931,7 +931,11 @@ so_stale =
         (_, opened [] 0 adds ok_query (omega arith) refl, (_, inserted, refl)),
       ),
     )
+<<<<<<< HEAD
     (runs_with here (is_replied (codes "next c 1") (codes "stale c r 1")) z (says_command (Next (codes "c") 1)) []
+=======
+    (runs_with here (says_and_gets (codes "next c 1") (codes "stale c r 1")) z (says_command (Next (codes "c") 1)) []
+>>>>>>> dialogues/withwords
     (says 1 (line (codes "stale c r 1"))) (first_at (rows_left (of_seven 1) queries 1)
     (record (with_bytes [] after) { cursors = cursor_c (stale (codes "r") 1) ∷ [] })) refl refl reads_next_one refl refl
     (omega arith) (true, (refl, refl)) refl)
@@ -959,20 +963,20 @@ held_seven = holding nothing_held Deletes (codes "r") (Int (pos 7) ∷ []) (code
 holds_seven : (rows : List CountedRow) (listed : List Listed) (n : ℕ) (watches : List Bytes) (rest pending : Bytes)
     → length pending ≤ PENDING_BYTES → few_rows rows ≡ true
     → IsSure (first_at (rows_left rows listed n) (record (with_bytes (line (codes "del r 7") ++ rest) pending)
-    { watches = watches; batch = Some nothing_held })) (is_replied (codes "del r 7") (codes "ok held 1"))
+    { watches = watches; batch = Some nothing_held })) (says_and_gets (codes "del r 7") (codes "ok held 1"))
     (first_at (rows_left rows listed n)
     (record (with_bytes rest (pending ++ line (codes "ok held 1"))) { watches = watches; batch = Some held_seven }))
 unfolding digits
 holds_seven rows listed n watches rest pending short few =
     sure (first_at (rows_left rows listed n) (record (with_bytes (line (codes "del r 7") ++ rest) pending)
-    { watches = watches; batch = Some nothing_held })) (is_replied (codes "del r 7") (codes "ok held 1"))
+    { watches = watches; batch = Some nothing_held })) (says_and_gets (codes "del r 7") (codes "ok held 1"))
     (record (with_bytes (line (codes "del r 7") ++ rest) pending) { watches = watches; batch = Some nothing_held })
     (says_command (Del (codes "r") (Int (pos 7) ∷ []))) rest (says 1 (line (codes "ok held 1")))
     (first_at (rows_left rows listed n) (record (with_bytes rest pending) { watches = watches; batch = Some held_seven }))
     refl refl reads_del_seven refl refl short (true, record { result = Ok tt; answer = tt; effect = refl; state = refl })
     refl refl (ap (λ b. b && true) few) (one_clean 1 _ (not_memory_text 0 (line (codes "ok held 1")) refl refl))
 
-so_lacking : IsDialogue (ends_with (makes_r ∷ opens_batch ∷ is_replied (codes "del r 7") (codes "ok held 1") ∷ []) (codes "done") (codes "err 19 absent") (codes "err 18 absent"))
+so_lacking : IsMachineDialogue (ends_with (makes_r ∷ opens_batch ∷ says_and_gets (codes "del r 7") (codes "ok held 1") ∷ []) (codes "done") (codes "err 19 absent") (codes "err 18 absent"))
 so_lacking =
     let ends = line (codes "done") in
     let deletes = line (codes "del r 7") ++ ends in
@@ -981,7 +985,11 @@ so_lacking =
     let here = first_at (rows_left [] [] 0) y in
     let lines = held_seven.lines in
     let held : HeldLine = record { verb = Deletes; relation = codes "r"; row = Int (pos 7) ∷ [] } in
+<<<<<<< HEAD
     plain_dialogue (makes_r ∷ opens_batch ∷ is_replied (codes "del r 7") (codes "ok held 1") ∷ []) (codes "done")
+=======
+    plain_dialogue (makes_r ∷ opens_batch ∷ says_and_gets (codes "del r 7") (codes "ok held 1") ∷ []) (codes "done")
+>>>>>>> dialogues/withwords
     (codes "err 19 absent") (codes "err 18 absent") here _ refl (
       _,
       made (line (codes "batch") ++ deletes),
@@ -991,7 +999,11 @@ so_lacking =
         (_, holds_seven [] [] 0 [] ends (ok ++ line (codes "ok batch")) (omega arith) refl, refl),
       ),
     )
+<<<<<<< HEAD
     (runs_with here (is_replied (codes "done") (codes "err 19 absent")) y (says_command (Done None)) []
+=======
+    (runs_with here (says_and_gets (codes "done") (codes "err 19 absent")) y (says_command (Done None)) []
+>>>>>>> dialogues/withwords
     (replies_with (codes "err 19 absent") no_line) (first_at (rows_left [] [] 0) (with_bytes [] pending)) refl refl reads_done
     refl refl (omega arith) (
       true,
@@ -1027,7 +1039,7 @@ so_lacking =
 
 -- ---- A watch of the other session.
 
-so_other : IsDialogue other_session
+so_other : IsMachineDialogue other_session
 unfolding digits
 so_other =
     let adds = line (codes "add r 7") in
@@ -1232,13 +1244,13 @@ watching_q held pending batch = record (with_bytes held pending) { watches = cod
 
 watched_one : (rest : Bytes) → IsSure (first_at (rows_left (of_seven 1) queries 1)
     (with_bytes (line (codes "watch q") ++ rest) (ok_added ++ line (codes "ok query 3"))))
-    (is_replied (codes "watch q") (codes "ok watch 1"))
+    (says_and_gets (codes "watch q") (codes "ok watch 1"))
     (first_at (rows_left (of_seven 1) queries 1) (watching_q rest before_batch None))
 unfolding digits
 watched_one rest =
     let pending = ok_added ++ line (codes "ok query 3") in
     sure (first_at (rows_left (of_seven 1) queries 1) (with_bytes (line (codes "watch q") ++ rest) pending))
-    (is_replied (codes "watch q") (codes "ok watch 1")) (with_bytes (line (codes "watch q") ++ rest) pending)
+    (says_and_gets (codes "watch q") (codes "ok watch 1")) (with_bytes (line (codes "watch q") ++ rest) pending)
     (says_command (Watch (codes "q"))) rest (says 1 (line (codes "ok watch 1")))
     (first_at (rows_left (of_seven 1) queries 1) (watching_q rest pending None)) refl refl reads_watch refl refl
     (omega arith) (true, record { result = Ok tt; answer = tt; effect = refl; state = refl }) refl refl refl
@@ -1246,19 +1258,19 @@ watched_one rest =
 
 holds_eight : (rest pending : Bytes) → length pending ≤ PENDING_BYTES
     → IsSure (first_at (rows_left (of_seven 1) queries 1) (watching_q (line (codes "add r 8") ++ rest) pending (Some held_seven)))
-    (is_replied (codes "add r 8") (codes "ok held 2")) (first_at (rows_left (of_seven 1) queries 1)
+    (says_and_gets (codes "add r 8") (codes "ok held 2")) (first_at (rows_left (of_seven 1) queries 1)
     (watching_q rest (pending ++ line (codes "ok held 2")) (Some held_both)))
 unfolding digits
 holds_eight rest pending short =
     sure (first_at (rows_left (of_seven 1) queries 1) (watching_q (line (codes "add r 8") ++ rest) pending (Some held_seven)))
-    (is_replied (codes "add r 8") (codes "ok held 2"))
+    (says_and_gets (codes "add r 8") (codes "ok held 2"))
     (watching_q (line (codes "add r 8") ++ rest) pending (Some held_seven)) (says_command (Add (codes "r") row_eight)) rest
     (says 1 (line (codes "ok held 2")))
     (first_at (rows_left (of_seven 1) queries 1) (watching_q rest pending (Some held_both))) refl refl reads_add_eight refl
     refl short (true, record { result = Ok tt; answer = tt; effect = refl; state = refl }) refl refl refl
     (one_clean 1 _ (not_memory_text 0 (line (codes "ok held 2")) refl refl))
 
-so_updated : IsDialogue row_updated
+so_updated : IsMachineDialogue row_updated
 unfolding digits
 so_updated =
     let ends = line (codes "done") in
@@ -1402,12 +1414,12 @@ of_e = record empty_store {
   relations = record { name = codes "e"; types = IntColumn ∷ IntColumn ∷ []; rows = [] } ∷ [];
 }
 
-so_cyclic : IsDialogue (ends_with (is_replied (codes "rel e int int") (codes "ok") ∷ []) (codes "query t(x,y,z) <- e(x,y), e(y,z), e(z,x)") (codes "no cyclic x,y x,z y,z") (codes "no cyclic x,y x,z y,x"))
+so_cyclic : IsMachineDialogue (ends_with (says_and_gets (codes "rel e int int") (codes "ok") ∷ []) (codes "query t(x,y,z) <- e(x,y), e(y,z), e(z,x)") (codes "no cyclic x,y x,z y,z") (codes "no cyclic x,y x,z y,x"))
 so_cyclic =
     let asks = line (codes "query t(x,y,z) <- e(x,y), e(y,z), e(z,x)") in
     let reply = line (codes "no cyclic x,y x,z y,z") in
     let begins = with_bytes (line (codes "rel e int int") ++ asks) [] in
-    let makes = is_replied (codes "rel e int int") (codes "ok") in
+    let makes = says_and_gets (codes "rel e int int") (codes "ok") in
     let here = first_at of_e (with_bytes asks ok) in
     let is_made : IsSure (first_at empty_store begins) makes here =
     sure (first_at empty_store begins) makes begins (says_command (Rel (codes "e") (IntColumn ∷ IntColumn ∷ []))) asks
@@ -1417,7 +1429,7 @@ so_cyclic =
     ) refl refl refl (one_clean 1 ok (not_memory_text 0 ok refl refl)) in
     plain_dialogue (makes ∷ []) (codes "query t(x,y,z) <- e(x,y), e(y,z), e(z,x)") (codes "no cyclic x,y x,z y,z")
     (codes "no cyclic x,y x,z y,x") here _ refl (_, is_made, refl)
-    (runs_with here (is_replied (codes "query t(x,y,z) <- e(x,y), e(y,z), e(z,x)") (codes "no cyclic x,y x,z y,z"))
+    (runs_with here (says_and_gets (codes "query t(x,y,z) <- e(x,y), e(y,z), e(z,x)") (codes "no cyclic x,y x,z y,z"))
     (with_bytes asks ok) (says_command (Register ring)) [] (answers 1 reply false) (first_at of_e (with_bytes [] ok)) refl refl
     reads_ring refl refl (omega arith) (
       true,

@@ -1,15 +1,14 @@
 -- The triangle x,y y,z x,z has no join tree, and is its own rest.
-use Rattle.std.specs.Prelude.{ℕ, zero, suc, List, [], ◌∷◌, ◌≡◌, ◌≢◌, ◌⊎◌, ◌<◌, ◌≤◌, ◌+◌, ◌==◌, ◌||◌, ◌↔◌, Bool, true, false, Contains, AllPairs, All, codes}
+use Rattle.std.specs.Prelude.{ℕ, zero, suc, List, [], ◌∷◌, ◌≡◌, ◌≢◌, ◌⊎◌, ◌<◌, ◌+◌, ◌==◌, ◌||◌, Bool, true, false}
 use Rattle.std.proofs.Common.{refl, sym, ap, ◌∙◌, subst, inl, inr, arith}
 use Rattle.std.proofs.lemmas.Bool.{true≢false}
 use Rattle.djq_hypergraph.specs.Hypergraph.{member, one, degree, edge_at, subset}
-use Rattle.djq_hypergraph.specs.Gyo.{IsStep, IsIrreducible, IsRest}
+use Rattle.djq_hypergraph.specs.Gyo.{IsIrreducible}
 use Rattle.djq_hypergraph.specs.Refusing.{IsCyclic}
 use Rattle.djq_hypergraph.specs.JoinTree.{HasJoinTree}
-use Rattle.djq_hypergraph.specs.declared.step.Step.{Step}
 use Rattle.djq_hypergraph.specs.declared.step.Step.TheVariants.{Vertex, Edge}
 use Rattle.djq_hypergraph.proofs.Sets.{has_bit, Sub, one_le}
-use Rattle.djq_hypergraph.proofs.Labels.{labels, equal, equal_alike, times_itself, degree_same, count, Same, count_self}
+use Rattle.djq_hypergraph.proofs.Labels.{labels, equal, equal_alike, times_itself, degree_same, count, count_self}
 use Rattle.djq_hypergraph.proofs.LabelTrees.{Rooted, Own, Inner, progress}
 use Rattle.djq_hypergraph.proofs.JoinTrees.{rooted_of}
 

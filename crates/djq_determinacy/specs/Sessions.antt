@@ -34,7 +34,7 @@ abbrev pub RunsWith : State → DialogueLine → State → Type 0
 RunsWith old x new =
     (e : Effect) × (e.queued ≡ x.queued) × Step old (stepped x.session (run x.says)) e new
 
--- From the start these lines are run one after another, each with what is queued for it.
+-- From the start these lines are run one after another, with no other event between, each with what is queued for it.
 abbrev pub IsRunOfMachine : List DialogueLine → Type 0
 IsRunOfMachine lines = (new : State) × Walk RunsWith (start_of lines) lines new
 
@@ -51,7 +51,7 @@ DifferByOne (p ∷ ps) (q ∷ qs) =
 DifferByOne _ _ = ⊥
 
 -- It is a run of the machine; and with the one byte changed it is none.
-pub record IsDialogue (d : Dialogue) : Type 0 where
+pub record IsMachineDialogue (d : Dialogue) : Type 0 where
   pub so : IsRunOfMachine (d.before ++ d.last ∷ [])
   pub one_byte : DifferByOne d.last.queued d.other
   pub not_so : IsRunOfMachine (d.before ++ record d.last { queued = d.other } ∷ []) → ⊥
@@ -60,38 +60,38 @@ pub record IsDialogue (d : Dialogue) : Type 0 where
 abbrev pub first_says : Bytes → List Bytes → DialogueLine
 first_says says texts = record { session = 1; says = says; queued = map (λ text. (1, text)) texts }
 
--- a line of it that has one reply
-abbrev pub is_replied : Bytes → Bytes → DialogueLine
-is_replied says reply = first_says says (line reply ∷ [])
+-- a line of it, for which one reply is queued
+abbrev pub says_and_gets : Bytes → Bytes → DialogueLine
+says_and_gets says reply = first_says says (line reply ∷ [])
 
 -- a dialogue whose last line has one reply
 abbrev pub ends_with : List DialogueLine → Bytes → Bytes → Bytes → Dialogue
 ends_with before says reply other = record {
   before = before;
-  last = is_replied says reply;
+  last = says_and_gets says reply;
   other = (1, line other) ∷ [];
 }
 
 -- a relation is made, and a row is inserted
 abbrev pub makes_r : DialogueLine
-makes_r = is_replied (codes "rel r int") (codes "ok")
+makes_r = says_and_gets (codes "rel r int") (codes "ok")
 
 abbrev pub inserts_seven : DialogueLine
-inserts_seven = is_replied (codes "add r 7") (codes "ok added 1 1")
+inserts_seven = says_and_gets (codes "add r 7") (codes "ok added 1 1")
 
--- a query of it is registered, and watched; and a cursor is opened over it
+-- a query of it is registered
 abbrev pub registers_q : DialogueLine
-registers_q = is_replied (codes "query q(x) <- r(x)") (codes "ok query 3")
+registers_q = says_and_gets (codes "query q(x) <- r(x)") (codes "ok query 3")
 
--- lines by which the session watches it, opens a cursor over it, and opens a batch
+-- the session watches it, opens a cursor over it, and opens a batch
 abbrev pub watches_q : DialogueLine
-watches_q = is_replied (codes "watch q") (codes "ok watch 0")
+watches_q = says_and_gets (codes "watch q") (codes "ok watch 0")
 
 abbrev pub opens_c : DialogueLine
-opens_c = is_replied (codes "open c q") (codes "ok open")
+opens_c = says_and_gets (codes "open c q") (codes "ok open")
 
 abbrev pub opens_batch : DialogueLine
-opens_batch = is_replied (codes "batch") (codes "ok batch")
+opens_batch = says_and_gets (codes "batch") (codes "ok batch")
 
 -- a delta of one line, of the first change
 abbrev pub delta_of : Bytes → Bytes
@@ -121,16 +121,16 @@ other_session = record {
 -- A batch updates a row: one change, of an answer that is removed and one that is added.
 abbrev pub row_updated : Dialogue
 row_updated = record {
-  before = makes_r ∷ inserts_seven ∷ registers_q ∷ is_replied (codes "watch q") (codes "ok watch 1") ∷ opens_batch
-      ∷ is_replied (codes "del r 7") (codes "ok held 1") ∷ is_replied (codes "add r 8") (codes "ok held 2") ∷ [];
+  before = makes_r ∷ inserts_seven ∷ registers_q ∷ says_and_gets (codes "watch q") (codes "ok watch 1") ∷ opens_batch
+      ∷ says_and_gets (codes "del r 7") (codes "ok held 1") ∷ says_and_gets (codes "add r 8") (codes "ok held 2") ∷ [];
   last = first_says (codes "done")
       ((line (codes "- q 7") ++ line (codes "+ q 8") ++ line (codes "at q 2")) ∷ line (codes "ok done 2 2") ∷ []);
   other = (1, line (codes "- q 7") ++ line (codes "+ q 8") ++ line (codes "at q 2")) ∷ (1, line (codes "ok done 3 2")) ∷ [];
 }
 
 -- A page has the answer, and the end.
-abbrev pub page_told : Dialogue
-page_told = record {
+abbrev pub page_sent : Dialogue
+page_sent = record {
   before = makes_r ∷ inserts_seven ∷ registers_q ∷ opens_c ∷ [];
   last = first_says (codes "next c 5") ((line (codes "= 7") ++ line (codes "end")) ∷ []);
   other = (1, line (codes "= 8") ++ line (codes "end")) ∷ [];
@@ -146,17 +146,17 @@ dialogues =
     ∷ ends_with (makes_r ∷ inserts_seven ∷ registers_q ∷ []) (codes "has q 7") (codes "yes") (codes "yet")
     ∷ delta_first
     ∷ other_session
-    ∷ page_told
+    ∷ page_sent
     ∷ ends_with (makes_r ∷ registers_q ∷ opens_c ∷ inserts_seven ∷ []) (codes "next c 1") (codes "stale c r 1")
     (codes "stale c r 2")
-    ∷ ends_with (makes_r ∷ opens_batch ∷ is_replied (codes "del r 7") (codes "ok held 1") ∷ []) (codes "done")
+    ∷ ends_with (makes_r ∷ opens_batch ∷ says_and_gets (codes "del r 7") (codes "ok held 1") ∷ []) (codes "done")
     (codes "err 19 absent") (codes "err 18 absent")
     ∷ row_updated
-    ∷ ends_with (is_replied (codes "rel e int int") (codes "ok") ∷ []) (codes "query t(x,y,z) <- e(x,y), e(y,z), e(z,x)")
+    ∷ ends_with (says_and_gets (codes "rel e int int") (codes "ok") ∷ []) (codes "query t(x,y,z) <- e(x,y), e(y,z), e(z,x)")
     (codes "no cyclic x,y x,z y,z") (codes "no cyclic x,y x,z y,x")
     ∷ []
 
 -- Each of these is one.
 abbrev pub AreDialogues : List Dialogue → Type 0
 AreDialogues [] = ⊤
-AreDialogues (d ∷ ds) = IsDialogue d × AreDialogues ds
+AreDialogues (d ∷ ds) = IsMachineDialogue d × AreDialogues ds
