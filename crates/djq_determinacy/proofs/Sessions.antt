@@ -858,11 +858,7 @@ so_page =
     let here = first_at (rows_left (of_seven 1) queries 1) y in
     let page = line (codes "= 7") ++ line (codes "end") in
     let other = line (codes "= 8") ++ line (codes "end") in
-<<<<<<< HEAD
-    is_dialogue page_told here _ refl (
-=======
     is_dialogue page_sent here _ refl (
->>>>>>> dialogues/withwords
       _,
       made (line (codes "add r 7") ++ line (codes "query q(x) <- r(x)") ++ line (codes "open c q") ++ asks),
       (
@@ -875,11 +871,7 @@ so_page =
         ),
       ),
     )
-<<<<<<< HEAD
-    (runs_with here page_told.last y (says_command (Next (codes "c") 5)) []
-=======
     (runs_with here page_sent.last y (says_command (Next (codes "c") 5)) []
->>>>>>> dialogues/withwords
     (record { queued = (1, page) ∷ []; cost = 6; kept = no_line }) (first_at (rows_left (of_seven 1) queries 1)
     (record (with_bytes [] pending) { cursors = cursor_c (open_at ((Int (pos 7) ∷ []) ∷ []) true) ∷ [] })) refl refl
     reads_next_five refl refl (omega arith) (
@@ -931,11 +923,7 @@ so_stale =
         (_, opened [] 0 adds ok_query (omega arith) refl, (_, inserted, refl)),
       ),
     )
-<<<<<<< HEAD
-    (runs_with here (is_replied (codes "next c 1") (codes "stale c r 1")) z (says_command (Next (codes "c") 1)) []
-=======
     (runs_with here (says_and_gets (codes "next c 1") (codes "stale c r 1")) z (says_command (Next (codes "c") 1)) []
->>>>>>> dialogues/withwords
     (says 1 (line (codes "stale c r 1"))) (first_at (rows_left (of_seven 1) queries 1)
     (record (with_bytes [] after) { cursors = cursor_c (stale (codes "r") 1) ∷ [] })) refl refl reads_next_one refl refl
     (omega arith) (true, (refl, refl)) refl)
@@ -985,11 +973,7 @@ so_lacking =
     let here = first_at (rows_left [] [] 0) y in
     let lines = held_seven.lines in
     let held : HeldLine = record { verb = Deletes; relation = codes "r"; row = Int (pos 7) ∷ [] } in
-<<<<<<< HEAD
-    plain_dialogue (makes_r ∷ opens_batch ∷ is_replied (codes "del r 7") (codes "ok held 1") ∷ []) (codes "done")
-=======
     plain_dialogue (makes_r ∷ opens_batch ∷ says_and_gets (codes "del r 7") (codes "ok held 1") ∷ []) (codes "done")
->>>>>>> dialogues/withwords
     (codes "err 19 absent") (codes "err 18 absent") here _ refl (
       _,
       made (line (codes "batch") ++ deletes),
@@ -999,11 +983,7 @@ so_lacking =
         (_, holds_seven [] [] 0 [] ends (ok ++ line (codes "ok batch")) (omega arith) refl, refl),
       ),
     )
-<<<<<<< HEAD
-    (runs_with here (is_replied (codes "done") (codes "err 19 absent")) y (says_command (Done None)) []
-=======
     (runs_with here (says_and_gets (codes "done") (codes "err 19 absent")) y (says_command (Done None)) []
->>>>>>> dialogues/withwords
     (replies_with (codes "err 19 absent") no_line) (first_at (rows_left [] [] 0) (with_bytes [] pending)) refl refl reads_done
     refl refl (omega arith) (
       true,
