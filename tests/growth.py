@@ -18,6 +18,7 @@ reason printed. One line is printed for each test that fails, and last `N passed
 Python's standard library and gcc are all it needs.
 """
 
+import contextlib
 import os
 import re
 import shutil
@@ -78,7 +79,9 @@ def served(name, text):
             output = received(stream)
             sending.join(PATIENCE)
         if server.process.poll() is None:
-            sent(socket.create_connection(("127.0.0.1", server.port), PATIENCE), b"stop\n")
+            # a server that the text has stopped may listen no longer and not have ended yet
+            with contextlib.suppress(ConnectionRefusedError):
+                sent(socket.create_connection(("127.0.0.1", server.port), PATIENCE), b"stop\n")
         return memory_suffices(name, output, server.process.wait(PATIENCE))
 
 
