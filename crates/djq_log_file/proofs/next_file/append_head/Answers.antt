@@ -1,7 +1,6 @@
 -- The gate, the length and the digest stand one after another, and fill the head.
-use Rattle.std.proofs.Common.{◌≡◌, ◌+◌, ◌≤◌, ℕ, List, [], ◌∷◌, ◌++◌, length, ap, ap₂, ◌∙◌, arith, length-append}
+use Rattle.std.proofs.Common.{◌≡◌, ℕ, List, ◌∷◌, ◌++◌, length, ap, ap₂, ◌∙◌, arith, length-append}
 use Rattle.djq_disk.proofs.Files.{told_so}
-use Rattle.djq_log_format.specs.Format.{record_head, record_body}
 use Rattle.djq_log_file.specs.Rewriting.{AppendsNext, AppendsHead}
 use Rattle.djq_log_file.proofs.Rewrites.{head_written, head_laid}
 use Rattle.djq_log_file.proofs.next_file.append_head.Goals as goal

@@ -1,5 +1,5 @@
 -- The gate stands at the end, and all is synced.
-use Rattle.std.proofs.Common.{ℕ, List, [], ◌∷◌}
+use Rattle.std.proofs.Common.{[], ◌∷◌}
 use Rattle.djq_disk.specs.History.{SyncsNext}
 use Rattle.djq_disk.specs.declared.disk.DiskDid.TheVariants.{Done, Failed}
 use Rattle.djq_disk.proofs.Files.{told_so, told_both}

@@ -1,5 +1,5 @@
 -- The closed gate ends the log behind all lines, and the log takes the place of the file.
-use Rattle.std.proofs.Common.{◌≡◌, take, refl}
+use Rattle.std.proofs.Common.{take, refl}
 use Rattle.djq_disk.specs.History.{History, Replaces}
 use Rattle.djq_disk.specs.declared.disk.DiskDid.TheVariants.{Done as Did, Failed as Failing}
 use Rattle.djq_disk.proofs.Files.{told_both}

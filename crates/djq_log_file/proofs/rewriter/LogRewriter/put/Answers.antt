@@ -2,8 +2,8 @@
 use Rattle.djq_disk.proofs.Files.{told_so}
 use Rattle.djq_log_format.specs.Format.{IsLogLine}
 use Rattle.djq_log_file.specs.Rewriting.{WritesGathered, PutsLine}
-use Rattle.djq_log_file.specs.declared.rewriter.LinePut.TheVariants.{Put, Failed, Full}
-use Rattle.djq_log_file.proofs.Rewrites.{put_after, not_put}
+use Rattle.djq_log_file.specs.declared.rewriter.LinePut.TheVariants.{Put}
+use Rattle.djq_log_file.proofs.Rewrites.{put_after}
 use Rattle.djq_log_file.proofs.rewriter.LogRewriter.put.Goals as goal
 
 pub returns-in-Put-clause-told : goal.returns-in-Put-clause-told

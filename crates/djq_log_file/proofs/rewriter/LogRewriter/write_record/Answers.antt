@@ -1,8 +1,7 @@
 -- The head and the body of what is gathered stand behind the records before, as one more.
-use Rattle.std.proofs.Common.{◌≡◌, ◌+◌, ◌≤◌, ℕ, List, [], length, take, ap, refl, arith, length-take}
+use Rattle.std.proofs.Common.{◌≡◌, ◌+◌, ℕ, List, [], length, take, ap, refl, arith, length-take}
 use Rattle.djq_disk.specs.declared.disk.DiskDid.TheVariants.{Done}
 use Rattle.djq_disk.proofs.Files.{told_both}
-use Rattle.djq_log_format.specs.Encoding.{measured}
 use Rattle.djq_log_file.specs.Places.{RewritingPlace}
 use Rattle.djq_log_file.specs.Rewriting.{AppendsHead, AppendsNext, WritesGathered}
 use Rattle.djq_log_file.specs.declared.rewriter.LinePut.TheVariants.{Put}
