@@ -24,7 +24,7 @@ use Rattle.djq_log.proofs.Keeps.{idle_log_lasts, keeps_on}
 -- an idle log leaves its lines
 idle_leaves : (lines base : List (List ℕ)) (end : Option LogEnd) (file : File) → IsSomeAnd end (λ e. IsIdleAt lines e file)
     → LeavesOnly (OpensToEither lines base) file
-idle_leaves lines base None file idle = absurd idle
+idle_leaves lines base None file idle image is = absurd idle
 idle_leaves lines base (Some end) file idle image is = inl (idle_log_lasts lines end file image idle is)
 
 -- the file that replaces it leaves its own
