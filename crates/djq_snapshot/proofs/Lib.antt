@@ -9,3 +9,4 @@ mod CarriedLines
 mod Runs
 mod Restored
 mod Example
+pub mod Replays

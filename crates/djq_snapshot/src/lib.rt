@@ -32,6 +32,7 @@ ghost use Rattle.djq_snapshot.specs.Restorable.{SnapshotRestores, FollowersResto
 ghost use Rattle.djq_snapshot.specs.Restorable.{OpeningIsRestorable, RunsStayRestorable, LoadsStayRestorable};
 ghost use Rattle.djq_snapshot.specs.Restorable.{RunsRestore, FollowersAreSound, RestoredIsRestorable};
 ghost use Rattle.djq_snapshot.specs.Restorable.{RewrittenLogsLoad};
+ghost use Rattle.djq_snapshot.specs.Replayed.{LoadedAreReplayed};
 
 /// A snapshot restores its store, from nothing: the same relations, each with its rows and their copies in
 /// some order, the same queries and unions in their order, and the same number of changes. No condition
@@ -76,4 +77,9 @@ pub fn restored_is_restorable()
 /// from there logged load after it, and give what the run left.
 pub fn rewritten_logs_load()
     ensures { RewrittenLogsLoad }
+{}
+
+/// Lines of the protocol that load are replayed so.
+pub fn loaded_are_replayed()
+    ensures { LoadedAreReplayed }
 {}
