@@ -10,3 +10,4 @@ mod Runs
 mod Restored
 mod Example
 pub mod Replays
+pub mod Replayed

@@ -32,7 +32,7 @@ ghost use Rattle.djq_snapshot.specs.Restorable.{SnapshotRestores, FollowersResto
 ghost use Rattle.djq_snapshot.specs.Restorable.{OpeningIsRestorable, RunsStayRestorable, LoadsStayRestorable};
 ghost use Rattle.djq_snapshot.specs.Restorable.{RunsRestore, FollowersAreSound, RestoredIsRestorable};
 ghost use Rattle.djq_snapshot.specs.Restorable.{RewrittenLogsLoad};
-ghost use Rattle.djq_snapshot.specs.Replayed.{LoadedAreReplayed};
+ghost use Rattle.djq_snapshot.specs.Replayed.{LoadedAreReplayed, SnapshotReplays, ReplayedAgain, StopsReplay};
 
 /// A snapshot restores its store, from nothing: the same relations, each with its rows and their copies in
 /// some order, the same queries and unions in their order, and the same number of changes. No condition
@@ -82,4 +82,21 @@ pub fn rewritten_logs_load()
 /// Lines of the protocol that load are replayed so.
 pub fn loaded_are_replayed()
     ensures { LoadedAreReplayed }
+{}
+
+/// The lines of a store's snapshot, replayed from nothing, are all accepted and give a store that follows it: the same rows
+/// with the same copies, in some order, the same queries, unions and number of changes.
+pub fn snapshot_replays()
+    ensures { SnapshotReplays }
+{}
+
+/// Lines that were replayed from nothing are so whenever they are replayed.
+pub fn replayed_again()
+    ensures { ReplayedAgain }
+{}
+
+/// What a restart gives: the lines that give the store from which a run began, as those of its snapshot, and the first
+/// groups that the run logged, whole, give what it had when it had logged just these.
+pub fn stops_replay()
+    ensures { StopsReplay }
 {}
