@@ -11,3 +11,4 @@ mod Restored
 mod Example
 pub mod Replays
 pub mod Replayed
+pub mod ReplayedStores

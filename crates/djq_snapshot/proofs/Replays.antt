@@ -98,7 +98,7 @@ pub record WasRestored (a : Loading) (line : SnapshotLine) (to : Loading) : Type
   pub restores : Restores a.store line to.store
   pub still : to.batch ≡ None
 
-outside_ran : (a : Loading) (o : Option SnapshotLine) (to : Loading) → OutsideReplays a o ran to
+pub outside_ran : (a : Loading) (o : Option SnapshotLine) (to : Loading) → OutsideReplays a o ran to
     → (line : SnapshotLine) × (o ≡ Some line) × WasRestored a line to
 outside_ran a o to h = by a.batch refl o refl h
   where

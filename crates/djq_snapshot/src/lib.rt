@@ -32,7 +32,8 @@ ghost use Rattle.djq_snapshot.specs.Restorable.{SnapshotRestores, FollowersResto
 ghost use Rattle.djq_snapshot.specs.Restorable.{OpeningIsRestorable, RunsStayRestorable, LoadsStayRestorable};
 ghost use Rattle.djq_snapshot.specs.Restorable.{RunsRestore, FollowersAreSound, RestoredIsRestorable};
 ghost use Rattle.djq_snapshot.specs.Restorable.{RewrittenLogsLoad};
-ghost use Rattle.djq_snapshot.specs.Replayed.{LoadedAreReplayed, SnapshotReplays, ReplayedAgain, StopsReplay};
+ghost use Rattle.djq_snapshot.specs.Replayed.{LoadedAreReplayed, SnapshotReplays, ReplayedAgain};
+ghost use Rattle.djq_snapshot.specs.Replayed.{ReplayedIsStart, StopsReplay};
 
 /// A snapshot restores its store, from nothing: the same relations, each with its rows and their copies in
 /// some order, the same queries and unions in their order, and the same number of changes. No condition
@@ -99,4 +100,10 @@ pub fn replayed_again()
 /// groups that the run logged, whole, give what it had when it had logged just these.
 pub fn stops_replay()
     ensures { StopsReplay }
+{}
+
+/// What lines, found at a start, give is a state to start from, if they leave no batch open; and a snapshot of its store
+/// restores it.
+pub fn replayed_is_start()
+    ensures { ReplayedIsStart }
 {}
