@@ -1,30 +1,28 @@
 -- What a log gives that begins with a snapshot, or with lines that were found in it.
-use Rattle.std.proofs.Common.{ℕ, List, [], ◌∷◌, ◌++◌, ◌≡◌, inl, inr, Bool, true, false, cond, refl, sym, ap, ◌∙◌, subst}
+use Rattle.std.proofs.Common.{List, [], ◌∷◌, ◌++◌, ◌≡◌, inl, refl, sym, ap, ◌∙◌, subst}
 use Rattle.std.proofs.Common.{append-nil}
-use Rattle.std.specs.Prelude.{Option, None, Some, Ok, All, IfSome}
+use Rattle.std.specs.Prelude.{Option, None, Some, Ok, All}
 use Rattle.std.proofs.lemmas.List.Elements.{All-nil, All-cons, All-head, All-tail}
-use Rattle.djq_model.specs.Data.{Bytes, bytes_eq}
+use Rattle.djq_model.specs.Data.{Bytes}
 use Rattle.djq_protocol.specs.declared.rest.QueryOutcome.TheVariants.{Registered}
-use Rattle.djq_protocol.specs.Grammar.{Reading, outside, says_command, reading_of}
-use Rattle.djq_store_spec.specs.Held.{HeldTransaction}
+use Rattle.djq_protocol.specs.Grammar.{Reading, outside, reading_of}
 use Rattle.djq_store_spec.specs.Store.{Store, empty_store}
-use Rattle.djq_machine.specs.declared.machine.Loaded.{Loaded}
 use Rattle.djq_machine.specs.declared.machine.Loaded.TheVariants.{Ran as ran, Refused as refused}
-use Rattle.djq_machine.specs.Loading.{Loading, loading, ReadingLoads, LoadStep, Loads}
+use Rattle.djq_machine.specs.Loading.{Loading, loading, Loads}
 use Rattle.djq_machine.specs.State.{State, opening}
 use Rattle.djq_machine.specs.Run.{Did, Run, Group, groups_of, lines_in}
 use Rattle.djq_run_laws.specs.Sound.{IsSoundState}
-use Rattle.djq_log_laws.specs.Kept.{StoreFollows, LoadingFollows, LoadsOn, LoadsTo, StoodAt}
+use Rattle.djq_log_laws.specs.Kept.{StoreFollows, LoadingFollows, LoadsOn}
 use Rattle.djq_log_laws.proofs.Commands.{of_batch, follows_closed}
 use Rattle.djq_log_laws.proofs.Reloads.{kept_lines_load, stood_at, opening_follows}
 use Rattle.djq_snapshot.specs.Snapshot.{SnapshotLine, says_relation, says_row, says_query, says_union, says_changes}
 use Rattle.djq_snapshot.specs.Snapshot.{snapshot_of, RestoreStep, RestoresAll}
-use Rattle.djq_snapshot.specs.Lines.{snapshot_line_of, IsLogLineOf, SaysOf, SayAll}
+use Rattle.djq_snapshot.specs.Lines.{IsLogLineOf, SaysOf, SayAll}
 use Rattle.djq_snapshot.specs.Replaying.{ReplayStep, ReadingReplays, OutsideReplays, ReplaysLines, ReplaysOn, ReplaysTo}
 use Rattle.djq_snapshot.specs.Replayed.{SnapshotReplays, ReplayedAgain, StopsReplay}
 use Rattle.djq_snapshot.proofs.Followers.{same_on}
 use Rattle.djq_snapshot.proofs.Parts.{snapshot_restores}
-use Rattle.djq_snapshot.proofs.Replays.{IsInside, step_loads, step_replays, ran_inside, loaded_are_replayed, no_replays}
+use Rattle.djq_snapshot.proofs.Replays.{IsInside, step_loads, ran_inside, loaded_are_replayed, no_replays}
 use Rattle.djq_snapshot.proofs.Replays.{replays_again}
 
 -- ---- What follows a store that follows another follows that.

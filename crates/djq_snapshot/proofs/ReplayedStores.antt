@@ -8,7 +8,6 @@ use Rattle.djq_model.specs.Known.{texts_in}
 use Rattle.djq_model.specs.Typed.{fits}
 use Rattle.djq_protocol.specs.Columns.{types_of}
 use Rattle.djq_protocol.specs.declared.limits.TheConstants.{TEXTS}
-use Rattle.djq_protocol.specs.declared.command.Command.{Command}
 use Rattle.djq_protocol.specs.declared.command.Command.TheVariants.{Add}
 use Rattle.djq_protocol.specs.Grammar.{Reading, outside, past_limit, says_command, reading_of}
 use Rattle.djq_store_spec.specs.Relations.{with_rows}
@@ -18,9 +17,9 @@ use Rattle.djq_value.specs.Literal.{natural_of}
 use Rattle.djq_store_spec.specs.Store.{Store}
 use Rattle.djq_machine.specs.declared.machine.Loaded.TheVariants.{Ran as ran}
 use Rattle.djq_machine.specs.Loading.{Loading, loading}
-use Rattle.djq_machine.specs.State.{State, opening}
+use Rattle.djq_machine.specs.State.{opening}
 use Rattle.djq_machine.proofs.Relations.{walk_keeps}
-use Rattle.djq_run_laws.specs.Sound.{IsSoundStore, IsSoundBatch, IsStart}
+use Rattle.djq_run_laws.specs.Sound.{IsSoundStore}
 use Rattle.djq_run_laws.proofs.SoundStores.{moved_store, as_many, same_types_sound}
 use Rattle.djq_run_laws.proofs.Lists.{texts_apart}
 use Rattle.djq_run_laws.proofs.SoundStates.{opening_is_start}
@@ -30,7 +29,7 @@ use Rattle.djq_snapshot.specs.Snapshot.{SnapshotLine, says_relation, says_row, s
 use Rattle.djq_snapshot.specs.Snapshot.{Restores, RestoresRow}
 use Rattle.djq_snapshot.specs.Restorable.{IsRestorable}
 use Rattle.djq_snapshot.specs.Lines.{snapshot_line_of, number_part, counted_part, counted_line, copied_row}
-use Rattle.djq_snapshot.specs.Replaying.{ReplayStep, ReadingReplays, ReplaysLines}
+use Rattle.djq_snapshot.specs.Replaying.{ReplayStep, ReadingReplays}
 use Rattle.djq_snapshot.specs.Replayed.{ReplayedIsStart}
 use Rattle.djq_snapshot.proofs.Keeps.{moved_restorable}
 use Rattle.djq_snapshot.proofs.Replays.{IsInside, WasRestored, outside_ran, step_loads}

@@ -1,6 +1,6 @@
 -- Lines of a log that are replayed: what one does to a store that follows another, and lines one after another.
-use Rattle.std.proofs.Common.{List, [], ◌∷◌, ◌++◌, ◌≡◌, inl, inr, ◌⊎◌, Bool, true, false, refl, sym, ap, ◌∙◌, subst}
-use Rattle.std.specs.Prelude.{Option, None, Some, Ok, Err, ⊤}
+use Rattle.std.proofs.Common.{List, [], ◌∷◌, ◌++◌, ◌≡◌, inl, inr, refl, sym, ◌∙◌, subst}
+use Rattle.std.specs.Prelude.{Option, None, Some}
 use Rattle.djq_model.specs.declared.relation.Relation.{Relation}
 use Rattle.djq_model.specs.Data.{Bytes}
 use Rattle.djq_protocol.specs.declared.command.Command.{Command}
@@ -8,23 +8,19 @@ use Rattle.djq_protocol.specs.Grammar.{Reading, outside, past_limit, says_comman
 use Rattle.djq_store_spec.specs.Held.{HeldTransaction}
 use Rattle.djq_store_spec.specs.Store.{Store}
 use Rattle.djq_machine.specs.declared.machine.Loaded.{Loaded}
-use Rattle.djq_machine.specs.declared.machine.Loaded.TheVariants.{Ran as ran, Refused as refused, NoMem as no_memory}
-use Rattle.djq_machine.specs.Loading.{Loading, loading, ReadingLoads, LoadStep, Loads}
-use Rattle.djq_machine.specs.State.{State, opening}
-use Rattle.djq_machine.specs.Run.{Did, Run, Group, groups_of, lines_in}
+use Rattle.djq_machine.specs.declared.machine.Loaded.TheVariants.{Ran as ran, Refused as refused}
+use Rattle.djq_machine.specs.Loading.{Loading, loading, ReadingLoads, LoadStep}
 use Rattle.djq_machine.specs.Step.{SameRelations}
-use Rattle.djq_run_laws.specs.Sound.{IsSoundState}
-use Rattle.djq_log_laws.specs.Kept.{StoreFollows, LoadingFollows, LoadsOn, LoadsTo, StoodAt}
-use Rattle.djq_log_laws.proofs.Commands.{EndsFollowing, LineRespects, of_batch, none_there, cons_first, cons_rest}
-use Rattle.djq_log_laws.proofs.Reloads.{line_loaded, kept_lines_load, stood_at, opening_follows}
-use Rattle.djq_log_laws.proofs.Commands.{follows_closed, follows_left}
-use Rattle.djq_snapshot.specs.Snapshot.{SnapshotLine, Restores, RestoreStep, RestoresAll}
+use Rattle.djq_log_laws.specs.Kept.{LoadingFollows}
+use Rattle.djq_log_laws.proofs.Commands.{EndsFollowing, LineRespects, none_there, cons_first, cons_rest}
+use Rattle.djq_log_laws.proofs.Reloads.{line_loaded}
+use Rattle.djq_log_laws.proofs.Commands.{follows_left}
+use Rattle.djq_snapshot.specs.Snapshot.{SnapshotLine, Restores}
 use Rattle.djq_snapshot.specs.Lines.{snapshot_line_of}
 use Rattle.djq_snapshot.specs.Replaying.{ReplayStep, ReadingReplays, OutsideReplays, RestoresOrRefuses, ReplaysLines, ReplaysOn}
-use Rattle.djq_snapshot.specs.Replaying.{ReplaysTo}
-use Rattle.djq_snapshot.specs.Replayed.{LoadedAreReplayed, ReplayedAgain, StopsReplay}
+use Rattle.djq_snapshot.specs.Replayed.{LoadedAreReplayed}
 use Rattle.djq_snapshot.proofs.Followers.{same_itself, follows_in_order}
-use Rattle.djq_snapshot.proofs.Steps.{Brings, Takes, line_again}
+use Rattle.djq_snapshot.proofs.Steps.{Brings, line_again}
 
 -- ---- Lines of the protocol.
 

@@ -6,7 +6,7 @@ use Rattle.djq_machine.specs.State.{State, opening}
 use Rattle.djq_machine.specs.Run.{Did, Run, Group, groups_of, lines_in}
 use Rattle.djq_machine.specs.Loading.{Loading, loading, Loads}
 use Rattle.djq_run_laws.specs.Sound.{IsSoundStore, IsSoundState, IsStart}
-use Rattle.djq_log_laws.specs.Kept.{LoadsTo, StoodAt}
+use Rattle.djq_log_laws.specs.Kept.{StoodAt}
 use Rattle.djq_snapshot.specs.Snapshot.{snapshot_of}
 use Rattle.djq_snapshot.specs.Restorable.{IsRestorable}
 use Rattle.djq_snapshot.specs.Lines.{SayAll}
