@@ -246,6 +246,7 @@ module _ (a : Store) (name : Bytes) (c : CountedRow) (to : Store) (m : RestoresR
     can = (
       with_it b,
       record {
+        alone = f.same.queries ∙ m.alone;
         suits = types_suit a b (types_moved a.relations b.relations f.same.relations) name c.row m.suits;
         absent = is_absent;
         copies = m.copies;

@@ -19,12 +19,16 @@ abbrev pub takes_memory_to_restore : SnapshotLine → Bool
 takes_memory_to_restore (says_row name c) = true
 takes_memory_to_restore _ = false
 
+-- nothing changes but which texts are known
+abbrev pub LearnsAtMost : Store → Loading → Type 0
+LearnsAtMost old new = (texts : List Bytes) × (new ≡ loading (record old { texts = texts }))
+
 -- A line of a snapshot, outside a batch: it is restored; a condition refuses it; or memory is wanted.
 abbrev pub RestoresOrRefuses : Store → SnapshotLine → Loaded → Loading → Type 0
 RestoresOrRefuses old line how new =
     ((how ≡ ran) × Restores old line new.store × (new.batch ≡ None))
-    ⊎ (((how ≡ refused) × (new ≡ loading old) × ((st : Store) → Restores old line st → ⊥))
-    ⊎ ((how ≡ no_memory) × (new ≡ loading old) × (takes_memory_to_restore line ≡ true)))
+    ⊎ (((how ≡ refused) × LearnsAtMost old new × ((st : Store) → Restores old line st → ⊥))
+    ⊎ ((how ≡ no_memory) × LearnsAtMost old new × (takes_memory_to_restore line ≡ true)))
 
 -- What a line outside the protocol does: nothing, unless it is a line of a snapshot and no batch is open.
 abbrev pub OutsideReplays : Loading → Option SnapshotLine → Loaded → Loading → Type 0
