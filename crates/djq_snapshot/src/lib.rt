@@ -13,9 +13,18 @@
 //! five changes                     five changes
 //! ```
 //!
-//! What this crate is not: it writes no lines and reads none. A line of a snapshot is data here and not
-//! bytes, and no code uses this crate yet. It states what whoever writes a snapshot in place of a log, and
-//! restores it at the next start, may rely on.
+//! What this crate is not: it writes no lines and reads none, and no code uses it yet. It states what whoever
+//! writes a snapshot in place of a log, and restores it at the next start, may rely on. There, in bytes
+//! (`specs/Lines.antt`), relations, queries and unions are lines of the protocol, and rows and the number of
+//! changes are two kinds of line that only a log has:
+//!
+//! ```text
+//! rel r int
+//! 2 add r 7
+//! 1 add r 8
+//! query q(x) <- r(x)
+//! 5 changes
+//! ```
 //!
 //! What surprises: all rows come before the first query. So a query is registered once over its rows, and
 //! each union after its members. A snapshot doesn't say which texts are known: those that no row and no
@@ -23,8 +32,9 @@
 //! none. A sound store isn't enough: in one, queries could have faults, unions could precede their members,
 //! and the texts of rows could be unknown. `IsRestorable` excludes that, and every run preserves it.
 //!
-//! Inside, `specs/Snapshot.antt` defines the lines of a snapshot and what restoring them does to a store, and
-//! `specs/Restorable.antt` has the laws. For each prefix of the lines `proofs/Parts.antt` has the part of the
+//! Inside, `specs/Snapshot.antt` defines the lines of a snapshot and what restoring them does to a store,
+//! `specs/Restorable.antt` has the laws, `specs/Replaying.antt` what a start does with the lines of a log that
+//! may begin with a snapshot, and `specs/Replayed.antt` the laws on that. For each prefix of the lines `proofs/Parts.antt` has the part of the
 //! store that they say: each line takes a store that follows one part to a store that follows the next.
 #![tactic(auto)]
 
