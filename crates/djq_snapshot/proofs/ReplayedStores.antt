@@ -1,6 +1,6 @@
 -- What lines that are replayed leave is sound, and its snapshot restores it.
 use Rattle.std.proofs.Common.{ℕ, List, [], ◌∷◌, ◌++◌, ◌≡◌, ◌≤◌, Bool, true, false, cond, length, refl, sym, ap, ◌∙◌, subst}
-use Rattle.std.specs.Prelude.{Option, None, Some, codes}
+use Rattle.std.specs.Prelude.{Option, None, Some, option_map, codes}
 use Rattle.std.proofs.lemmas.Bool.{not-false}
 use Rattle.djq_model.specs.declared.relation.CountedRow.{CountedRow}
 use Rattle.djq_model.specs.Data.{Bytes, bytes_eq, counted_of, relation_of}
@@ -14,6 +14,7 @@ use Rattle.djq_store_spec.specs.Relations.{with_rows}
 use Rattle.djq_store_spec.specs.Rows.{row_refusals}
 use Rattle.djq_run_laws.proofs.Forms.{all_fail}
 use Rattle.djq_value.specs.Literal.{natural_of}
+use Rattle.djq_value.specs.Number.{capped}
 use Rattle.djq_store_spec.specs.Store.{Store}
 use Rattle.djq_machine.specs.declared.machine.Loaded.TheVariants.{Ran as ran}
 use Rattle.djq_machine.specs.Loading.{Loading, loading}
@@ -136,7 +137,7 @@ module _ (old : Loading) (l : Bytes) (new : Loading) (step : ReplayStep old l ra
       (λ inside. line_sound old l new (step_loads old l ran new inside step) sound)
       (λ line is was.
       let mid = restored_sound old.store line step.mid.store
-      (line_counted (natural_of (number_part l)) (counted_part l) line is) was.restores sound.store in
+      (line_counted (option_map capped (natural_of (number_part l))) (counted_part l) line is) was.restores sound.store in
       of_batch IsSoundLoading new None (ap (λ (k : Loading). k.batch) step.after ∙ was.still)
       (closed_sound new.store
       (subst IsSoundStore new_store (moved_store step.mid.store step.relations step.reordered mid))))

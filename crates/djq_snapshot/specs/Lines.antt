@@ -4,10 +4,12 @@
 --     copied  = number " add" name literal *literal        a row with so many copies
 --     changes = number " changes"                          so many changes
 --
--- The number has digits alone, and is the first byte of the line, so no line of the protocol begins so.
-use Rattle.std.specs.Prelude.{ℕ, List, [], ◌∷◌, ◌==◌, ◌≡◌, Option, None, Some, if◌then◌else◌, codes}
+-- The number has digits alone, and stands first, so no line of the protocol begins so. One past 64 bits stands for the greatest
+-- of 64 bits.
+use Rattle.std.specs.Prelude.{ℕ, List, [], ◌∷◌, ◌==◌, ◌≡◌, Option, None, Some, if◌then◌else◌, option_map, codes}
 use Rattle.djq_model.specs.Data.{Bytes, bytes_eq}
 use Rattle.djq_value.specs.Literal.{natural_of}
+use Rattle.djq_value.specs.Number.{capped}
 use Rattle.djq_protocol.specs.declared.command.Command.TheVariants.{Rel, Add, Query as Register, Union}
 use Rattle.djq_protocol.specs.Grammar.{Reading, outside, says_command, reading_of}
 use Rattle.djq_snapshot.specs.Snapshot.{SnapshotLine, says_relation, says_row, says_query, says_union, says_changes}
@@ -34,7 +36,7 @@ counted_line (Some n) part = if bytes_eq part (codes "changes") then Some (says_
 
 -- What a line outside the protocol says of a store, if it is one of the two.
 abbrev pub snapshot_line_of : Bytes → Option SnapshotLine
-snapshot_line_of line = counted_line (natural_of (number_part line)) (counted_part line)
+snapshot_line_of line = counted_line (option_map capped (natural_of (number_part line))) (counted_part line)
 
 -- the line is one of the two, and says this
 abbrev pub IsLogLineOf : Bytes → SnapshotLine → Type 0
