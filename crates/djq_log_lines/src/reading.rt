@@ -3,7 +3,7 @@ ghost use Rattle.djq_snapshot.specs.Lines.{number_part, counted_part};
 ghost use Rattle.djq_log_lines.specs.Reading.{ReadsLogLine};
 
 use djq_model::Value;
-use djq_parser::{LineRefusal, RowLine, read_row};
+use djq_parser::{LineRefusal, RowLine, RowWord, read_row};
 use djq_value::{is_text, read_natural};
 use std::alloc::Global;
 
@@ -59,9 +59,10 @@ pub fn read_log_line<'a>(alloc: Global, line: &'a [u8], row: &mut Vec<Value>) ->
     }
     match read_row(alloc, part, row) {
         RowLine::Add(name) => LogLine::Copies(number, name),
-        RowLine::Refused(_word, LineRefusal::NoMem) => LogLine::NoMem,
         RowLine::Del(_name) => LogLine::Other,
-        RowLine::Refused(_word, LineRefusal::Syntax | LineRefusal::Range) => LogLine::Other,
+        RowLine::Refused(RowWord::Add, LineRefusal::NoMem) => LogLine::NoMem,
+        RowLine::Refused(RowWord::Add, LineRefusal::Syntax | LineRefusal::Range) => LogLine::Other,
+        RowLine::Refused(RowWord::Del, _refusal) => LogLine::Other,
         RowLine::Other => LogLine::Other,
     }
 }

@@ -1,6 +1,10 @@
 -- What begins with no keyword of a row adds none.
-use Rattle.std.proofs.Common.{◌∙◌, sym}
-use Rattle.djq_log_lines.proofs.Others.{other_line}
+use Rattle.std.proofs.Common.{◌∙◌, sym, ap, subst}
+use Rattle.std.specs.Prelude.{Some, Err}
+use Rattle.djq_parser.specs.Reading.{LineReadsAs}
+use Rattle.djq_parser.specs.declared.refusal.LineRefusal.{LineRefusal}
+use Rattle.djq_parser.specs.declared.row.RowWord.{RowWord}
+use Rattle.djq_log_lines.proofs.Others.{other_line, deleting_line, wanted_line}
 use Rattle.djq_log_lines.proofs.reading.read_log_line.Goals as goal
 
 pub returns-in-Other : goal.returns-in-Other
@@ -9,3 +13,19 @@ returns-in-Other c =
     (sym c.in-Some.ensures) c.space_at-at.ensures.number
     (c.after_space-part.ensures ∙ c.space_at-at.ensures.counted) (sym c.is_text.ensures ∙ c.if-is_text.false)
     c.in-Other.ensures.0
+
+pub returns-in-Refused-Del-default : goal.returns-in-Refused-Del-default
+returns-in-Refused-Del-default c =
+    deleting_line c.args.line.now _ c.after_space-part.result.now c.in-Some.number
+    (sym c.in-Some.ensures) c.space_at-at.ensures.number
+    (c.after_space-part.ensures ∙ c.space_at-at.ensures.counted) (sym c.is_text.ensures ∙ c.if-is_text.false)
+    (c.in-Refused-Del-default.ensures.0 ∙ ap (λ (verb : RowWord). Some verb) c.in-Refused-Del-default.field-0-is)
+
+pub returns-in-Refused-Add-NoMem : goal.returns-in-Refused-Add-NoMem
+returns-in-Refused-Add-NoMem c =
+    wanted_line c.args.line.now _ c.after_space-part.result.now c.in-Some.number
+    (sym c.in-Some.ensures) c.space_at-at.ensures.number
+    (c.after_space-part.ensures ∙ c.space_at-at.ensures.counted) (sym c.is_text.ensures ∙ c.if-is_text.false)
+    (c.in-Refused-Add-NoMem.ensures.0 ∙ ap (λ (verb : RowWord). Some verb) c.in-Refused-Add-NoMem.field-0-is)
+    (subst (λ (r : LineRefusal). LineReadsAs c.after_space-part.result.now (Err r)) c.in-Refused-Add-NoMem.field-1-is
+    c.in-Refused-Add-NoMem.ensures.1)
