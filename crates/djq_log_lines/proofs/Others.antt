@@ -1,12 +1,13 @@
 -- A line that adds no row after its number says nothing that a log says.
-use Rattle.std.proofs.Common.{◌≡◌, ℕ, List, [], ◌∷◌, Bool, true, false, cond, refl, sym, ap, ap₂, ◌∙◌}
-use Rattle.std.specs.Prelude.{Option, None, Some, Err, is_some, option_map, codes}
+use Rattle.std.proofs.Common.{◌≡◌, ℕ, List, [], ◌∷◌, ◌≤◌, length, arith, Bool, true, false, cond, refl, sym, ap, ap₂, ◌∙◌}
+use Rattle.std.specs.Prelude.{◌||◌, ◌==◌, nat_le, Ok, Option, None, Some, Err, is_some, option_map, codes}
 use Rattle.std.specs.Str.{is_utf8}
-use Rattle.std.proofs.lemmas.Bool.{false≢true}
+use Rattle.std.proofs.lemmas.Bool.{false≢true, and_parts, leb-true}
 use Rattle.djq_model.specs.declared.relation.CountedRow.{CountedRow}
 use Rattle.djq_model.specs.Data.{Bytes, Tuple, bytes_eq}
 use Rattle.djq_value.specs.Token.{Token, tokens, word, text, open_paren, close_paren, comma, arrow, operator, stray}
-use Rattle.djq_value.specs.Literal.{natural_of, literal_of}
+use Rattle.djq_value.specs.Literal.{natural_of, literal_of, is_name, is_lower, is_digit}
+use Rattle.std.specs.List.{list_all}
 use Rattle.djq_value.specs.Number.{capped}
 use Rattle.djq_protocol.specs.declared.command.Command.{Command}
 use Rattle.djq_protocol.specs.declared.command.Command.TheVariants.{Add}
@@ -122,3 +123,22 @@ wanted_line line front part n is front_is part_is other adds reads = by (command
               ∙ ap (λ (b : Bool). copied_row n (cond b (says_command c) (past_limit c))) g.0
               ∙ ap (λ (k : Command). copied_row n (says_command k)) said.2,
         )
+
+-- ---- The name of a row's relation.
+
+name_short : (name : Bytes) → is_name name ≡ true → length name ≤ 32
+name_short [] e = omega arith
+name_short (b ∷ bs) e =
+    let more = and_parts (is_lower b) _ e in
+    let few = and_parts (list_all (λ c. is_lower c || is_digit c || c == 95) bs) (nat_le (length bs) 31) more.1 in
+    omega (arith, leb-true (length bs) 31 few.1)
+
+pub short_name : (part name : Bytes) (row : Tuple) → LineReadsAs part (Ok (Add name row)) → length name ≤ 32
+short_name part name row reads = by (command_of part) refl reads
+  where
+    by : (o : Option Command) → command_of part ≡ o → GivesCommand o (Ok (Add name row)) → length name ≤ 32
+    by None e g = absurd (cc g.0)
+    by (Some c) e g =
+        let said : command_of part ≡ Some (Add name row) = e ∙ ap (λ (k : Command). Some k) (sym g.0.0) in
+        let says = (commands_are_said (tokens part) (Add name row)).0 (in_tokens part (Add name row) said) in
+        name_short name says.1.1

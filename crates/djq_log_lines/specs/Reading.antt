@@ -1,5 +1,5 @@
 -- What reading a line that only a log has answers.
-use Rattle.std.specs.Prelude.{◌≡◌, ℕ, None, Some}
+use Rattle.std.specs.Prelude.{◌≡◌, ◌≤◌, ℕ, None, Some, length}
 use Rattle.djq_model.specs.declared.relation.CountedRow.{CountedRow}
 use Rattle.djq_model.specs.Data.{Bytes, Tuple}
 use Rattle.djq_value.specs.Literal.{natural_of}
@@ -16,6 +16,11 @@ ReadsLogLine line (Copies n name) row =
 ReadsLogLine line (Changes n) row = snapshot_line_of line ≡ Some (says_changes n)
 ReadsLogLine line Other row = snapshot_line_of line ≡ None
 ReadsLogLine line NoMem row = (name : Bytes) × (c : CountedRow) × (snapshot_line_of line ≡ Some (says_row name c))
+
+-- The name of a relation has at most 32 bytes.
+abbrev pub NamesShortly : LogLine → Type 0
+NamesShortly (Copies n name) = length name.now ≤ 32
+NamesShortly _ = Unit {0}
 
 -- A line that begins with a number is no line of the protocol.
 abbrev pub CountedLinesAreOutside : Type 0

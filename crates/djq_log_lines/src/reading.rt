@@ -1,6 +1,6 @@
 ghost use Rattle.std.specs.Prelude.{◌≡◌, ◌+◌, ◌≤◌, length, take, drop};
 ghost use Rattle.djq_snapshot.specs.Lines.{number_part, counted_part};
-ghost use Rattle.djq_log_lines.specs.Reading.{ReadsLogLine};
+ghost use Rattle.djq_log_lines.specs.Reading.{ReadsLogLine, NamesShortly};
 
 use djq_model::Value;
 use djq_parser::{LineRefusal, RowLine, RowWord, read_row};
@@ -47,7 +47,8 @@ fn after_space(line: &[u8], at: usize) -> &[u8]
 
 /// Reads a line that only a log has. The values of its row replace those in `row`.
 pub fn read_log_line<'a>(alloc: Global, line: &'a [u8], row: &mut Vec<Value>) -> LogLine<'a>
-    ensures { ReadsLogLine line.now result row.new.items }
+    ensures reads { ReadsLogLine line.now result row.new.items }
+    ensures name { NamesShortly result }
 {
     let at = space_at(line);
     let Some(number) = read_natural(&line[..at]) else {
