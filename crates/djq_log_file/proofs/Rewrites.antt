@@ -18,7 +18,7 @@ use Rattle.djq_log_file.specs.Standing.{EndsRead, stored_lines, stored_groups}
 use Rattle.djq_log_file.specs.Laying.{HasGoneOn}
 use Rattle.djq_log_file.specs.Making.{first_record_place}
 use Rattle.djq_log_file.specs.Rewriting.{HasRewritten, ChangesNext, BeginsHeader, AppendsNext, AppendsHead, EndsNext}
-use Rattle.djq_log_file.specs.Rewriting.{BeginsRewriting, Gathers, WritesGathered, PutsLine, IsReplacedBy, Rewrites, RewritesAfter}
+use Rattle.djq_log_file.specs.Rewriting.{BeginsRewriting, GathersLine, WritesGathered, PutsLine, IsReplacedBy, Rewrites, RewritesAfter}
 use Rattle.djq_log_file.specs.declared.rewriter.LinePut.{LinePut}
 use Rattle.djq_log_file.specs.declared.rewriter.LinePut.TheVariants.{Put, Failed as Unput, Full}
 use Rattle.djq_log_file.specs.declared.rewriter.LogRewritten.TheVariants.{Done as Rewritten, Left, InDoubt}
@@ -131,7 +131,7 @@ rewriting_begun place old new is begins = (
 
 -- a line is gathered after those before it
 pub line_gathered : (lines : List (List ℕ)) (line : List ℕ) (place place' : RewritingPlace) (h : History) → IsLogLine line
-    → Gathers line place place' → HasRewritten lines place h → HasRewritten (lines ++ line ∷ []) place' h
+    → GathersLine line place place' → HasRewritten lines place h → HasRewritten (lines ++ line ∷ []) place' h
 line_gathered lines line place place' h is_line gathers has = record {
   stored = has.stored;
   are_stored = has.are_stored;
@@ -263,7 +263,7 @@ none_written place place' h same = subst (λ (p : RewritingPlace). WritesGathere
     (record { beside = beside_none h; writes = λ e lines has. has })
 
 -- A line is put where there was room,
-pub put_gathered : (line : List ℕ) (place place' : RewritingPlace) (h : History) → IsLogLine line → Gathers line place place'
+pub put_gathered : (line : List ℕ) (place place' : RewritingPlace) (h : History) → IsLogLine line → GathersLine line place place'
     → PutsLine Put line place place' h h
 put_gathered line place place' h is_line gathers = record {
   beside = beside_none h;
@@ -272,7 +272,7 @@ put_gathered line place place' h is_line gathers = record {
 
 -- or behind the record of those before it.
 pub put_after : (line : List ℕ) (place mid place' : RewritingPlace) (old new : History) → IsLogLine line
-    → WritesGathered Put place mid old new → Gathers line mid place' → PutsLine Put line place place' old new
+    → WritesGathered Put place mid old new → GathersLine line mid place' → PutsLine Put line place place' old new
 put_after line place mid place' old new is_line writes gathers = record {
   beside = writes.beside;
   puts = λ e lines has. line_gathered lines line mid place' new is_line gathers (writes.writes refl lines has);

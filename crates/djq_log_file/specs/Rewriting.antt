@@ -60,7 +60,7 @@ BeginsRewriting Unbegun old new = ChangesNext old new
 BeginsRewriting NoMemory old new = new ≡ old
 
 -- A line more is gathered.
-pub record Gathers (line : List ℕ) (old new : RewritingPlace) : Type 0 where
+pub record GathersLine (line : List ℕ) (old new : RewritingPlace) : Type 0 where
   pub end : new.end ≡ old.end
   pub body : new.body ≡ old.body ++ line_entry line
   pub measure : (digest : ℕ) (lines : List (List ℕ)) → old.measure ≡ measured digest lines

@@ -4,7 +4,7 @@ ghost use Rattle.djq_disk.specs.History.{WhereHistoryTold};
 ghost use Rattle.djq_log_format.specs.Encoding.{measured};
 ghost use Rattle.djq_log_file.specs.Appending.{FitsLogLine};
 ghost use Rattle.djq_log_file.specs.Making.{first_record_place};
-ghost use Rattle.djq_log_file.specs.Rewriting.{BeginsRewriting, Gathers, WritesGathered, PutsLine, RewritesAfter};
+ghost use Rattle.djq_log_file.specs.Rewriting.{BeginsRewriting, GathersLine, WritesGathered, PutsLine, RewritesAfter};
 ghost use Rattle.djq_log_file.specs.Rewriting.{CountsRewriteBegun, CountsLinePut, CountsRewritten};
 ghost use Rattle.djq_log_file.specs.declared.limits.TheConstants.{LAST_LOG_GATE, BODY_BYTES};
 
@@ -112,7 +112,7 @@ impl LogRewriter {
     fn gather(&mut self, line: &[u8])
         requires short { length line.now ≤ 65535 }
         requires room { length self.old.body + (2 + length line.now) ≤ BODY_BYTES }
-        ensures gathers { Gathers line.now self.old self.new }
+        ensures gathers { GathersLine line.now self.old self.new }
         ensures bytes { AllByRecursion (λ byte. byte < 256) line.now }
     {
         let end = self.filled + 2 + line.len();
