@@ -16,7 +16,7 @@ use Rattle.djq_model.specs.Data.{Bytes, Tuple, bytes_eq, relation_of, has_row, c
 use Rattle.djq_model.specs.Typed.{is_of, fits}
 use Rattle.djq_model.specs.Known.{texts_in, knows_all, all_learned}
 use Rattle.djq_index.specs.Entries.{supports_of}
-use Rattle.djq_protocol.specs.declared.limits.TheConstants.{COLUMNS, RELATIONS}
+use Rattle.djq_protocol.specs.declared.limits.TheConstants.{COLUMNS, RELATIONS, COPIES}
 use Rattle.djq_protocol.specs.declared.answer.AddOutcome.{AddOutcome}
 use Rattle.djq_protocol.specs.declared.answer.DeleteOutcome.{DeleteOutcome}
 use Rattle.djq_database.specs.declared.refusal.RowsRefusal.{RowsRefusal}
@@ -29,6 +29,7 @@ use Rattle.djq_database.specs.Catalog.{IsKeptRelation, IsCatalog}
 use Rattle.djq_database.specs.Changes.{FindsRelation, AddsRowAt, DeletesRowAt}
 use Rattle.djq_database.specs.Parts.{tuples_of, relation_in, relations_of, kept_at, no_kept, catalog_of, AreWithin}
 use Rattle.djq_database.specs.Parts.{RelationIsSound, IsParts}
+use Rattle.djq_database.specs.Copying.{GivesTuple, GivesCopiesAt}
 use Rattle.djq_database.specs.Tuples.{HasTuple, AddsTuple, DeletesTuple}
 use Rattle.djq_database.proofs.Cells.{Grown, grown_is, all_grown, all_different, eq_refl, learns_is, unknown}
 use Rattle.djq_database.proofs.Cells.{are_within, within_long, unknown_row, lacking}
@@ -37,6 +38,7 @@ use Rattle.djq_database.proofs.Slots.{no_apart}
 use Rattle.djq_database.proofs.Relations.{rows_is, types_is, name_is, relations_long, sound_at, sound_set, sound_push}
 use Rattle.djq_database.proofs.Relations.{sounds_grown, relations_grown, names_set, names_are, found_named, none_named}
 use Rattle.djq_database.proofs.Relations.{has, copies, copies_tell, added, deleted, added_sound, deleted_sound}
+use Rattle.djq_database.proofs.Relations.{recounted_rows, recounted_sound}
 use Rattle.djq_database.proofs.Relations.{sound_kept}
 
 -- a place
@@ -150,6 +152,25 @@ pub delete_parts : (p q : Parts) (at : ℕ) (j k : Kept) (u : List ℕ) (r : Del
     → k.name ≡ j.name → k.types ≡ j.types → DeletesTuple j.rows u r k.rows → IsParts q
 delete_parts p q at j k u r h low e texts names kept n t a = changed_parts p q at j k h low e texts
     names kept n (λ s. deleted_sound p.texts j k u r t s a)
+
+pub recount_done : (texts : List Bytes) (ks : List Kept) (at : ℕ) (j k : Kept) (u : List ℕ) (copies : ℕ) (there : Bool)
+    → AllDifferent texts → AllByRecursion (RelationIsSound texts) ks → at < length ks → j ≡ kept_at ks at
+    → k.name ≡ j.name → k.types ≡ j.types → GivesTuple j.rows u copies there k.rows → (row : Tuple)
+    → StandFor texts (relation_at (relations_of texts ks) at).types u row
+    → GivesCopiesAt (relations_of texts ks) at row copies there (relations_of texts (set ks at k))
+recount_done texts ks at j k u copies there d s low e n t a row stand =
+    recounted_rows texts ks at k u row d low (sound_at texts ks at s low) (n ∙ ap (λ (x : Kept). x.name) e)
+    (t ∙ ap (λ (x : Kept). x.types) e)
+    (subst (λ ts. StandFor texts ts u row) (types_is texts ks at low) stand) copies there
+    (subst (λ (x : Kept). GivesTuple x.rows u copies there k.rows) e a)
+
+pub recount_parts : (p q : Parts) (at : ℕ) (j k : Kept) (u : List ℕ) (copies : ℕ) (there : Bool) → IsParts p
+    → at < length p.kept.items → j ≡ kept_at p.kept.items at → q.texts ≡ p.texts → q.names ≡ p.names
+    → q.kept.items ≡ set p.kept.items at k → k.name ≡ j.name → k.types ≡ j.types → 1 ≤ copies → copies ≤ COPIES
+    → GivesTuple j.rows u copies there k.rows → IsParts q
+recount_parts p q at j k u copies there h low e texts names kept n t some few a =
+    changed_parts p q at j k h low e texts names kept n
+    (λ s. recounted_sound p.texts j k u copies there t some few s a)
 
 -- texts become known
 

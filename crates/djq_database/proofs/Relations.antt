@@ -35,6 +35,7 @@ use Rattle.djq_database.specs.Catalog.{IsKeptRelation}
 use Rattle.djq_database.specs.Changes.{HasNoPlace, AddsRowAt, DeletesRowAt}
 use Rattle.djq_database.specs.Parts.{row_of, tuples_of, relation_in, relations_of, kept_at, no_kept, AreWithin}
 use Rattle.djq_database.specs.Parts.{RelationIsSound}
+use Rattle.djq_database.specs.Copying.{GivesTuple, GivesCopiesAt}
 use Rattle.djq_database.specs.Tuples.{HasTuple, LacksPlace, Appended, Dropped, StayApart, AddsTuple, DeletesTuple}
 use Rattle.djq_database.proofs.Cells.{Grown, eq_refl, eq_other, stand_row, stand_within, row_stands, within_grown}
 use Rattle.djq_database.proofs.Cells.{cells_back}
@@ -306,6 +307,15 @@ module _ (texts : List Bytes) (ks : List Kept) (at : ℕ) (k : Kept) (u : List �
   )
   deleted Absent e = (absent e.deletes.0, stays texts ks at k n t e.deletes.1)
 
+  pub recounted_rows : (copies : ℕ) (there : Bool) → GivesTuple (kept_at ks at).rows u copies there k.rows
+      → GivesCopiesAt (relations_of texts ks) at row copies there (relations_of texts (set ks at k))
+  recounted_rows many true e = (
+    present e.sets.0,
+    changes texts ks at k (with_copies (counted_at (relations_of texts ks) at) row many) low n t
+        (counted_rows (supports_of was u) many e.sets.1),
+  )
+  recounted_rows many false e = (absent e.sets.0, stays texts ks at k n t e.sets.1)
+
 -- and it stays sound
 
 sound_as : (texts : List Bytes) (j k : Kept) → k.types ≡ j.types → StayApart j.rows k.rows →
@@ -391,6 +401,13 @@ deleted_sound texts j k u (Left n) t s e = counted_sound texts j k u (supports_o
       most_copies j.rows.entries u s.copied s.apart e.deletes.0,
     ))
 deleted_sound texts j k u Absent t s e = same_sound texts j k t e.stay s e.deletes.1
+
+pub recounted_sound : (texts : List Bytes) (j k : Kept) (u : List ℕ) (copies : ℕ) (there : Bool) → k.types ≡ j.types
+    → 1 ≤ copies → copies ≤ COPIES → RelationIsSound texts j → GivesTuple j.rows u copies there k.rows
+    → RelationIsSound texts k
+recounted_sound texts j k u many true t some few s e =
+    counted_sound texts j k u (supports_of j.rows.entries u) many t e.stay s e.sets.1 some few
+recounted_sound texts j k u many false t some few s e = same_sound texts j k t e.stay s e.sets.1
 
 -- more texts change nothing
 

@@ -6,3 +6,4 @@ pub mod Parts
 pub mod Tuples
 pub mod Walking
 pub mod Laws
+pub mod Copying

@@ -49,6 +49,8 @@ use std::alloc::Global;
 use std::marker::Model;
 use std::sync::ledger::Ledger;
 
+mod copying;
+
 /// Relations with their rows, and the texts that are known.
 ///
 /// Contracts see the relations, whose rows are lists of values, and the list of the texts, in which

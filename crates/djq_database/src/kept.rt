@@ -3,6 +3,7 @@ ghost use Rattle.std.specs.List.{AllByRecursion};
 ghost use Rattle.djq_index.specs.Entries.{supports_of};
 ghost use Rattle.djq_database.specs.Parts.{IsCopied};
 ghost use Rattle.djq_database.specs.Tuples.{AddsTuple, DeletesTuple};
+ghost use Rattle.djq_database.specs.Copying.{GivesTuple};
 
 use crate::refusal::RowsRefusal;
 use crate::rows::Rows;
@@ -88,6 +89,28 @@ impl Kept {
                 DeleteOutcome::Last
             }
             None => DeleteOutcome::Absent,
+        }
+    }
+
+    /// Gives a row of cells this number of copies, if it is there, and tells whether it is.
+    pub fn set_copies<L: Ledger>(
+        &mut self,
+        cells: &[u64],
+        copies: u32,
+        tally: &mut Tally<L>,
+    ) -> bool
+        ensures sets { GivesTuple self.old.rows cells.now copies result self.new.rows }
+        ensures name { self.new.name ≡ self.old.name }
+        ensures types { self.new.types ≡ self.old.types }
+        ensures counted { tally.new ≤ tally.old + 2 }
+    {
+        self.rows.laws();
+        match self.rows.find(cells, tally) {
+            Some(slot) => {
+                self.rows.recount(slot, copies, tally);
+                true
+            }
+            None => false,
         }
     }
 }

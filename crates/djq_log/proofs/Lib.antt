@@ -1,3 +1,4 @@
 pub mod Keeps
 pub mod Appends
 pub mod NextLines
+pub mod Rewrites

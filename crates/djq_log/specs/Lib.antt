@@ -2,3 +2,4 @@ pub mod Lines
 pub mod Reading
 pub mod Keeping
 pub mod Logging
+pub mod Rewriting

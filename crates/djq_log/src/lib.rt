@@ -12,13 +12,16 @@
 //! A new log is of the second format, so that a start knows when it is damaged. One of the first format is read, and
 //! appended to as it is.
 //!
-//! What it isn't for: it knows nothing of what a line means, and shortens no file.
+//! [`Log::rewrite`] replaces the file by one that a [`LogRewriter`](djq_log_file::LogRewriter) wrote beside it, with lines
+//! that stand for those of the log: so a log is shortened, and one of the first format becomes one of the second.
+//!
+//! What it isn't for: it knows nothing of what a line means, and whether other lines stand for those of a log.
 //!
 //! What surprises: after an append that failed the end is lost, and a log stores lines nowhere from then on. The next
 //! start finds out whether the group is there.
 //!
 //! To read first: `specs/Lines.antt`, which lines a file opens to, and `specs/Keeping.antt`, what a crash leaves of
-//! groups that are appended one after another.
+//! groups that are appended one after another, and `specs/Rewriting.antt`, what it leaves of a rewriting.
 #![tactic(auto)]
 
 mod end;
@@ -29,10 +32,11 @@ mod source;
 
 ghost use Rattle.djq_log.specs.Lines.{IdleLogLasts, LogOpensToOne};
 ghost use Rattle.djq_log.specs.Keeping.{KeepsOn};
+ghost use Rattle.djq_log.specs.Rewriting.{RewritingGoesOn};
 
 pub use djq_journal::Group;
 pub use end::LogEnd;
-pub use log::{Kept, Log};
+pub use log::{Kept, Log, Rewritten};
 pub use opening::{LogFound, find_log};
 pub use source::{LogSource, NextLine};
 
@@ -49,4 +53,10 @@ pub fn a_log_opens_once()
 /// Groups are stored whole, one after another.
 pub fn groups_are_kept_in_order()
     ensures { KeepsOn }
+{}
+
+/// A log that is rewritten goes on from the lines that were written, and at each moment a crash leaves these or what was
+/// there before.
+pub fn a_rewritten_log_goes_on()
+    ensures { RewritingGoesOn }
 {}

@@ -4,12 +4,13 @@ ghost use Rattle.djq_disk.specs.History.{WhereHistoryTold};
 ghost use Rattle.djq_journal.specs.Format.{IsJournalLine};
 ghost use Rattle.djq_journal.specs.Passing.{HasPassed};
 ghost use Rattle.djq_log.specs.Logging.{Keeps, FillsLog, FullChangesNothing, CountsKept};
+ghost use Rattle.djq_log.specs.Rewriting.{RewritesLog, EndsRewritten, CountsLogRewritten};
 
 use crate::end::LogEnd;
 use crate::record::Record;
 use djq_disk::Disk;
 use djq_journal::{Appended, Group};
-use djq_log_file::LogAppended;
+use djq_log_file::{LogAppended, LogRewriter, LogRewritten};
 use std::marker::Model;
 
 /// Whether a group was stored.
@@ -21,6 +22,16 @@ pub enum Kept {
     Failed,
     /// The log is full. Nothing was written.
     Full,
+}
+
+/// Whether the file of a log was replaced by one that was written beside it.
+#[derive(Clone, Copy, Debug, PartialEq, Eq)]
+pub enum Rewritten {
+    All,
+    /// It is as it was.
+    Left,
+    /// The disk failed as it was replaced: it is as it was, or the other one.
+    InDoubt,
 }
 
 /// A log of lines: in a file, or nowhere. It is seen as its end.
@@ -93,6 +104,31 @@ impl Log {
                 LogAppended::Failed => Kept::Failed,
                 LogAppended::Full => Kept::Full,
             },
+        }
+    }
+
+    /// Replaces the file by the log that was written beside it, whose lines are those of the log from then on.
+    ///
+    /// Where nobody knows whether it was replaced the end is lost, as after a group that isn't stored.
+    pub fn rewrite<D: Disk>(&mut self, disk: &mut D, rewriter: LogRewriter) -> Rewritten
+        requires is_open { D.is_open disk.old ≡ true }
+        ensures is_open { D.is_open disk.new ≡ true }
+        ensures ends { EndsRewritten result self.old self.new }
+        ensures told { WhereHistoryTold (D.told disk.old) (D.told disk.new) (RewritesLog result self.old self.new
+            rewriter) }
+        ensures moments { WhereHistoryTold (D.told disk.old) (D.told disk.new) HasPassed }
+        ensures faults { CountsLogRewritten result (D.faults disk.old) (D.faults disk.new) }
+    {
+        match rewriter.finish(disk) {
+            LogRewritten::Done(end) => {
+                self.end = Some(LogEnd::Second(end));
+                Rewritten::All
+            }
+            LogRewritten::Left => Rewritten::Left,
+            LogRewritten::InDoubt => {
+                self.end = None;
+                Rewritten::InDoubt
+            }
         }
     }
 }

@@ -11,3 +11,4 @@ pub mod Appends
 pub mod Ends
 pub mod Keeps
 pub mod Makes
+pub mod Rewrites

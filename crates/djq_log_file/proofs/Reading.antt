@@ -37,7 +37,7 @@ unfolding digest_after
 after_next digest [] s = refl
 after_next digest (g ∷ gs) s = after_next (digest_behind digest g.lines) gs s
 
-lines_next : (stored : List RecordStored) (s : RecordStored) → stored_lines (stored ++ s ∷ []) ≡ stored_lines stored ++ s.lines
+pub lines_next : (stored : List RecordStored) (s : RecordStored) → stored_lines (stored ++ s ∷ []) ≡ stored_lines stored ++ s.lines
 lines_next [] s = append-nil s.lines
 lines_next (g ∷ gs) s = ap (λ (ls : List (List ℕ)). g.lines ++ ls) (lines_next gs s)
     ∙ sym (append_assoc g.lines (stored_lines gs) s.lines)
@@ -47,7 +47,7 @@ pub groups_next : (stored : List RecordStored) (s : RecordStored) → stored_gro
 groups_next [] s = refl
 groups_next (g ∷ gs) s = ap (λ (ls : List (List (List ℕ))). g.lines ∷ ls) (groups_next gs s)
 
-lines_of_groups : (stored : List RecordStored) → stored_lines stored ≡ flat_map (λ group. group) (stored_groups stored)
+pub lines_of_groups : (stored : List RecordStored) → stored_lines stored ≡ flat_map (λ group. group) (stored_groups stored)
 lines_of_groups [] = refl
 lines_of_groups (g ∷ gs) = ap (λ (ls : List (List ℕ)). g.lines ++ ls) (lines_of_groups gs)
 

@@ -8,3 +8,4 @@ pub mod Laying
 pub mod Appending
 pub mod Keeping
 pub mod Making
+pub mod Rewriting

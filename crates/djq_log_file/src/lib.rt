@@ -16,9 +16,9 @@
 //! it isn't, and the log has those and the new one. So at every moment a crash leaves a log that opens to the groups
 //! before or to those and the whole new one. No digest is a premise of that.
 //!
-//! A log is made by a [`LogMaker`], record by record, in a file whose bytes don't count: it is none before it is finished,
-//! and has the groups that were put, and no others, then. [`create_log`] makes one without groups beside the file, which
-//! it replaces in one step, if the file is unbegun: it has at most 8 bytes then, with which a header begins.
+//! [`create_log`] makes a log without groups beside the file, which it replaces in one step, if the file is unbegun: it has
+//! at most 8 bytes then, with which a header begins. A [`LogRewriter`] writes one of the lines that are put beside the
+//! file, and replaces that in the same way: at each moment a crash leaves the file as it was, or the log of just these lines.
 //!
 //! What it isn't for: it knows nothing of what a line means, and reads no log of the first format. `djq_log` reads and
 //! appends both.
@@ -27,8 +27,8 @@
 //! lost, since nobody knows whether the group is there: the next start finds out. A record is read twice. While a log is
 //! created a crash leaves the file as it was, or the new log.
 //!
-//! To read first: `specs/Standing.antt`, what was read and at which gate a log ends, `specs/Damaged.antt`, why a log is
-//! bad, `specs/Appending.antt`, and `specs/Making.antt`.
+//! To read first: `specs/Standing.antt`, what was read and where a log ends, `specs/Damaged.antt`, why a log is bad,
+//! `specs/Appending.antt`, `specs/Making.antt`, and `specs/Rewriting.antt`.
 #![tactic(auto)]
 
 mod appending;
@@ -40,9 +40,11 @@ mod group;
 mod head;
 mod limits;
 mod maker;
+mod next_file;
 mod opening;
 mod reader;
 mod record;
+mod rewriter;
 mod window;
 mod writer;
 
@@ -54,9 +56,10 @@ ghost use Rattle.djq_log_file.specs.Keeping.{KeepsGroups};
 pub use damage::Damage;
 pub use group::Group;
 pub use limits::{LAST_LOG_GATE, LOG_LINE_BYTES};
-pub use maker::{GroupPut, LogBegun, LogMade, LogMaker, create_log};
+pub use maker::{LogMade, create_log};
 pub use opening::{LogOpened, open_log};
 pub use reader::{LogLine, LogReader};
+pub use rewriter::{LinePut, LogRewriter, LogRewritten, RewriteBegun};
 pub use window::Window;
 pub use writer::{LogAppended, LogWriter};
 

@@ -36,8 +36,9 @@ impl Measure {
     pub fn add(&mut self, line: &[u8])
         requires short { length line.now ≤ 65535 }
         requires room { self.old.size + (2 + length line.now) ≤ 18446744073709551615 }
-        ensures { (digest : ℕ) (lines : List (List ℕ)) → self.old ≡ measured digest lines
+        ensures lines { (digest : ℕ) (lines : List (List ℕ)) → self.old ≡ measured digest lines
             → self.new ≡ measured digest (lines ++ line.now ∷ []) }
+        ensures size { self.new.size ≡ self.old.size + (2 + length line.now) }
     {
         self.size += 2 + line.len() as u64;
         self.digest

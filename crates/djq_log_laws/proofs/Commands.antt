@@ -485,7 +485,7 @@ line_moved b l mid rs h r = record {
 -- ---- lines
 
 -- no line
-none_there : (front : List Bytes) (line : Bytes) (behind : List Bytes) → [] ≡ front ++ line ∷ behind → ⊥
+pub none_there : (front : List Bytes) (line : Bytes) (behind : List Bytes) → [] ≡ front ++ line ∷ behind → ⊥
 none_there [] line behind e = absurd (cc (e))
 none_there (x ∷ front) line behind e = absurd (cc (e))
 
@@ -496,10 +496,10 @@ no_lines from to f = record {
   none_refused = λ front line behind e mid w n step. none_there front line behind e;
 }
 
-cons_first : (x y : Bytes) (xs ys : List Bytes) → x ∷ xs ≡ y ∷ ys → x ≡ y
+pub cons_first : (x y : Bytes) (xs ys : List Bytes) → x ∷ xs ≡ y ∷ ys → x ≡ y
 cons_first x y xs ys e = cc
 
-cons_rest : (x y : Bytes) (xs ys : List Bytes) → x ∷ xs ≡ y ∷ ys → xs ≡ ys
+pub cons_rest : (x y : Bytes) (xs ys : List Bytes) → x ∷ xs ≡ y ∷ ys → xs ≡ ys
 cons_rest x y xs ys e = cc
 
 -- a line more
@@ -552,14 +552,14 @@ pub record IsSoundLoading (a : Loading) : Type 0 where
 stays_sound : (old new : Store) → new ≡ old → IsSoundStore old → IsSoundStore new
 stays_sound old new same sound = subst IsSoundStore (sym same) sound
 
-stays_so : (old new : Loading) → new ≡ old → IsSoundLoading old → IsSoundLoading new
+pub stays_so : (old new : Loading) → new ≡ old → IsSoundLoading old → IsSoundLoading new
 stays_so old new same sound = subst IsSoundLoading (sym same) sound
 
-closed_sound : (st : Store) → IsSoundStore st → IsSoundLoading (loading st)
+pub closed_sound : (st : Store) → IsSoundStore st → IsSoundLoading (loading st)
 closed_sound st sound = record { store = sound; batch = tt }
 
 -- a command outside a batch
-command_sound : (old : Store) (c : Command) → HasParts c → (how : Loaded) (new : Store) → StoreLoads old c how new
+pub command_sound : (old : Store) (c : Command) → HasParts c → (how : Loaded) (new : Store) → StoreLoads old c how new
     → IsSoundStore old → IsSoundStore new
 command_sound old (Rel name types) parts how new (r, made, e) sound =
     stored_sound (λ q. false) old new (rel_stored (λ q. false) old new name types r parts made) sound
@@ -645,7 +645,7 @@ reading_sound old l (says_command c) is how new (inl h) sound = by old.batch ref
     by None e = outside_sound old.store l c (said_parts l c is) how new (loads None e) sound.store
     by (Some held) e = within_sound old.store held l c is how new (loads (Some held) e) (at (Some held) e)
 
-line_sound : (old : Loading) (line : Bytes) (new : Loading) → LoadStep old line ran new → IsSoundLoading old
+pub line_sound : (old : Loading) (line : Bytes) (new : Loading) → LoadStep old line ran new → IsSoundLoading old
     → IsSoundLoading new
 line_sound old line new h sound =
     let mid = reading_sound old line (reading_of line) refl ran h.mid h.loads sound in

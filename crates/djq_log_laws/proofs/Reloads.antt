@@ -425,7 +425,7 @@ kept_lines_load old (d ∷ done) new w sound from f =
 
 -- ---- Lines that were found and loaded, and what a run kept behind them.
 
-not_ran : (r : Refusal) → ran ≡ refused_by r → ⊥
+pub not_ran : (r : Refusal) → ran ≡ refused_by r → ⊥
 not_ran NoMemory e = absurd (cc (e))
 not_ran _ e = absurd (cc (e))
 
@@ -513,7 +513,7 @@ loaded_again a l c to h b f = by a.batch refl
         of_batch (λ (k : Loading). CommandRespects k l c to) b (Some held) (f.batch ∙ e)
         (open_loaded a.store held l c to (at (Some held) e) b.store f.store)
 
-line_loaded : (a : Loading) (l : Bytes) (to : Loading) → LoadStep a l ran to → (b : Loading) → LoadingFollows a b
+pub line_loaded : (a : Loading) (l : Bytes) (to : Loading) → LoadStep a l ran to → (b : Loading) → LoadingFollows a b
     → LineRespects b l to
 line_loaded a l to step b f = by (reading_of l) refl step.loads
   where
@@ -535,7 +535,7 @@ found_loads from (l ∷ ls) mid w other f rest to more =
     one_line other l (ls ++ rest) w.0 to (line_loaded from l w.0 w.1 other f)
     (λ b k. found_loads w.0 ls mid w.2 b k rest to more)
 
-opening_follows : StoreFollows opening.store opening.store
+pub opening_follows : StoreFollows opening.store opening.store
 opening_follows = record {
   same = record { relations = tt; queries = refl; seq = refl };
   rows = All-nil HasRowsOnce;
@@ -629,7 +629,7 @@ did_more old d done new w first groups e at = record {
   kept = ap (λ (gs : List Group). gs ++ groups_of at.earlier) e ∙ ap (λ (gs : List Group). first ++ gs) at.kept;
 }
 
-stood_at : (old : State) (done : List Did) (new : State) → Run old done new → (whole later : List Group)
+pub stood_at : (old : State) (done : List Did) (new : State) → Run old done new → (whole later : List Group)
     → groups_of done ≡ whole ++ later → StoodAt old done new whole
 stood_at old done new w [] later e = at_start old done new w
 stood_at old [] new w (g ∷ gs) later e = absurd (cc (e))

@@ -9,3 +9,6 @@ mod CarriedLines
 mod Runs
 mod Restored
 mod Example
+pub mod Replays
+pub mod Replayed
+pub mod ReplayedStores

@@ -198,6 +198,7 @@ module _ (st : Store) (sound : IsSoundStore st) (whole : IsRestorable st) where
 
       row_restored : RestoresRow (at first) r.name c (at (first ++ c ∷ []))
       row_restored = record {
+        alone = refl;
         suits = it_suits;
         absent = it_is_new;
         copies = holds_of_it (λ (x : CountedRow). IsCopyCount x.copies) r.rows first c rest k is_sound.copies;

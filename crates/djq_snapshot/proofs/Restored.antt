@@ -40,7 +40,7 @@ row_restorable st name c w =
     (rows_still st.texts texts (still_known st.texts (texts_in c.row)) (rows_of st.relations name)
     (rows_known st name w)) (learned_each st.texts (texts_in c.row)))) w
 
-line_restorable : (old : Store) (line : SnapshotLine) (new : Store) → Restores old line new → IsRestorable old
+pub line_restorable : (old : Store) (line : SnapshotLine) (new : Store) → Restores old line new → IsRestorable old
     → IsRestorable new
 line_restorable old (says_relation name types) new m w = store_restorable old (Rel name types) new (Ok tt, m, refl) w
 line_restorable old (says_row name c) new m w = subst IsRestorable (sym m.is) (row_restorable old name c w)

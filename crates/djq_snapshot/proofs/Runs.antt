@@ -151,7 +151,7 @@ reading_restorable old l (says_command c) new (inl h) w = by old.batch refl
     by None e = outside_restorable old.store l c new (loads None e) w
     by (Some held) e = within_restorable old.store held l c new (loads (Some held) e) w
 
-line_restorable : (old : Loading) (line : Bytes) (new : Loading) → LoadStep old line ran new
+pub line_restorable : (old : Loading) (line : Bytes) (new : Loading) → LoadStep old line ran new
     → IsRestorable old.store → IsRestorable new.store
 line_restorable old line new h w =
     loads_so (record h.mid { store = record h.mid.store { relations = h.relations } }) new h.after

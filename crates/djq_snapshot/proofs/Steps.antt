@@ -246,6 +246,7 @@ module _ (a : Store) (name : Bytes) (c : CountedRow) (to : Store) (m : RestoresR
     can = (
       with_it b,
       record {
+        alone = f.same.queries ∙ m.alone;
         suits = types_suit a b (types_moved a.relations b.relations f.same.relations) name c.row m.suits;
         absent = is_absent;
         copies = m.copies;
@@ -266,7 +267,7 @@ module _ (a : Store) (name : Bytes) (c : CountedRow) (to : Store) (m : RestoresR
 
 -- ---- Lines that restored a store do so again.
 
-line_again : (a : Store) (line : SnapshotLine) (to : Store) → Restores a line to → Takes a line to
+pub line_again : (a : Store) (line : SnapshotLine) (to : Store) → Restores a line to → Takes a line to
 line_again a (says_relation name types) to m = rel_brings a name types to m
 line_again a (says_row name c) to m = row_brings a name c to m
 line_again a (says_query q) to (most, m) = query_brings a q most to m

@@ -1,2 +1,5 @@
 pub mod Snapshot
 pub mod Restorable
+pub mod Lines
+pub mod Replaying
+pub mod Replayed

@@ -59,9 +59,10 @@ snapshot_of st =
 
 -- ---- What restoring it does.
 
--- A row that suits its relation and isn't there gets in, with its copies. Its texts become known, and
--- the number of changes stays.
+-- Before the first query a row that suits its relation and isn't there gets in, with its copies. Its texts
+-- become known, and the number of changes stays.
 pub record RestoresRow (old : Store) (name : Bytes) (c : CountedRow) (new : Store) : Type 0 where
+  pub alone : old.queries ≡ []
   pub suits : suit_refusal old name c.row ≡ None
   pub absent : has_row (rows_of old.relations name) c.row ≡ false
   pub copies : IsCopyCount c.copies

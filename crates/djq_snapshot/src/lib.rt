@@ -13,9 +13,18 @@
 //! five changes                     five changes
 //! ```
 //!
-//! What this crate is not: it writes no lines and reads none. A line of a snapshot is data here and not
-//! bytes, and no code uses this crate yet. It states what whoever writes a snapshot in place of a log, and
-//! restores it at the next start, may rely on.
+//! What this crate is not: it writes no lines and reads none, and no code uses it yet. It states what whoever
+//! writes a snapshot in place of a log, and restores it at the next start, may rely on. There, in bytes
+//! (`specs/Lines.antt`), relations, queries and unions are lines of the protocol, and rows and the number of
+//! changes are two kinds of line that only a log has:
+//!
+//! ```text
+//! rel r int
+//! 2 add r 7
+//! 1 add r 8
+//! query q(x) <- r(x)
+//! 5 changes
+//! ```
 //!
 //! What surprises: all rows precede the first query. So a query is registered once over its rows, and each
 //! union after its members. A snapshot doesn't list which texts are known: those that no row and no query has
@@ -23,16 +32,18 @@
 //! sound store isn't enough: in one, queries could have faults, unions could precede their members, and the
 //! texts of rows could be unknown. `IsRestorable` excludes that, and every run preserves it.
 //!
-//! Inside, `specs/Snapshot.antt` defines the lines of a snapshot and what restoring them does to a store, and
-//! `specs/Restorable.antt` has the laws. For each prefix of the lines `proofs/Parts.antt` has the part of the
-//! store that they restore: each line leads from a store that follows one part to a store that follows the
-//! next.
+//! Inside, `specs/Snapshot.antt` defines the lines of a snapshot and what restoring them does to a store,
+//! `specs/Restorable.antt` has the laws, `specs/Replaying.antt` what a start does with the lines of a log that
+//! may begin with a snapshot, and `specs/Replayed.antt` the laws on that. For each prefix of the lines `proofs/Parts.antt` has the part of the
+//! store that they say: each line takes a store that follows one part to a store that follows the next.
 #![tactic(auto)]
 
 ghost use Rattle.djq_snapshot.specs.Restorable.{SnapshotRestores, FollowersRestore, RestoredAgain};
 ghost use Rattle.djq_snapshot.specs.Restorable.{OpeningIsRestorable, RunsStayRestorable, LoadsStayRestorable};
 ghost use Rattle.djq_snapshot.specs.Restorable.{RunsRestore, FollowersAreSound, RestoredIsRestorable};
 ghost use Rattle.djq_snapshot.specs.Restorable.{RewrittenLogsLoad};
+ghost use Rattle.djq_snapshot.specs.Replayed.{LoadedAreReplayed, SnapshotReplays, ReplayedAgain};
+ghost use Rattle.djq_snapshot.specs.Replayed.{ReplayedIsStart, StopsReplay};
 
 /// A snapshot restores its store, from nothing: the same relations, each with its rows and their copies in
 /// some order, the same queries and unions in their order, and the same number of changes. No condition
@@ -77,4 +88,32 @@ pub fn restored_is_restorable()
 /// from there logged load after it, and give what the run left.
 pub fn rewritten_logs_load()
     ensures { RewrittenLogsLoad }
+{}
+
+/// Lines of the protocol that load are replayed so.
+pub fn loaded_are_replayed()
+    ensures { LoadedAreReplayed }
+{}
+
+/// The lines of a store's snapshot, replayed from nothing, are all accepted and give a store that follows it: the same rows
+/// with the same copies, in some order, the same queries, unions and number of changes.
+pub fn snapshot_replays()
+    ensures { SnapshotReplays }
+{}
+
+/// Lines that were replayed from nothing are so whenever they are replayed.
+pub fn replayed_again()
+    ensures { ReplayedAgain }
+{}
+
+/// What a restart gives: the lines that give the store from which a run began, as those of its snapshot, and the first
+/// groups that the run logged, whole, give what it had when it had logged just these.
+pub fn stops_replay()
+    ensures { StopsReplay }
+{}
+
+/// What lines, found at a start, give is a state to start from, if they leave no batch open; and a snapshot of its store
+/// restores it.
+pub fn replayed_is_start()
+    ensures { ReplayedIsStart }
 {}

@@ -40,7 +40,7 @@ loop-line-preserved g c =
     record {
       end = omega (arith, next, inv.end);
       within = omega arith;
-      is_measured = c.add.ensures c.args.digest (take i lines) inv.is_measured
+      is_measured = c.add.ensures.lines c.args.digest (take i lines) inv.is_measured
           ∙ ap (λ (ls : List (List ℕ)). measured c.args.digest ls) (sym (taken_line lines i line c.in-Some.ensures));
       are_lines = more_lines lines i line c.in-Some.ensures inv.are_lines c.requires c.entry_size-size.ensures.bytes;
       few = omega (arith, inv.few);

@@ -6,8 +6,8 @@ use Rattle.djq_log_format.specs.Encoding.{Measured}
 use Rattle.djq_log_format.proofs.Measuring.{measured_next}
 use Rattle.djq_log_format.proofs.encoding.Measure.add.Goals as goal
 
-pub returns : goal.returns
-returns c digest lines is =
+pub returns-clause-lines : goal.returns-clause-lines
+returns-clause-lines c digest lines is =
     let line = c.args.line.now in
     let head : List ℕ = length line / 256 ∷ length line % 256 ∷ [] in
     let old : Measured = record { size = c.self.inside.size; digesting = c.self.inside.digest } in
