@@ -1,6 +1,6 @@
 -- What a change of rows tells the sessions that watch queries.
 use Rattle.std.specs.Prelude.{ℕ, List, [], ◌∷◌, ◌==◌, ◌≡◌, ◌++◌, ◌⊎◌, ◌&&◌, Bool, true, false, not, nat_lt, Option, None}
-use Rattle.std.specs.Prelude.{Some, IsSomeAnd, MatchOption, if◌then◌else◌, length, filter, map}
+use Rattle.std.specs.Prelude.{Some, IsSomeAnd, MatchOption, if◌then◌else◌, length, filter}
 use Rattle.std.specs.List.{list_any}
 use Rattle.djq_model.specs.Data.{Bytes, bytes_eq}
 use Rattle.djq_model.specs.Listed.{Listed, listed_name}
@@ -40,9 +40,14 @@ abbrev pub is_too_slow : State → RowsChange → Session → Bool
 is_too_slow st change x =
     is_behind x && list_any (λ q. is_outdated change q && is_watching (listed_name q) x) st.store.queries
 
+-- the same of the session of an id, if it is there
+abbrev pub is_slow_one : State → RowsChange → Option Session → Bool
+is_slow_one st change None = false
+is_slow_one st change (Some x) = is_too_slow st change x
+
 -- the ids of the sessions that it ends, in rising order
 abbrev pub too_slow : State → RowsChange → List ℕ
-too_slow st change = map (λ (x : Session). x.id) (filter (is_too_slow st change) st.sessions)
+too_slow st change = filter (λ s. is_slow_one st change (session_of st s)) (state_ids st)
 
 -- How far a change has been told: the state, and the parts that this step has queued so far.
 pub record Telling : Type 0 where
