@@ -246,14 +246,14 @@ module _ (s : ℕ) where
   over_ends m t text cause may there over = over_stays m.state t cause s (t == s) refl there over
 
   slow_over : (ss : List ℕ) (m : Telling) → All (λ t. IsOpen m.state t) ss → Contains ss s → Over (ends_slow m ss)
-  slow_over [] m open c = absurd (nothing_there s c)
-  slow_over (t ∷ ss) m open c = by (t == s) refl
+  slow_over [] m all c = absurd (nothing_there s c)
+  slow_over (t ∷ ss) m all c = by (t == s) refl
     where
       more : Telling
       more = ends_more t end_slow Slow m
 
       rest : All (λ i. IsOpen more.state i) ss
-      rest = still_open m t ss (All-tail (λ i. IsOpen m.state i) t ss open)
+      rest = still_open m t ss (All-tail (λ i. IsOpen m.state i) t ss all)
 
       first : IsOpen m.state t
       first = All-head (λ i. IsOpen m.state i) t ss open

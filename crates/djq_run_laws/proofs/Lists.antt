@@ -493,10 +493,10 @@ module _ (P : Telling → Type 0)
 
   -- those that are too slow end
   pub slow_keeps : (ss : List ℕ) (m : Telling) → All (λ s. IsOpen m.state s) ss → P m → P (ends_slow m ss)
-  slow_keeps [] m open p = p
-  slow_keeps (s ∷ ss) m open p = slow_keeps ss (ends_more s end_slow Slow m)
-      (still_open m s ss (All-tail (λ t. IsOpen m.state t) s ss open))
-      (ends m s end_slow Slow tt (All-head (λ t. IsOpen m.state t) s ss open) p)
+  slow_keeps [] m all p = p
+  slow_keeps (s ∷ ss) m all p = slow_keeps ss (ends_more s end_slow Slow m)
+      (still_open m s ss (All-tail (λ t. IsOpen m.state t) s ss all))
+      (ends m s end_slow Slow tt (All-head (λ t. IsOpen m.state t) s ss all) p)
 
   pub delta_keeps : (n : ℕ) (m : Telling) (d : Delta) (new : Telling) → TellsDelta n m d new → P m → P new
   delta_keeps n m d new h p =
