@@ -82,7 +82,7 @@ some_of None h = absurd cc
 some_of (Some x) h = (x, refl)
 
 -- a session that ends is over, and stays so
-ended_over : (st : State) (t : ℕ) (cause : EndCause) → IsOpen st t → IsOver (with_session st t (ended_by cause)) t
+pub ended_over : (st : State) (t : ℕ) (cause : EndCause) → IsOpen st t → IsOver (with_session st t (ended_by cause)) t
 ended_over st t cause there h =
     let f = some_of (session_of st t) there in
     let e : cause_of (with_session st t (ended_by cause)) t
@@ -275,6 +275,34 @@ module _ (s : ℕ) where
       (ends_slow (beginning old (accepted change) store) (too_slow old change)) h.deltas h.told h.tells
       (slow_over (too_slow old change) (beginning old (accepted change) store) (slow_open old (accepted change) store) c))
 
+-- A session that watches a query and goes on behind an accepted change that outdates it wasn't too slow.
+pub watcher_in_time : (q : Listed) (s : ℕ) (old : State) (t : ℕ) (change : RowsChange) (store : Store) (reply : Bytes)
+    (e : Effect) (new : State)
+    → ChangeStep old t (accepted change) store reply e new → is_outdated change q ≡ true
+    → listed_of old.store.queries (listed_name q) ≡ Some q → (x : Session) → session_of old s ≡ Some x
+    → is_watching (listed_name q) x ≡ true → cause_of new s ≡ None → is_behind x ≡ false
+watcher_in_time q s old t change store reply e new h reading registered x is watches running = by (is_behind x) refl
+  where
+    there : Contains old.store.queries q
+    there = found_there (λ (p : Listed). bytes_eq (listed_name p) (listed_name q)) old.store.queries q registered
+
+    reads : list_any (λ p. is_outdated change p && is_watching (listed_name p) x) old.store.queries ≡ true
+    reads = any_there (λ p. is_outdated change p && is_watching (listed_name p) x) old.store.queries q there
+        (and_from (is_outdated change q) (is_watching (listed_name q) x) reading watches)
+
+    listed : Contains (state_ids old) s
+    listed = watcher_listed q s [] (record { state = old; queued = [] }) (rw is watches)
+
+    by : (b : Bool) → is_behind x ≡ b → b ≡ false
+    by false e = refl
+    by true behind =
+        let slow : is_slow_one old change (session_of old s) ≡ true = ap (λ o. is_slow_one old change o) is
+        ∙ and_from (is_behind x) (list_any (λ p. is_outdated change p && is_watching (listed_name p) x)
+        old.store.queries) behind reads in
+        let over = change_ends s old t change store reply e new h
+        (kept_there (λ i. is_slow_one old change (session_of old i)) (state_ids old) s slow listed) in
+        absurd (over (ap (λ (st : State). cause_of st s) (sym h.state) ∙ running))
+
 -- How an accepted change that outdates a query changed its answers is told a session that watches it, where that
 -- hasn't ended behind the change.
 pub record IsTheDelta (q : Listed) (s : ℕ) (before after : List Relation) (n : ℕ) (queued : List (ℕ × Bytes)) : Type 0
@@ -290,7 +318,29 @@ pub change_is_told : (q : Listed) (s : ℕ) (old : State) (t : ℕ) (change : Ro
     ≡ None
     → IsTheDelta q s old.store.relations change.after store.seq e.queued
 change_is_told q s old t change store reply e new h reading registered w running =
-    by (is_behind f.0) refl
+    let in_time : is_behind f.0 ≡ false = watcher_in_time q s old t change store reply e new h reading registered f.0 f.1 f.2 running in
+    let awaited : awaits (listed_name q) f.0 ≡ true =
+    and_from (is_watching (listed_name q) f.0) (not (is_behind f.0)) f.2 (ap not in_time) in
+    let watched : list_any (awaits (listed_name q)) old.sessions ≡ true =
+    any_there (awaits (listed_name q)) old.sessions f.0
+    (found_there (λ (x : Session). x.id == s) old.sessions f.0 f.1) awaited in
+    let among : Contains (affected old change) q =
+    kept_there (λ (p : Listed). is_outdated change p && list_any (awaits (listed_name p)) old.sessions)
+    old.store.queries q
+    (and_from (is_outdated change q) (list_any (awaits (listed_name q)) old.sessions) reading watched) there in
+    let d = mapped_from (λ (k : Delta). k.query) h.deltas q
+    (subst (λ (qs : List Listed). Contains qs q) (sym h.listed.of_queries) among) in
+    let part = text_of (delta_lines (listed_name q) (d.0).changes store.seq) in
+    let last = change_has q s part old t change store reply e new h d.0 d.1 d.2
+    (ap (λ (p : Listed). text_of (delta_lines (listed_name p) (d.0).changes store.seq)) d.2) w in
+    record {
+      changes = (d.0).changes;
+      delta = subst (λ (p : Listed). IsDelta (AnswersOf old.store.relations p) (AnswersOf change.after p) (d.0).changes)
+          d.2
+          (All-contains (λ (k : Delta). IsDelta (AnswersOf old.store.relations k.query) (AnswersOf change.after k.query)
+          k.changes) h.deltas d.0 h.listed.are_deltas d.1);
+      told = queued part last;
+    }
   where
     f : (x : Session) × (session_of old s ≡ Some x) × (is_watching (listed_name q) x ≡ true)
     f = some_there (session_of old s) (λ x. is_watching (listed_name q) x ≡ true) w
@@ -301,44 +351,6 @@ change_is_told q s old t change store reply e new h reading registered w running
 
     there : Contains old.store.queries q
     there = found_there (λ (p : Listed). bytes_eq (listed_name p) (listed_name q)) old.store.queries q registered
-
-    by : (b : Bool) → is_behind f.0 ≡ b → IsTheDelta q s old.store.relations change.after store.seq e.queued
-    -- it ends if it is too slow
-    by true behind =
-        let reads : list_any (λ p. is_outdated change p && is_watching (listed_name p) f.0) old.store.queries ≡ true =
-        any_there (λ p. is_outdated change p && is_watching (listed_name p) f.0) old.store.queries q there
-        (and_from (is_outdated change q) (is_watching (listed_name q) f.0) reading f.2) in
-        let slow : is_slow_one old change (session_of old s) ≡ true = ap (λ o. is_slow_one old change o) f.1
-        ∙ and_from (is_behind f.0) (list_any (λ p. is_outdated change p && is_watching (listed_name p) f.0)
-        old.store.queries) behind reads in
-        let listed : Contains (state_ids old) s = watcher_listed q s [] (record { state = old; queued = [] }) w in
-        let over = change_ends s old t change store reply e new h
-        (kept_there (λ i. is_slow_one old change (session_of old i)) (state_ids old) s slow listed) in
-        absurd (over (ap (λ (st : State). cause_of st s) (sym h.state) ∙ running))
-    -- else its delta is listed
-    by false in_time =
-        let awaited : awaits (listed_name q) f.0 ≡ true =
-        and_from (is_watching (listed_name q) f.0) (not (is_behind f.0)) f.2 (ap not in_time) in
-        let watched : list_any (awaits (listed_name q)) old.sessions ≡ true =
-        any_there (awaits (listed_name q)) old.sessions f.0
-        (found_there (λ (x : Session). x.id == s) old.sessions f.0 f.1) awaited in
-        let among : Contains (affected old change) q =
-        kept_there (λ (p : Listed). is_outdated change p && list_any (awaits (listed_name p)) old.sessions)
-        old.store.queries q
-        (and_from (is_outdated change q) (list_any (awaits (listed_name q)) old.sessions) reading watched) there in
-        let d = mapped_from (λ (k : Delta). k.query) h.deltas q
-        (subst (λ (qs : List Listed). Contains qs q) (sym h.listed.of_queries) among) in
-        let part = text_of (delta_lines (listed_name q) (d.0).changes store.seq) in
-        let last = change_has q s part old t change store reply e new h d.0 d.1 d.2
-        (ap (λ (p : Listed). text_of (delta_lines (listed_name p) (d.0).changes store.seq)) d.2) w in
-        record {
-          changes = (d.0).changes;
-          delta = subst (λ (p : Listed). IsDelta (AnswersOf old.store.relations p) (AnswersOf change.after p) (d.0).changes)
-              d.2
-              (All-contains (λ (k : Delta). IsDelta (AnswersOf old.store.relations k.query) (AnswersOf change.after k.query)
-              k.changes) h.deltas d.0 h.listed.are_deltas d.1);
-          told = queued part last;
-        }
 
 -- ---- What a step tells a session that watches a query: how its answers changed, where it changes the rows of a
 -- relation that the query reads.
