@@ -256,7 +256,7 @@ module _ (s : ℕ) where
       rest = still_open m t ss (All-tail (λ i. IsOpen m.state i) t ss all)
 
       first : IsOpen m.state t
-      first = All-head (λ i. IsOpen m.state i) t ss open
+      first = All-head (λ i. IsOpen m.state i) t ss all
 
       by : (b : Bool) → (t == s) ≡ b → Over (ends_slow more ss)
       by true e = slow_keeps Over over_says over_ends ss more rest
