@@ -247,7 +247,7 @@ module _ (s : ℕ) where
 
   slow_over : (ss : List ℕ) (m : Telling) → All (λ t. IsOpen m.state t) ss → Contains ss s → Over (ends_slow m ss)
   slow_over [] m all c = absurd (nothing_there s c)
-  slow_over (t ∷ ss) m all c = by (t == s) refl
+  slow_over (t ∷ ss) m all c = by (t == s) refl (λ k. slow_over ss more rest k)
     where
       more : Telling
       more = ends_more t end_slow Slow m
@@ -258,13 +258,13 @@ module _ (s : ℕ) where
       first : IsOpen m.state t
       first = All-head (λ i. IsOpen m.state i) t ss all
 
-      by : (b : Bool) → (t == s) ≡ b → Over (ends_slow more ss)
-      by true e = slow_keeps Over over_says over_ends ss more rest
+      by : (b : Bool) → (t == s) ≡ b → (Contains ss s → Over (ends_slow more ss)) → Over (ends_slow more ss)
+      by true e later = slow_keeps Over over_says over_ends ss more rest
           (subst (λ (i : ℕ). IsOver more.state i) (eqb-true t s e) (ended_over m.state t Slow first))
-      by false e = slow_over ss more rest (elim (first_or_later t ss s c) [
+      by false e later = elim (first_or_later t ss s c) [
         | inl here ↦ absurd (false≢true (sym e ∙ eq-eqb t s here))
-        | inr later ↦ later
-      ])
+        | inr there ↦ later there
+      ]
 
   change_ends : (old : State) (t : ℕ) (change : RowsChange) (store : Store) (reply : Bytes) (e : Effect) (new : State)
       (h : ChangeStep old t (accepted change) store reply e new) → Contains (too_slow old change) s → Over h.last

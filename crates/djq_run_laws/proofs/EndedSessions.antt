@@ -157,13 +157,13 @@ module _ (s : ℕ) where
   slow_apart : (old : State) (outcome : RowsOutcome) → Deaf (session_of old s)
       → All (λ t. (t == s) ≡ false) (ends_first old outcome)
   slow_apart old (accepted change) deaf = kept_hold (λ t. ⊤) (λ t. (t == s) ≡ false)
-      (λ t. is_slow_one old change (session_of old t)) (state_ids old) (λ t slow k. by t (t == s) refl slow)
+      (λ t. is_slow_one old change (session_of old t)) (state_ids old) (λ t late k. by t (t == s) refl late)
       (λ i d low. tt)
     where
       by : (t : ℕ) (b : Bool) → (t == s) ≡ b → is_slow_one old change (session_of old t) ≡ true → b ≡ false
-      by t true e slow = absurd (false≢true (sym (in_time old change (session_of old s) deaf)
-          ∙ ap (λ i. is_slow_one old change (session_of old i)) (sym (eqb-true t s e)) ∙ slow))
-      by t false e slow = refl
+      by t true e late = absurd (false≢true (sym (in_time old change (session_of old s) deaf)
+          ∙ ap (λ i. is_slow_one old change (session_of old i)) (sym (eqb-true t s e)) ∙ late))
+      by t false e late = refl
   slow_apart old (none_left change) deaf = All-nil (λ t. (t == s) ≡ false)
   slow_apart old unchanged deaf = All-nil (λ t. (t == s) ≡ false)
 

@@ -470,7 +470,7 @@ slow_open old (out_of_memory change) store = All-nil (λ s. IsOpen (changed old 
 slow_open old unchanged store = All-nil (λ s. IsOpen (changed old None store) s)
 
 -- sessions that are open stay so as one of them ends
-still_open : (m : Telling) (s : ℕ) (ss : List ℕ) → All (λ t. IsOpen m.state t) ss
+pub still_open : (m : Telling) (s : ℕ) (ss : List ℕ) → All (λ t. IsOpen m.state t) ss
     → All (λ t. IsOpen (with_session m.state s (ended_by Slow)) t) ss
 still_open m s ss all i d low = ended_open m.state s _ Slow (all i d low)
 
