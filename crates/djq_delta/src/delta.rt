@@ -114,6 +114,14 @@ impl Delta {
         }
     }
 
+    /// What holds of each delta. It does nothing.
+    pub fn laws(&self)
+        ensures few { self.now.pushed ≤ DELTA_LINES }
+        ensures lines { length self.now.lines ≤ self.now.pushed }
+    {
+        let _places = &self.places;
+    }
+
     /// How many lines there are.
     pub fn len(&self) -> usize
         ensures { result ≡ length self.now.lines }
