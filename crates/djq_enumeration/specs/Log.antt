@@ -60,6 +60,10 @@ log_of_delta d = record {
 abbrev pub lines_used : Log → ℕ
 lines_used log = if log.lost then DELTA_LINES + 1 else log.pushed
 
+-- So many answers changed at least, by what a log says.
+abbrev pub least_changes : Log → ℕ
+least_changes log = if log.lost then (if log.large then DELTA_LINES + 1 else 0) else log.pushed
+
 -- What holds of each log.
 pub record IsLog (log : Log) : Type 0 where
   pub few : log.lost ≡ false → log.pushed ≤ DELTA_LINES

@@ -2,7 +2,7 @@
 ghost use Rattle.std.specs.Prelude.{◌≡◌, ◌≤◌, ◌<◌, ◌+◌, ◌↔◌, [], ◌∷◌, ◌++◌, true, false, length, Some, slice_get};
 ghost use Rattle.djq_delta.specs.declared.delta.TheConstants.{DELTA_LINES, RETAINED_WORDS};
 ghost use Rattle.djq_delta.specs.Lines.{AreDistinctLines, HaveOneSign, SettlesTo};
-ghost use Rattle.djq_enumeration.specs.Log.{IsLog, signed_lines};
+ghost use Rattle.djq_enumeration.specs.Log.{IsLog, lines_used, signed_lines};
 
 use djq_delta::{Delta, DeltaStatus, MOST_WIDTH};
 use djq_reduct::Answer;
@@ -84,8 +84,7 @@ impl DeltaLog {
             → self.new.lines ≡ self.old.lines ++ record { came = came; answer = answer.now } ∷ [] }
         ensures counted { self.new.lost ≡ false → self.new.pushed ≡ self.old.pushed + 1 }
         ensures large { self.new.large ≡ true → self.old.lost ≡ false → self.old.pushed ≡ DELTA_LINES }
-        ensures full { self.old.lost ≡ false → self.old.pushed ≡ DELTA_LINES → self.new.lost ≡ true }
-        ensures few { self.new.lost ≡ false → self.new.pushed ≤ DELTA_LINES }
+        ensures room { self.old.lost ≡ false → lines_used self.old + 1 ≤ lines_used self.new }
     {
         self.delta.laws();
         let cells = answer.as_slice();

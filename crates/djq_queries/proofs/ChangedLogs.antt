@@ -8,7 +8,7 @@ use Rattle.djq_model.specs.Data.{Bytes}
 use Rattle.djq_model.specs.Answer.{IsAnswer}
 use Rattle.djq_model.specs.Listed.{a_query}
 use Rattle.djq_database.specs.Catalog.{Catalog}
-use Rattle.djq_enumeration.specs.declared.log.Line.{Line}
+use Rattle.djq_enumeration.specs.Log.{Line}
 use Rattle.djq_enumeration.specs.Log.{Log}
 use Rattle.djq_answer_laws.proofs.Choices.{answer_stays}
 use Rattle.djq_live_query.specs.Live.{Live, IsKept, SameQuery, IsShowable}

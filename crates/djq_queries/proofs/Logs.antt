@@ -9,7 +9,7 @@ use Rattle.djq_model.specs.Data.{Bytes}
 use Rattle.djq_model.specs.Answer.{IsAnswer}
 use Rattle.djq_model.specs.Listed.{a_query}
 use Rattle.djq_database.specs.Catalog.{Catalog}
-use Rattle.djq_enumeration.specs.declared.log.Line.{Line}
+use Rattle.djq_enumeration.specs.Log.{Line}
 use Rattle.djq_enumeration.specs.Log.{Log}
 use Rattle.djq_store_spec.specs.Delta.{Change}
 use Rattle.djq_answer_laws.proofs.Decisions.{answers_are_decided}

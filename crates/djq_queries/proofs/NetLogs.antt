@@ -16,7 +16,7 @@ use Rattle.djq_hypergraph.specs.Hypergraph.{member}
 use Rattle.djq_reduct.specs.Columns.{column}
 use Rattle.djq_query.specs.declared.numbered.Variable.{Variable}
 use Rattle.djq_delta.specs.Lines.{SignedLine, AreDistinctLines}
-use Rattle.djq_enumeration.specs.declared.log.Line.{Line}
+use Rattle.djq_enumeration.specs.Log.{Line}
 use Rattle.djq_enumeration.specs.Log.{Log, signed_line, signed_lines}
 use Rattle.djq_enumeration.proofs.Cells.{head_simple, tuple_same}
 use Rattle.djq_database.specs.Catalog.{Catalog}

@@ -1,6 +1,6 @@
 -- By the invariant a registered query has a place and a log; what is told of it are the lines of that log.
 use Rattle.std.proofs.Common.{◌<◌, ◌∙◌, ap, arith, length, sym, List, subst}
-use Rattle.djq_enumeration.specs.declared.log.Line.{Line}
+use Rattle.djq_enumeration.specs.Log.{Line}
 use Rattle.djq_enumeration.specs.Log.{Log}
 use Rattle.djq_engine.proofs.RegisteredQueries.{below_queries, long_lines, long_lost, query_kept_there}
 use Rattle.djq_reach.proofs.Logs.{log_read}
