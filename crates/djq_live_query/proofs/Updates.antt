@@ -27,7 +27,7 @@ use Rattle.djq_database.proofs.Cells.{differ as cells_differ}
 use Rattle.djq_delta.specs.declared.delta.TheConstants.{DELTA_LINES}
 use Rattle.djq_enumeration.specs.Listing.{AreSome, ListsTuples}
 use Rattle.djq_enumeration.specs.Changed.{IsGained}
-use Rattle.djq_enumeration.specs.Log.{Log, least_changes}
+use Rattle.djq_enumeration.specs.Log.{IsLog, Log, least_changes}
 use Rattle.djq_propagate.specs.Batches.{times}
 use Rattle.djq_query.specs.declared.numbered.NumberedAtom.{NumberedAtom}
 use Rattle.djq_query.specs.Numbered.{Numbered}
@@ -375,8 +375,8 @@ came_logged : (wanted : Bool) (l : Live) (s : Reducts) (at : ℕ) (cells : List 
     → ChangesBelow (λ p old new. GainsAll p cells old new) at (l.numbered).atoms l.patterns
     (length (l.numbered).atoms) l.reducts s
     → ListsWhere wanted true (IsGained s l.reducts) h calls log new x y
-    → LogsWhere wanted (λ c d. CameAll c d at cells) l log new
-came_logged true l s at cells h calls log new x y more change k = record {
+    → IsLog new → LogsWhere wanted (λ c d. CameAll c d at cells) l log new
+came_logged true l s at cells h calls log new x y more change k law = record {
   lines = answer_lines true k.answers;
   behind = k.tells.behind;
   tells = λ whole c d rows kept came. gains_log l s at cells k.answers c d rows more change
@@ -385,18 +385,19 @@ came_logged true l s at cells h calls log new x y more change k = record {
       (added_kept c d l s at cells rows kept came change) change.tree
       (λ i u low. (k.some.all i u low).is);
   stays = λ lost. (k.tells.stays lost).0;
+  few = λ before kept. omega (arith, law.few kept, law.lines);
   counts = λ c d rows changes kept came delta. counted_changes true log new k.answers changes k.tells
       (came_few l s at cells (length (l.numbered).atoms) k.answers c d rows changes more change k.some kept came delta);
 }
-came_logged false l s at cells h calls log new x y more change k = k.0
+came_logged false l s at cells h calls log new x y more change k law = k.0
 
 went_logged : (wanted : Bool) (l : Live) (s : Reducts) (at : ℕ) (cells : List (List ℕ))
     (h calls : ℕ) (log new : Log) (x y : ℕ) → HasMore s l.reducts
     → ChangesBelow (λ p old new. LosesAll p cells old new) at (l.numbered).atoms l.patterns
     (length (l.numbered).atoms) l.reducts s
     → ListsWhere wanted false (IsGained l.reducts s) h calls log new x y
-    → LogsWhere wanted (λ c d. WentAll c d at cells) l log new
-went_logged true l s at cells h calls log new x y more change k = record {
+    → IsLog new → LogsWhere wanted (λ c d. WentAll c d at cells) l log new
+went_logged true l s at cells h calls log new x y more change k law = record {
   lines = answer_lines false k.answers;
   behind = k.tells.behind;
   tells = λ whole c d gone kept went. loses_log l s at cells k.answers c d gone more change
@@ -404,10 +405,11 @@ went_logged true l s at cells h calls log new x y more change k = record {
   shown = λ whole c d gone kept went. old_lines c d l k.answers kept went.later
       (λ i u low. (k.some.all i u low).is);
   stays = λ lost. (k.tells.stays lost).0;
+  few = λ before kept. omega (arith, law.few kept, law.lines);
   counts = λ c d gone changes kept went delta. counted_changes false log new k.answers changes k.tells
       (went_few l s at cells k.answers c d gone changes more change k.some kept went delta);
 }
-went_logged false l s at cells h calls log new x y more change k = k.0
+went_logged false l s at cells h calls log new x y more change k law = k.0
 
 -- ---- counts
 
@@ -455,26 +457,26 @@ pub logs_came : (wanted : Bool) (l self : Live) (s : Reducts) (at : ℕ) (cells 
     → l ≡ self → atoms ≡ (l.numbered).atoms → ps ≡ l.patterns → HasMore l.reducts s
     → ChangesBelow (λ p old new. GainsAll p cells old new) at atoms ps (length atoms) l.reducts s
     → ListsWhere wanted true (IsGained s l.reducts) h calls log new x y
-    → LogsWhere wanted (λ c d. CameAll c d at cells) self log new
-logs_came wanted l self s at cells atoms ps h calls log new x y e a p more change lists =
+    → IsLog new → LogsWhere wanted (λ c d. CameAll c d at cells) self log new
+logs_came wanted l self s at cells atoms ps h calls log new x y e a p more change lists law =
     subst (λ (z : Live). LogsWhere wanted (λ c d. CameAll c d at cells) z log new) e
     (came_logged wanted l s at cells h calls log new x y more
     (outside (λ v w. ChangesBelow (λ q old new. GainsAll q cells old new) at v w (length v)
     l.reducts s)
-    atoms (l.numbered).atoms ps l.patterns a p change) lists)
+    atoms (l.numbered).atoms ps l.patterns a p change) lists law)
 
 pub logs_went : (wanted : Bool) (l self : Live) (s : Reducts) (at : ℕ) (cells : List (List ℕ))
     (atoms : List NumberedAtom) (ps : List Shape) (h calls : ℕ) (log new : Log) (x y : ℕ)
     → l ≡ self → atoms ≡ (l.numbered).atoms → ps ≡ l.patterns → HasMore s l.reducts
     → ChangesBelow (λ p old new. LosesAll p cells old new) at atoms ps (length atoms) l.reducts s
     → ListsWhere wanted false (IsGained l.reducts s) h calls log new x y
-    → LogsWhere wanted (λ c d. WentAll c d at cells) self log new
-logs_went wanted l self s at cells atoms ps h calls log new x y e a p more change lists =
+    → IsLog new → LogsWhere wanted (λ c d. WentAll c d at cells) self log new
+logs_went wanted l self s at cells atoms ps h calls log new x y e a p more change lists law =
     subst (λ (z : Live). LogsWhere wanted (λ c d. WentAll c d at cells) z log new) e
     (went_logged wanted l s at cells h calls log new x y more
     (outside (λ v w. ChangesBelow (λ q old new. LosesAll q cells old new) at v w (length v) l.reducts
     s)
-    atoms (l.numbered).atoms ps l.patterns a p change) lists)
+    atoms (l.numbered).atoms ps l.patterns a p change) lists law)
 
 pub counts_came : (wanted : Bool) (l self : Live) (s : Reducts) (at : ℕ) (cells : List (List ℕ))
     (atoms : List NumberedAtom) (ps : List Shape) (k : ℕ) (log new : Log) (x y : ℕ)
@@ -521,6 +523,7 @@ logs_one Changed true l log new h = record {
   tells = λ whole c d row kept changed. h.tells whole c d (row ∷ []) kept changed;
   shown = λ whole c d row kept changed. h.shown whole c d (row ∷ []) kept changed;
   stays = h.stays;
+  few = h.few;
   counts = λ c d row changes kept changed delta. h.counts c d (row ∷ []) changes kept changed delta;
 }
 logs_one Changed false l log new h = h

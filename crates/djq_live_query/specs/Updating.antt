@@ -11,7 +11,7 @@ use Rattle.djq_hypergraph.specs.Flat.{IsFlat}
 use Rattle.djq_protocol.specs.Hypergraph.{edges_of, head_of}
 use Rattle.djq_tree.specs.Flat.{HasEqualMeets}
 use Rattle.djq_propagate.specs.Updates.{HasAtMost}
-use Rattle.djq_delta.specs.declared.delta.TheConstants.{RETAINED_WORDS}
+use Rattle.djq_delta.specs.declared.delta.TheConstants.{DELTA_LINES, RETAINED_WORDS}
 use Rattle.djq_enumeration.specs.Log.{Line, Log, least_changes}
 use Rattle.djq_database.specs.Catalog.{Catalog, rows_at}
 use Rattle.djq_leaves.specs.Changes.{Came, CameAll, Went, WentAll}
@@ -79,6 +79,8 @@ pub record LogsDelta {R : Type 0} (Changed : Catalog → Catalog → R → Type 
   pub shown : new.lost ≡ false → (c d : Catalog) (what : R) → IsKept c old → Changed c d what
       → All (λ k. IsShowable d.texts old k.answer) lines
   pub stays : log.lost ≡ true → new ≡ log
+  -- it has no more lines than it may have
+  pub few : (log.lost ≡ false → length log.lines ≤ DELTA_LINES) → new.lost ≡ false → length new.lines ≤ DELTA_LINES
   -- no more answers changed by what it says than did, so it is large only if there were too many
   pub counts : (c d : Catalog) (what : R) (changes : List Change) → IsKept c old → Changed c d what
       → IsDeltaOf old c d changes → least_changes new ≤ least_changes log + length changes
