@@ -11,7 +11,7 @@ use Rattle.djq_model.specs.Data.{Bytes}
 use Rattle.djq_model.specs.Answer.{IsAnswer}
 use Rattle.djq_model.specs.Listed.{AnswersOf, a_query, listed_name}
 use Rattle.djq_database.specs.Catalog.{Catalog}
-use Rattle.djq_enumeration.specs.declared.log.Line.{Line}
+use Rattle.djq_enumeration.specs.Log.{Line}
 use Rattle.djq_enumeration.specs.Log.{Log}
 use Rattle.djq_store_spec.specs.Changes.{RowsChange, accepted, out_of_memory, is_outdated}
 use Rattle.djq_store_spec.specs.Delta.{Change, IsDelta}

@@ -12,7 +12,7 @@ use Rattle.djq_model.specs.Answer.{IsAnswer}
 use Rattle.djq_tree.specs.Tree.{Tree}
 use Rattle.djq_protocol.specs.declared.answer.Sign.TheVariants.{Came as HasCome, Went as HasGone}
 use Rattle.djq_database.specs.Catalog.{Catalog, with_rows_at}
-use Rattle.djq_enumeration.specs.declared.log.Line.{Line}
+use Rattle.djq_enumeration.specs.Log.{Line}
 use Rattle.djq_enumeration.specs.Log.{Log}
 use Rattle.djq_query.specs.Numbered.{Numbered}
 use Rattle.djq_store_spec.specs.Delta.{Change, IsDelta}

@@ -11,7 +11,6 @@ use crate::cursor::QueryId;
 use crate::engine::Engine;
 use crate::lent::LentAnswer;
 use crate::places::find_query;
-use djq_enumeration::{DeltaLog, Line};
 use djq_model::Name;
 use djq_protocol::Sign;
 use djq_reduct::Cells;
@@ -21,14 +20,6 @@ pub fn sign_of(came: bool) -> Sign
     ensures { result ≡ sign_of came }
 {
     if came { Sign::Came } else { Sign::Went }
-}
-
-/// A line of a log.
-fn line_at(log: &DeltaLog, nth: usize) -> &Line
-    requires { nth < length log.now.lines }
-    ensures { slice_get log.now.lines nth ≡ Some result.now }
-{
-    &log.lines()[nth]
 }
 
 /// The most that watch one query: sessions, and unions for those that watch them.
@@ -122,7 +113,7 @@ impl Engine {
         if log.lost() {
             return None;
         }
-        Some(log.lines().len())
+        Some(log.len())
     }
 
     /// One of them: whether it came or went, and the answer, lent.
@@ -132,11 +123,11 @@ impl Engine {
         ensures { IsSomeAnd (told_at self.now id) (λ changes. IsSomeAnd (slice_get changes nth)
             (λ c. (result.0 ≡ c.sign) × (result.1 ≡ c.answer))) }
     {
-        let line = line_at(&self.parts.logs[id.at], nth);
+        let (came, answer) = self.parts.logs[id.at].line(nth);
         match &self.parts.queries[id.at] {
             Some(live) => (
-                sign_of(line.came),
-                LentAnswer::new(&self.parts.catalog, live, &line.answer),
+                sign_of(came),
+                LentAnswer::new(&self.parts.catalog, live, answer),
             ),
             None => unreachable!(),
         }
@@ -148,11 +139,11 @@ impl Engine {
         requires within { IsSomeAnd (told_at self.now id) (λ changes. nth < length changes) }
         ensures { TellsChangeCells self.now id nth (sign_of result) cells.new }
     {
-        let line = line_at(&self.parts.logs[id.at], nth);
+        let (came, answer) = self.parts.logs[id.at].line(nth);
         match &self.parts.queries[id.at] {
             Some(live) => {
-                live.put_in_head(&line.answer, cells);
-                line.came
+                live.put_in_head(answer, cells);
+                came
             }
             None => unreachable!(),
         }

@@ -92,6 +92,7 @@ impl LiveQuery {
             steps,
         );
         if done == atoms.len() {
+            log.laws();
             return Ok(());
         }
         delete_from_leaves(
@@ -172,6 +173,7 @@ impl LiveQuery {
             steps,
         );
         if done == atoms.len() {
+            log.laws();
             return Ok(());
         }
         give_all_from_leaves(
@@ -226,6 +228,7 @@ impl LiveQuery {
             log,
             steps,
         );
+        log.laws();
     }
 
     /// Takes out rows that went out of a relation at once, each given by its cells; they go out of the
@@ -272,6 +275,7 @@ impl LiveQuery {
             log,
             steps,
         );
+        log.laws();
     }
 
     /// Gives a row back that [`add`](LiveQuery::add) took in, without a delta. It takes no memory, and

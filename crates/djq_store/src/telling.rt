@@ -6,7 +6,6 @@ use crate::finding::joined_in;
 use crate::joined::Joined;
 use crate::store::Store;
 use djq_engine::{CursorId, LentAnswer, QueryId, sign_of};
-use djq_enumeration::Line;
 use djq_protocol::Sign;
 use djq_protocol::limits::QUERIES;
 
@@ -17,15 +16,15 @@ fn told_len(joined: &Joined) -> Option<usize>
     if joined.log.lost() {
         return None;
     }
-    Some(joined.log.lines().len())
+    Some(joined.log.len())
 }
 
 /// One of them.
-fn told_line(joined: &Joined, nth: usize) -> &Line
+fn told_line(joined: &Joined, nth: usize) -> (bool, &[u64])
     requires { nth < length joined.now.log.lines }
-    ensures { slice_get joined.now.log.lines nth ≡ Some result.now }
+    ensures { slice_get joined.now.log.lines nth ≡ Some (record { came = result.0; answer = result.1.now }) }
 {
-    &joined.log.lines()[nth]
+    joined.log.line(nth)
 }
 
 impl Store {
@@ -72,7 +71,7 @@ impl Store {
             return self.parts.engine.delta_line(id, nth);
         }
         let joined = joined_in(self.parts.unions.as_slice(), id.at - QUERIES);
-        let line = told_line(joined, nth);
+        let (came, answer) = told_line(joined, nth);
         let first = QueryId {
             at: joined.union.members()[0],
         };
@@ -81,8 +80,8 @@ impl Store {
             cursor: 0,
         };
         (
-            sign_of(line.came),
-            self.parts.engine.answer(shown, &line.answer),
+            sign_of(came),
+            self.parts.engine.answer(shown, answer),
         )
     }
 }
