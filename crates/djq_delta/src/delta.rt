@@ -5,11 +5,9 @@ ghost use Rattle.djq_delta.specs.Lines.{AreDistinctLines, HaveOneSign, SettlesTo
 
 use crate::place::{Place, cells_of};
 use crate::settle::{have_one_sign, settle_places};
+use djq_protocol::limits::DELTA_LINES;
 use std::alloc::Global;
 use std::marker::Model;
-
-/// The most lines of a delta until it is cleared: with one more it is large.
-pub const DELTA_LINES: usize = 1_000_000;
 
 /// The most cells of an answer.
 pub const MOST_WIDTH: usize = 16;
@@ -45,7 +43,8 @@ pub struct Delta {
 impl Model for Delta {
     ghost use Rattle.std.specs.Prelude.{◌≡◌, ◌≤◌, ◌+◌, ◌*◌, length, All, []};
     ghost use Rattle.std.specs.Vec.{vec_len, vec_capacity};
-    ghost use Rattle.djq_delta.specs.declared.delta.TheConstants.{DELTA_LINES, MOST_WIDTH};
+    ghost use Rattle.djq_delta.specs.declared.delta.TheConstants.{MOST_WIDTH};
+    ghost use Rattle.djq_protocol.specs.declared.limits.TheConstants.{DELTA_LINES};
     ghost use Rattle.djq_delta.specs.declared.delta.DeltaStatus.TheVariants.{Whole};
     ghost use Rattle.djq_delta.specs.Delta.{DeltaSeen, IsPlacedIn, placed_lines};
 

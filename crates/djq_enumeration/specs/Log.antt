@@ -2,7 +2,7 @@
 use Rattle.std.specs.Prelude.{ℕ, Bool, true, false, List, ◌≡◌, ◌≤◌, ◌+◌, if◌then◌else◌, length, map}
 use Rattle.djq_delta.specs.declared.delta.DeltaStatus.{DeltaStatus}
 use Rattle.djq_delta.specs.declared.delta.DeltaStatus.TheVariants.{Whole, Lost, Large}
-use Rattle.djq_delta.specs.declared.delta.TheConstants.{DELTA_LINES}
+use Rattle.djq_protocol.specs.declared.limits.TheConstants.{DELTA_LINES}
 use Rattle.djq_delta.specs.Delta.{DeltaSeen}
 use Rattle.djq_delta.specs.Lines.{SignedLine}
 

@@ -1,6 +1,7 @@
 //! The log into which a listing writes the answers that it finds: a delta, whose lines it tells by the cells of answers.
 ghost use Rattle.std.specs.Prelude.{◌≡◌, ◌≤◌, ◌<◌, ◌+◌, ◌↔◌, [], ◌∷◌, ◌++◌, true, false, length, Some, slice_get};
-ghost use Rattle.djq_delta.specs.declared.delta.TheConstants.{DELTA_LINES, RETAINED_WORDS};
+ghost use Rattle.djq_delta.specs.declared.delta.TheConstants.{RETAINED_WORDS};
+ghost use Rattle.djq_protocol.specs.declared.limits.TheConstants.{DELTA_LINES};
 ghost use Rattle.djq_delta.specs.Lines.{AreDistinctLines, HaveOneSign, SettlesTo};
 ghost use Rattle.djq_enumeration.specs.Log.{IsLog, lines_used, signed_lines};
 

@@ -1,4 +1,5 @@
-use djq_delta::{DELTA_LINES, Delta, DeltaStatus, is_reported};
+use djq_delta::{Delta, DeltaStatus, is_reported};
+use djq_protocol::limits::DELTA_LINES;
 use std::test::Fail;
 
 /// A row was replaced, and the query doesn't show what is new in it.

@@ -18,7 +18,7 @@ use Rattle.djq_reduct.specs.Tables.{entries_at}
 use Rattle.djq_reduct.specs.Reducts.{Reducts, IsReducts, SameTables}
 use Rattle.djq_reduct.specs.Answers.{on_node, IsAnswerOf}
 use Rattle.djq_reduct.proofs.Assignments.{apart_at}
-use Rattle.djq_delta.specs.declared.delta.TheConstants.{DELTA_LINES}
+use Rattle.djq_protocol.specs.declared.limits.TheConstants.{DELTA_LINES}
 use Rattle.djq_enumeration.specs.Listing.{AreSome, ListsTuples}
 use Rattle.djq_enumeration.specs.Changed.{IsGained}
 use Rattle.djq_enumeration.specs.Log.{Line, Log, lines_used}

@@ -33,7 +33,7 @@ use Rattle.djq_reduct.specs.Tables.{entries_at}
 use Rattle.djq_reduct.specs.Reducts.{Reducts, IsReducts}
 use Rattle.djq_reduct.specs.Marks.{IsBare}
 use Rattle.djq_propagate.specs.Updates.{HasAtMost, paths}
-use Rattle.djq_delta.specs.declared.delta.TheConstants.{DELTA_LINES}
+use Rattle.djq_protocol.specs.declared.limits.TheConstants.{DELTA_LINES}
 use Rattle.djq_enumeration.specs.Listing.{AreSome, ListsTuples}
 use Rattle.djq_enumeration.specs.Log.{Line, Log, lines_used}
 use Rattle.djq_query.specs.declared.numbered.NumberedAtom.{NumberedAtom}

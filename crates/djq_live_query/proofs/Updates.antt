@@ -24,7 +24,7 @@ use Rattle.djq_reduct.specs.Tables.{entries_at}
 use Rattle.djq_reduct.proofs.Assignments.{member_on, one_family}
 use Rattle.djq_database.specs.Catalog.{Catalog, IsCatalog, no_relation, rows_at, relation_at}
 use Rattle.djq_database.proofs.Cells.{differ as cells_differ}
-use Rattle.djq_delta.specs.declared.delta.TheConstants.{DELTA_LINES}
+use Rattle.djq_protocol.specs.declared.limits.TheConstants.{DELTA_LINES}
 use Rattle.djq_enumeration.specs.Listing.{AreSome, ListsTuples}
 use Rattle.djq_enumeration.specs.Changed.{IsGained}
 use Rattle.djq_enumeration.specs.Log.{IsLog, Log, least_changes}

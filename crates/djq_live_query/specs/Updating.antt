@@ -11,7 +11,8 @@ use Rattle.djq_hypergraph.specs.Flat.{IsFlat}
 use Rattle.djq_protocol.specs.Hypergraph.{edges_of, head_of}
 use Rattle.djq_tree.specs.Flat.{HasEqualMeets}
 use Rattle.djq_propagate.specs.Updates.{HasAtMost}
-use Rattle.djq_delta.specs.declared.delta.TheConstants.{DELTA_LINES, RETAINED_WORDS}
+use Rattle.djq_protocol.specs.declared.limits.TheConstants.{DELTA_LINES}
+use Rattle.djq_delta.specs.declared.delta.TheConstants.{RETAINED_WORDS}
 use Rattle.djq_enumeration.specs.Log.{Line, Log, least_changes}
 use Rattle.djq_database.specs.Catalog.{Catalog, rows_at}
 use Rattle.djq_leaves.specs.Changes.{Came, CameAll, Went, WentAll}

@@ -8,7 +8,7 @@ use Rattle.djq_model.specs.Data.{Bytes}
 use Rattle.djq_model.specs.Answer.{IsAnswer}
 use Rattle.djq_model.specs.Listed.{a_query}
 use Rattle.djq_database.specs.Catalog.{Catalog}
-use Rattle.djq_delta.specs.declared.delta.TheConstants.{DELTA_LINES}
+use Rattle.djq_protocol.specs.declared.limits.TheConstants.{DELTA_LINES}
 use Rattle.djq_store_spec.specs.Delta.{Change, IsDelta}
 use Rattle.djq_model.specs.declared.query.Query.{Query}
 use Rattle.djq_enumeration.specs.Log.{Line, Log, least_changes}

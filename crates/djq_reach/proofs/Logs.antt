@@ -11,7 +11,7 @@ use Rattle.djq_model.specs.declared.query.Query.{Query}
 use Rattle.djq_model.specs.Data.{Tuple}
 use Rattle.djq_protocol.specs.Hypergraph.{edges_of, head_of}
 use Rattle.djq_database.specs.Catalog.{Catalog}
-use Rattle.djq_delta.specs.declared.delta.TheConstants.{DELTA_LINES}
+use Rattle.djq_protocol.specs.declared.limits.TheConstants.{DELTA_LINES}
 use Rattle.djq_enumeration.specs.Log.{Line, Log, least_changes}
 use Rattle.djq_query.specs.Numbered.{Numbered}
 use Rattle.djq_answer_laws.proofs.Lists.{or_false}

@@ -7,7 +7,7 @@ use Rattle.djq_store_spec.specs.Delta.{Change}
 use Rattle.djq_hypergraph.specs.Flat.{IsFlat}
 use Rattle.djq_protocol.specs.Hypergraph.{edges_of, head_of}
 use Rattle.djq_propagate.specs.Updates.{HasAtMost}
-use Rattle.djq_delta.specs.declared.delta.TheConstants.{DELTA_LINES}
+use Rattle.djq_protocol.specs.declared.limits.TheConstants.{DELTA_LINES}
 use Rattle.djq_enumeration.specs.Log.{Log, least_changes}
 use Rattle.djq_database.specs.Catalog.{Catalog}
 use Rattle.djq_live_query.specs.Live.{Live, IsKept, IsShowable}
