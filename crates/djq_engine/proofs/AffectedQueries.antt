@@ -3,7 +3,7 @@ use Rattle.std.proofs.Common.{ℕ, zero, suc, List, [], ◌∷◌, ◌+◌, ◌�
 use Rattle.std.proofs.Common.{ap, ◌∙◌, subst, arith, length}
 use Rattle.std.specs.Prelude.{◌==◌, ◌&&◌, ◌||◌, Option, None, Some, is_some, cond, map, filter, sum_by, slice_index_or}
 use Rattle.std.specs.Prelude.{All, IsSome, IsSomeAnd, option_map, nat_lt, unwrap_or}
-use Rattle.std.proofs.lemmas.Bool.{eq-eqb, and_parts, lt-ltb, le-ltb}
+use Rattle.std.proofs.lemmas.Bool.{eq-eqb, false≢true, and_parts, lt-ltb, le-ltb}
 use Rattle.std.proofs.lemmas.List.Sums.{sum_by-cons}
 use Rattle.std.proofs.lemmas.List.Elements.{All-cons, All-head, All-nil, All-tail}
 use Rattle.djq_model.specs.declared.relation.Relation.{Relation}
@@ -350,12 +350,14 @@ large_is (log ∷ logs) (suc i) = large_is logs i
 pub large_had_more : (logs : List Log) (i n : ℕ) → CountsListed (log_at logs i) n
     → unwrap_or (slice_index_or (map (λ (log : Log). Some (was_too_large log)) logs) i None) false ≡ true
     → DELTA_LINES + 1 ≤ n
-large_had_more logs i n h is =
-    let log = log_at logs i in
-    let b = and_parts log.lost log.large (sym (large_is logs i) ∙ is) in
-    let least : least_changes log ≡ DELTA_LINES + 1 = ap₂ (λ (x y : Bool). cond x (cond y (DELTA_LINES + 1) 0) log.pushed)
-    b.0 b.1 in
-    omega (arith, least, h.counts)
+large_had_more logs i n h is = by_lost (log_at logs i).lost refl (sym (large_is logs i) ∙ is)
+  where
+    by_lost : (b : Bool) → (log_at logs i).lost ≡ b → cond b (log_at logs i).large false ≡ true → DELTA_LINES + 1 ≤ n
+    by_lost true lost large =
+        let least : least_changes (log_at logs i) ≡ DELTA_LINES + 1 = ap₂
+        (λ (x y : Bool). cond x (cond y (DELTA_LINES + 1) 0) (log_at logs i).pushed) lost large in
+        omega (arith, least, h.counts)
+    by_lost false lost large = absurd (false≢true large)
 
 -- ---- the parts of an engine
 

@@ -1,6 +1,6 @@
 -- The registered queries in their places and their cursors, as the engine keeps them, and what
 -- contracts see of them.
-use Rattle.std.specs.Prelude.{ℕ, zero, suc, List, [], ◌∷◌, ◌++◌, ◌==◌, ◌&&◌, Bool, false, not, Option}
+use Rattle.std.specs.Prelude.{ℕ, zero, suc, List, [], ◌∷◌, ◌++◌, ◌==◌, Bool, false, not, Option}
 use Rattle.std.specs.Prelude.{None, Some, is_some, option_map, if◌then◌else◌, map, filter}
 use Rattle.djq_model.specs.Data.{Bytes, bytes_eq}
 use Rattle.djq_model.specs.Listed.{Listed, a_query}
@@ -105,7 +105,7 @@ told_from texts (g ∷ gs) (log ∷ logs) = told_of texts g log ∷ told_from te
 
 -- whether a log was lost because there were too many lines
 abbrev pub was_too_large : Log → Bool
-was_too_large log = log.lost && log.large
+was_too_large log = if log.lost then log.large else false
 
 -- What the engine keeps for watching: the readers of each relation, how many sessions watch the
 -- query in each place, its log, and the places that the last accepted change affected.

@@ -1,6 +1,6 @@
 -- By the invariant a registered query has a place and a log; it was too large if that log was.
 use Rattle.std.proofs.Common.{◌<◌, ◌∙◌, ap, arith, length, sym, subst}
-use Rattle.std.specs.Prelude.{◌&&◌}
+use Rattle.std.specs.Prelude.{cond, false}
 use Rattle.djq_enumeration.specs.Log.{Log}
 use Rattle.djq_engine.proofs.AffectedQueries.{large_is}
 use Rattle.djq_engine.proofs.RegisteredQueries.{below_queries, query_kept_there}
@@ -26,7 +26,7 @@ returns-then-lost c =
     let is = log_read p.logs.items c.args.id.at c.index-log.result.now low c.index-log.ensures in
     let lost = ap (λ (x : Log). x.lost) (sym is) ∙ sym c.if-lost.ensures.lost in
     rw (← c.self.view_is) (c.is_large.ensures ∙ ap (λ (x : Log). x.large) is
-    ∙ sym (ap (λ b. b && (log_at p.logs.items c.args.id.at).large) lost) ∙ sym (large_is p.logs.items c.args.id.at))
+    ∙ sym (ap (λ b. cond b (log_at p.logs.items c.args.id.at).large false) lost) ∙ sym (large_is p.logs.items c.args.id.at))
 
 pub returns : goal.returns
 returns c =
@@ -37,5 +37,5 @@ returns c =
     (arith, below_queries p c.self.invariant.0 c.args.id t, c.self.invariant.1.logged) in
     let is = log_read p.logs.items c.args.id.at c.index-log.result.now low c.index-log.ensures in
     let kept = ap (λ (x : Log). x.lost) (sym is) ∙ sym c.if-lost.ensures.lost in
-    rw (← c.self.view_is) (sym (ap (λ b. b && (log_at p.logs.items c.args.id.at).large) kept)
+    rw (← c.self.view_is) (sym (ap (λ b. cond b (log_at p.logs.items c.args.id.at).large false) kept)
     ∙ sym (large_is p.logs.items c.args.id.at))
