@@ -1,6 +1,6 @@
 -- What an engine says of the queries that sessions watch.
-use Rattle.std.specs.Prelude.{ℕ, List, [], ◌∷◌, ◌++◌, ◌≡◌, ◌≤◌, ◌+◌, ◌*◌, ◌⊎◌, ◌&&◌, Bool, true}
-use Rattle.std.specs.Prelude.{false, None, Some, IsSomeAnd, Result, Ok, Err, min, filter, length}
+use Rattle.std.specs.Prelude.{ℕ, List, [], ◌∷◌, ◌++◌, ◌≡◌, ◌≤◌, ◌+◌, ◌*◌, ◌⊎◌, ◌&&◌, ◌||◌, nat_lt, Bool, true}
+use Rattle.std.specs.Prelude.{false, None, Some, IsSome, IsSomeAnd, Result, Ok, Err, min, filter, length}
 use Rattle.std.specs.Prelude.{map, sum_by, ⊤}
 use Rattle.djq_model.specs.declared.query.Query.{Query}
 use Rattle.djq_model.specs.declared.relation.Relation.{Relation}
@@ -18,6 +18,8 @@ use Rattle.djq_protocol.specs.declared.held.DoneRefusal.{DoneRefusal}
 use Rattle.djq_protocol.specs.declared.held.DoneRefusal.TheVariants.{NoMemory as NoneLeft}
 use Rattle.djq_protocol.specs.declared.rest.QueryOutcome.{QueryOutcome}
 use Rattle.djq_protocol.specs.declared.rest.QueryOutcome.TheVariants.{Registered as HasRegistered}
+use Rattle.std.specs.List.{list_any}
+use Rattle.djq_delta.specs.declared.delta.TheConstants.{DELTA_LINES}
 use Rattle.djq_store_spec.specs.Stale.{listed_reads}
 use Rattle.djq_store_spec.specs.Changes.{RowsChange, RowsOutcome, accepted, out_of_memory, unchanged, tried}
 use Rattle.djq_store_spec.specs.Changes.{is_outdated}
@@ -28,11 +30,26 @@ use Rattle.djq_store_spec.specs.Asking.{IsShapeOf}
 use Rattle.djq_store_spec.specs.DeltaCost.{Delta, ListsDeltas, deltas_steps}
 use Rattle.djq_engine.specs.declared.cursor.QueryId.{QueryId}
 use Rattle.djq_engine.specs.Kept.{Kept, Registered, registered_at, registered_of, TellsOfQuery}
-use Rattle.djq_engine.specs.Kept.{is_watched, readers_of, affected_of, told_at}
+use Rattle.djq_engine.specs.Kept.{is_watched, readers_of, affected_of, told_at, is_told_large}
+
+-- Whether more were listed for a delta than it may have: of a union, for one of its members, or if it has more itself.
+abbrev pub is_over : Delta → Bool
+is_over d = IsIt d.query
+  where
+    IsIt : Listed → Bool
+    IsIt (a_query q) = nat_lt DELTA_LINES d.listed
+    IsIt (a_union name qs) = nat_lt DELTA_LINES (length d.changes)
+        || list_any (λ p. nat_lt DELTA_LINES p.listed) d.parts
 
 -- The log of a query tells a delta, or was lost.
 abbrev pub LogTells : Kept → Registered → Delta → Type 0
 LogTells k r d = (told_at k r.id ≡ None) ⊎ (told_at k r.id ≡ Some d.changes)
+
+-- What a log says of how many were listed for a delta: unless it was lost, not too many; and if it says that too many
+-- were, they were.
+pub record LogBounds (k : Kept) (r : Registered) (d : Delta) : Type 0 where
+  pub few : IsSome (told_at k r.id) → is_over d ≡ false
+  pub many : is_told_large k r.id ≡ true → is_over d ≡ true
 
 -- The logs of queries tell deltas, one by one.
 abbrev pub LogsTell : Kept → List Registered → List Delta → Type 0
@@ -40,6 +57,13 @@ LogsTell k [] [] = ⊤
 LogsTell k (r ∷ rs) (d ∷ ds) = LogTells k r d × LogsTell k rs ds
 LogsTell k [] (d ∷ ds) = ⊥
 LogsTell k (r ∷ rs) [] = ⊥
+
+-- The same of logs and deltas, one by one.
+abbrev pub LogsBound : Kept → List Registered → List Delta → Type 0
+LogsBound k [] [] = ⊤
+LogsBound k (r ∷ rs) (d ∷ ds) = LogBounds k r d × LogsBound k rs ds
+LogsBound k [] (d ∷ ds) = ⊥
+LogsBound k (r ∷ rs) [] = ⊥
 
 -- What holds of a change that was accepted.
 abbrev pub IfAccepted : RowsOutcome → (RowsChange → Type 0) → Type 0
@@ -79,6 +103,8 @@ pub record EngineTellsChange (old : Kept) (outcome : RowsOutcome) (new : Kept) (
     pub affected : Affects outcome old new
     pub logs : IfAccepted outcome
         (λ change. LogsTell new (affected_of old.registered change) deltas)
+    pub bounds : IfAccepted outcome
+        (λ change. LogsBound new (affected_of old.registered change) deltas)
     -- where memory was refused, the logs of the queries that it would outdate tell of nothing
     pub discards : IfOutOfMemory outcome (λ change. (id : QueryId)
         → IsSomeAnd (registered_at old.registered id) (λ r. is_outdated change r.query ≡ true)

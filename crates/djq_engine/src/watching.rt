@@ -3,7 +3,7 @@ ghost use Rattle.std.specs.Prelude.{◌≡◌, ◌<◌, ◌+◌, ◌-◌, Some, 
 ghost use Rattle.std.specs.Prelude.{length, slice_get};
 ghost use Rattle.djq_model.specs.Listed.{listed_name};
 ghost use Rattle.djq_engine.specs.Kept.{registered_of, registered_at, IsRegistered, with_watchers};
-ghost use Rattle.djq_engine.specs.Kept.{told_at, TellsChangeCells};
+ghost use Rattle.djq_engine.specs.Kept.{is_told_large, told_at, TellsChangeCells};
 ghost use Rattle.djq_engine.specs.Laws.{IsEngine};
 ghost use Rattle.djq_engine.specs.Lending.{sign_of};
 
@@ -114,6 +114,18 @@ impl Engine {
             return None;
         }
         Some(log.len())
+    }
+
+    /// Whether that was lost because too many answers came or went.
+    pub fn delta_is_large(&self, id: QueryId) -> bool
+        requires { IsRegistered self.now id }
+        ensures { result ≡ is_told_large self.now id }
+    {
+        let log = &self.parts.logs[id.at];
+        if log.lost() {
+            return log.is_large();
+        }
+        false
     }
 
     /// One of them: whether it came or went, and the answer, lent.

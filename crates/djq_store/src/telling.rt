@@ -1,6 +1,6 @@
 //! What the last change affected, and how the answers of queries and unions changed.
-ghost use Rattle.std.specs.Prelude.{◌≡◌, ◌<◌, None, Some, IsSomeAnd, if◌then◌else◌, option_map, length, slice_get};
-ghost use Rattle.djq_engine.specs.Kept.{IsRegistered, told_at};
+ghost use Rattle.std.specs.Prelude.{◌≡◌, ◌<◌, None, Some, false, IsSomeAnd, if◌then◌else◌, option_map, length, slice_get};
+ghost use Rattle.djq_engine.specs.Kept.{IsRegistered, is_told_large, told_at};
 
 use crate::finding::joined_in;
 use crate::joined::Joined;
@@ -17,6 +17,16 @@ fn told_len(joined: &Joined) -> Option<usize>
         return None;
     }
     Some(joined.log.len())
+}
+
+/// Whether it was lost because there were too many.
+fn told_large(joined: &Joined) -> bool
+    ensures { result ≡ (if joined.now.log.lost then joined.now.log.large else false) }
+{
+    if joined.log.lost() {
+        return joined.log.is_large();
+    }
+    false
 }
 
 /// One of them.
@@ -57,6 +67,18 @@ impl Store {
             return self.parts.engine.delta_len(id);
         }
         told_len(joined_in(self.parts.unions.as_slice(), id.at - QUERIES))
+    }
+
+    /// Whether that was lost because too many answers came or went.
+    pub fn delta_is_large(&self, id: QueryId) -> bool
+        requires { IsRegistered self.now id }
+        ensures { result ≡ is_told_large self.now id }
+    {
+        self.parts.engine.laws();
+        if id.at < QUERIES {
+            return self.parts.engine.delta_is_large(id);
+        }
+        told_large(joined_in(self.parts.unions.as_slice(), id.at - QUERIES))
     }
 
     /// One of them: whether it came or went, and the answer, lent.
