@@ -13,10 +13,10 @@ use Rattle.djq_model.specs.Listed.{AnswersOf, a_query, listed_name}
 use Rattle.djq_database.specs.Catalog.{Catalog}
 use Rattle.djq_enumeration.specs.Log.{Line}
 use Rattle.djq_enumeration.specs.Log.{Log, least_changes}
-use Rattle.djq_delta.specs.declared.delta.TheConstants.{DELTA_LINES}
+use Rattle.djq_protocol.specs.declared.limits.TheConstants.{DELTA_LINES}
 use Rattle.djq_store_spec.specs.Changes.{RowsChange, accepted, out_of_memory, is_outdated}
 use Rattle.djq_store_spec.specs.Delta.{Change, IsDelta}
-use Rattle.djq_store_spec.specs.DeltaCost.{Delta, AreDeltas, ArePartsOf, ListsAnswers, ListsDelta, delta_steps}
+use Rattle.djq_store_spec.specs.DeltaCost.{Delta, AreDeltas, ArePartsOf, ListsAnswers, ListsDelta, delta_steps, is_large}
 use Rattle.djq_live_query.specs.Live.{Live, IsShowable}
 use Rattle.djq_live_query.specs.Updating.{change_of}
 use Rattle.djq_live_query.specs.Cursors.{Progress, slot_at}
@@ -31,7 +31,7 @@ use Rattle.djq_engine.specs.Places.{is_live, query_in, id_at, query_registered_a
 use Rattle.djq_engine.specs.Places.{held_query_cursor, query_cursor_of, told_of, was_too_large}
 use Rattle.djq_engine.specs.Sound.{QueriesAreSound}
 use Rattle.djq_engine.specs.Changing.{CountsListed, KeepsLogs}
-use Rattle.djq_engine.specs.Watching.{LogTells, LogsTell, LogBounds, LogsBound, EngineTellsChange, is_over, reaches}
+use Rattle.djq_engine.specs.Watching.{LogTells, LogsTell, LogBounds, LogsBound, EngineTellsChange, reaches}
 use Rattle.djq_engine.specs.Whole.{kept_in, EngineIsWhole, IsTended}
 use Rattle.djq_engine.proofs.RegisteredQueries.{map_mapped, filter_mapped, filter_both, registered_has}
 use Rattle.djq_engine.proofs.RegisteredQueries.{registered_gives}
@@ -240,8 +240,8 @@ module _ (c : Catalog) (gs : List (Option Live)) (order : List ℕ) (readers : L
     many = λ large. over_as true (lt-ltb DELTA_LINES (n i) (omega (arith, many large)));
   }
     where
-      over_as : (b : Bool) → nat_lt DELTA_LINES (n i) ≡ b → is_over (delta_at f n i) ≡ b
-      over_as b e = subst (λ (o : Option Live). is_over (record
+      over_as : (b : Bool) → nat_lt DELTA_LINES (n i) ≡ b → is_large (delta_at f n i) ≡ b
+      over_as b e = subst (λ (o : Option Live). is_large (record
           { query = query_in o; changes = f i; listed = n i; parts = [] }) ≡ b) (sym y.is) e
 
   -- a delta of each query, as one exists

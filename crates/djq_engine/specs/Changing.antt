@@ -10,7 +10,7 @@ use Rattle.djq_protocol.specs.declared.answer.AddOutcome.{AddOutcome}
 use Rattle.djq_protocol.specs.declared.answer.AddOutcome.TheVariants.{First, More}
 use Rattle.djq_protocol.specs.declared.answer.DeleteOutcome.{DeleteOutcome}
 use Rattle.djq_protocol.specs.declared.answer.DeleteOutcome.TheVariants.{Last, Left, Absent}
-use Rattle.djq_protocol.specs.declared.limits.TheConstants.{ROWS, COPIES, TEXTS}
+use Rattle.djq_protocol.specs.declared.limits.TheConstants.{ROWS, COPIES, TEXTS, DELTA_LINES}
 use Rattle.djq_store_spec.specs.Relations.{LearnsAll, LearnsFirst, FindsNoPlace}
 use Rattle.djq_dictionary.specs.declared.refusal.InternRefusal.{InternRefusal}
 use Rattle.djq_dictionary.specs.declared.refusal.InternRefusal.TheVariants.{Full as TextsFull, NoMem as NoMemForText}
@@ -19,7 +19,6 @@ use Rattle.djq_engine.specs.declared.change.AddRefusal.TheVariants.{Full, NoMem}
 use Rattle.djq_database.specs.Catalog.{Catalog, StandForRow, counted_at, rows_at, with_rows_at}
 use Rattle.djq_database.specs.Changes.{HasNoPlace}
 use Rattle.djq_store_spec.specs.Delta.{Change, IsDelta}
-use Rattle.djq_delta.specs.declared.delta.TheConstants.{DELTA_LINES}
 use Rattle.djq_enumeration.specs.Log.{Log, least_changes}
 use Rattle.djq_live_query.specs.Live.{Live}
 use Rattle.djq_live_query.specs.Updating.{change_of}

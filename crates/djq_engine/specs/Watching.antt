@@ -1,5 +1,5 @@
 -- What an engine says of the queries that sessions watch.
-use Rattle.std.specs.Prelude.{ℕ, List, [], ◌∷◌, ◌++◌, ◌≡◌, ◌≤◌, ◌+◌, ◌*◌, ◌⊎◌, ◌&&◌, ◌||◌, nat_lt, Bool, true}
+use Rattle.std.specs.Prelude.{ℕ, List, [], ◌∷◌, ◌++◌, ◌≡◌, ◌≤◌, ◌+◌, ◌*◌, ◌⊎◌, ◌&&◌, Bool, true}
 use Rattle.std.specs.Prelude.{false, None, Some, IsSome, IsSomeAnd, Result, Ok, Err, min, filter, length}
 use Rattle.std.specs.Prelude.{map, sum_by, ⊤}
 use Rattle.djq_model.specs.declared.query.Query.{Query}
@@ -18,8 +18,6 @@ use Rattle.djq_protocol.specs.declared.held.DoneRefusal.{DoneRefusal}
 use Rattle.djq_protocol.specs.declared.held.DoneRefusal.TheVariants.{NoMemory as NoneLeft}
 use Rattle.djq_protocol.specs.declared.rest.QueryOutcome.{QueryOutcome}
 use Rattle.djq_protocol.specs.declared.rest.QueryOutcome.TheVariants.{Registered as HasRegistered}
-use Rattle.std.specs.List.{list_any}
-use Rattle.djq_delta.specs.declared.delta.TheConstants.{DELTA_LINES}
 use Rattle.djq_store_spec.specs.Stale.{listed_reads}
 use Rattle.djq_store_spec.specs.Changes.{RowsChange, RowsOutcome, accepted, out_of_memory, unchanged, tried}
 use Rattle.djq_store_spec.specs.Changes.{is_outdated}
@@ -27,19 +25,10 @@ use Rattle.djq_store_spec.specs.Held.{HeldLine}
 use Rattle.djq_store_spec.specs.Lines.{lines_come}
 use Rattle.djq_store_spec.specs.Transaction.{has_inserted, has_deleted, lines_change}
 use Rattle.djq_store_spec.specs.Asking.{IsShapeOf}
-use Rattle.djq_store_spec.specs.DeltaCost.{Delta, ListsDeltas, deltas_steps}
+use Rattle.djq_store_spec.specs.DeltaCost.{Delta, ListsDeltas, deltas_steps, is_large}
 use Rattle.djq_engine.specs.declared.cursor.QueryId.{QueryId}
 use Rattle.djq_engine.specs.Kept.{Kept, Registered, registered_at, registered_of, TellsOfQuery}
 use Rattle.djq_engine.specs.Kept.{is_watched, readers_of, affected_of, told_at, is_told_large}
-
--- Whether more were listed for a delta than it may have: of a union, for one of its members, or if it has more itself.
-abbrev pub is_over : Delta → Bool
-is_over d = IsIt d.query
-  where
-    IsIt : Listed → Bool
-    IsIt (a_query q) = nat_lt DELTA_LINES d.listed
-    IsIt (a_union name qs) = nat_lt DELTA_LINES (length d.changes)
-        || list_any (λ p. nat_lt DELTA_LINES p.listed) d.parts
 
 -- The log of a query tells a delta, or was lost.
 abbrev pub LogTells : Kept → Registered → Delta → Type 0
@@ -48,8 +37,8 @@ LogTells k r d = (told_at k r.id ≡ None) ⊎ (told_at k r.id ≡ Some d.change
 -- What a log says of how many were listed for a delta: unless it was lost, not too many; and if it says that too many
 -- were, they were.
 pub record LogBounds (k : Kept) (r : Registered) (d : Delta) : Type 0 where
-  pub few : IsSome (told_at k r.id) → is_over d ≡ false
-  pub many : is_told_large k r.id ≡ true → is_over d ≡ true
+  pub few : IsSome (told_at k r.id) → is_large d ≡ false
+  pub many : is_told_large k r.id ≡ true → is_large d ≡ true
 
 -- The logs of queries tell deltas, one by one.
 abbrev pub LogsTell : Kept → List Registered → List Delta → Type 0
