@@ -222,6 +222,15 @@ impl Delta {
         self.end(DeltaStatus::Lost);
     }
 
+    /// Gives up all lines, since there are more than a delta may have.
+    pub fn overflow(&mut self)
+        ensures large { self.new.status ≡ Large }
+        ensures lines { self.new.lines ≡ [] }
+        ensures capacity { self.new.capacity ≤ RETAINED_WORDS }
+    {
+        self.end(DeltaStatus::Large);
+    }
+
     /// Drops all lines, to begin anew, and gives memory back.
     pub fn clear(&mut self)
         ensures whole { self.new.status ≡ Whole }

@@ -107,6 +107,14 @@ impl DeltaLog {
         self.delta.lose();
     }
 
+    /// Gives up all lines, since there are more than a delta may have: here, or where they come from.
+    pub fn overflow(&mut self)
+        ensures lost { self.new.lost ≡ true }
+        ensures large { self.new.large ≡ true }
+    {
+        self.delta.overflow();
+    }
+
     /// Drops the lines that cancel out: those stay whose opposite isn't among them.
     ///
     /// It allocates nothing. If all answers were added, or all removed, nothing changes; else the lines are sorted
