@@ -20,6 +20,8 @@ MOST_MEMBERS = 8
 MOST_ANSWERS = 1000
 MOST_COPIES = (1 << 32) - 1
 MOST_HELD, HELD_BYTES = 65_536, 16_777_216
+# answers that are listed for a delta
+MOST_LISTED = 1_000_000
 
 SYNTAX, TAKEN, NO_RELATION, NO_QUERY = b"err 1 syntax", b"err 2 taken", b"err 3 no relation", b"err 4 no query"
 NO_CURSOR, ARITY, TYPE, UNBOUND = b"err 5 no cursor", b"err 6 arity", b"err 7 type", b"err 8 head unbound"
@@ -522,9 +524,9 @@ class Session:
         self.pending, self.pending_bytes, self.blocked = 0, 0, False
         self.memory, self.begun, self.may_stop = False, 0, False
 
-    def begin(self, word):
-        """A command begins. By want of memory an `explain` may stop behind a whole line, and so may deltas."""
-        self.begun, self.may_stop = self.at, word in (b"explain", b"add", b"del", b"done")
+    def begin(self):
+        """A command begins, or a delta: by want of memory all of its reply, or of the delta, may be missing."""
+        self.begun, self.may_stop = self.at, False
 
     def queued(self, line):
         self.at += 1
@@ -628,9 +630,8 @@ class Machine:
             return
         self.commands += 1
         try:
-            session.begin(b"")
+            session.begin()
             word, said = command_of(line)
-            session.begin(word)
             if self.misplaced(session, word):
                 session.say(MISPLACED)
             elif word in (b"add", b"del") and session.batch is not None:
@@ -691,18 +692,42 @@ class Machine:
             after[name, row] += change
         moved = [key for key in before if (before[key] == 0) != (after[key] == 0)]
         changed = {name for name, _ in moved}
-        watched = [query for query in self.queries.values() if query.reads & changed and self.watchers(query)]
-        answers = [query.answers(self.relations) for query in watched]
-        for (name, row), copies in after.items():
-            self.relations[name].put(row, copies)
+        outdated = [query for query in self.queries.values() if query.reads & changed]
+        slow = [other for _, other in sorted(self.sessions.items()) if other.pending_bytes > PENDING_BYTES
+                and any(query.name in other.watches for query in outdated)]
+        watched = [query for query in outdated if any(other not in slow for other in self.watchers(query))]
+        # what is listed: the watched queries, and of the unions the members that read what changed
+        listed = {part for query in watched for part in self.parts_of(query, changed) | {query}}
+        stages = []
+        for copies in (before, {key: max(before[key], after[key]) for key in before}, after):
+            self.put_all(copies, changed)
+            stages.append({query: query.answers(self.relations) for query in listed})
         if moved:
-            for name in changed:
-                self.relations[name].version += 1
             self.seq += 1
             self.outdate([name for name, _, _ in lines if name in changed])
-        for query, earlier in zip(watched, answers):
-            self.tell(query, earlier, query.answers(self.relations))
+        for other in slow:
+            other.end("slow", b"end slow")
+        for query in watched:
+            counts = [self.listed(*(stage[part] for stage in stages)) for part in self.parts_of(query, changed)]
+            self.tell(query, stages[0][query], stages[-1][query], max(counts) > MOST_LISTED)
         return len(moved)
+
+    @staticmethod
+    def parts_of(query, changed):
+        """The queries whose answers are listed for a delta: a query itself, or the members that read what changed."""
+        return {member for member in query.members if member.reads & changed} or {query}
+
+    @staticmethod
+    def listed(before, either, after):
+        """How many answers are listed: those that come with all rows that come, and those that go with all that go."""
+        return len(either - before) + len(either - after)
+
+    def put_all(self, copies, changed):
+        """Gives each of these rows so many copies; the rows of these relations are others then."""
+        for (name, row), count in copies.items():
+            self.relations[name].put(row, count)
+        for name in changed:
+            self.relations[name].version += 1
 
     def outdate(self, names):
         """Each cursor of a query that reads one of these relations is stale by the first of them."""
@@ -793,23 +818,25 @@ class Machine:
     def watchers(self, query):
         return [other for _, other in sorted(self.sessions.items()) if query.name in other.watches]
 
-    def tell(self, query, before, after):
+    def tell(self, query, before, after, large):
         lines = {answered(b"+ " + query.name, answer) for answer in after - before}
         lines |= {answered(b"- " + query.name, answer) for answer in before - after}
         for other in self.watchers(query):
-            if other.pending_bytes > PENDING_BYTES:
-                other.end("slow", b"end slow")
-                continue
             try:
-                self.tell_one(other, query.name, set(lines))
+                self.tell_one(other, query.name, set(lines), large or len(lines) > MOST_LISTED)
             except OutOfMemory:
                 other.fall()
 
-    def tell_one(self, other, name, left):
-        other.may_stop = True
+    def tell_one(self, other, name, left, large):
+        """A delta is sent whole, or not at all."""
+        other.begin()
+        if large:
+            return other.end("large", b"end large")
         while left:
             other.say_one_of(left)
         other.say(b"at %s %d" % (name, self.seq))
+        # the reply of the own command may be missing then
+        other.may_stop = True
 
     def query(self, session, name, head, atoms, comparisons):
         literals = [value for _, terms in atoms for kind, value in terms if kind in ("integer", "text")]
@@ -1032,7 +1059,7 @@ def follow_run(text, output, status, memory=False):
     machine.finish(session)
     if session.at < len(lines):
         raise Difference(f"{len(lines) - session.at} lines too many, the first is {lines[session.at][:300]!r}")
-    wanted = {"long": 8, "slow": 8, "memory": 6}.get(session.cause, 0)
+    wanted = {"long": 8, "slow": 8, "large": 8, "memory": 6}.get(session.cause, 0)
     if status != wanted:
         raise Difference(f"the status is {status}, allowed {wanted}")
     return machine.commands

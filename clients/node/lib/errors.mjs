@@ -30,7 +30,7 @@ export class Unanswered extends Disconnected {
   }
 }
 
-/** The server ended the session. `reason` is `long`, `slow`, `memory` or `full`. Commands without a reply weren't run. */
+/** The server ended the session. `reason` is `long`, `slow`, `large`, `memory` or `full`. Commands without a reply weren't run. */
 export class Ended extends DjqError {
   constructor(reason, line = "") {
     super(`the server ended the session: ${reason}${line ? `; not run: ${shown(line)}` : ""}`);

@@ -35,7 +35,7 @@ class Unanswered(Disconnected):
 
 
 class Ended(Error):
-    """The server ended the session. `cause` is `long`, `slow`, `memory` or `full`. What had no reply wasn't done."""
+    """The server ended the session. `cause` is `long`, `slow`, `large`, `memory` or `full`. What had no reply wasn't done."""
 
     def __init__(self, cause: str, line: str = "", words: str = "") -> None:
         words = words or f"the server ended the session: {cause}"
@@ -241,6 +241,7 @@ class SomeRefused(Error):
 
 WHY_ENDED = {
     "slow": "the server ended the session, as too little was read of what it sent (end slow)",
+    "large": "the server ended the session, as a change had more answers than a delta may have (end large)",
     "memory": "the server ended the session, as it had no memory left (end memory)",
     "full": "the server takes no further session (end full)",
 }

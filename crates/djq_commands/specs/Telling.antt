@@ -1,21 +1,20 @@
--- How a change is published to the sessions that watch, and answered.
-use Rattle.std.specs.Prelude.{ℕ, List, [], ◌∷◌, ◌==◌, ◌≡◌, ◌++◌, ◌<◌, ◌≤◌, ◌⊎◌, Bool, true, None}
-use Rattle.std.specs.Prelude.{Some, MatchOption, if◌then◌else◌, All, filter, length, map, ⊤}
+-- How a change is told to the sessions that watch, and answered.
+use Rattle.std.specs.Prelude.{ℕ, List, [], ◌∷◌, ◌==◌, ◌≡◌, ◌++◌, ◌⊎◌, Bool, true, false, None}
+use Rattle.std.specs.Prelude.{Some, IsSome, MatchOption, if◌then◌else◌, All, filter, length, map, ⊤}
 use Rattle.std.specs.List.{list_any}
 use Rattle.djq_model.specs.Data.{Bytes}
 use Rattle.djq_model.specs.Listed.{listed_name}
-use Rattle.djq_protocol.specs.declared.limits.TheConstants.{PENDING_BYTES}
-use Rattle.djq_protocol.specs.declared.answer.EndCause.TheVariants.{Slow, Memory}
-use Rattle.djq_protocol.specs.Reply.{text_of, end_slow, end_memory}
+use Rattle.djq_protocol.specs.declared.answer.EndCause.TheVariants.{Large, Memory}
+use Rattle.djq_protocol.specs.Reply.{text_of, end_large, end_memory}
 use Rattle.djq_machine.specs.State.{State, Session}
 use Rattle.djq_machine.specs.Effect.{Effect, says, nothing, EndsWith, queue_all}
 use Rattle.djq_store_spec.specs.Delta.{delta_lines}
 use Rattle.djq_machine.specs.Walk.{Walk}
-use Rattle.djq_store_spec.specs.DeltaCost.{Delta}
+use Rattle.djq_store_spec.specs.DeltaCost.{Delta, is_large}
 use Rattle.djq_machine.specs.Watch.{Telling, TellsDelta, RepliesLast}
 use Rattle.djq_engine.specs.declared.cursor.QueryId.{QueryId}
-use Rattle.djq_engine.specs.Kept.{Kept, Registered, is_watched, registered_at, told_at}
-use Rattle.djq_engine.specs.Watching.{LogsTell}
+use Rattle.djq_engine.specs.Kept.{Kept, Registered, is_watched, is_told_large, registered_at, told_at}
+use Rattle.djq_engine.specs.Watching.{LogsTell, LogsBound}
 use Rattle.djq_commands.specs.declared.open.OpenSession.{OpenSession}
 use Rattle.djq_commands.specs.Views.{Talk, state_in}
 use Rattle.djq_commands.specs.Sound.{IsSound, without_watchers, watchers_in}
@@ -26,19 +25,20 @@ pub record KeepsTold (old new : Kept) : Type 0 where
   pub listed : without_watchers new.registered ≡ without_watchers old.registered
   pub affected : new.affected ≡ old.affected
   pub told : new.told ≡ old.told
+  pub large : new.large ≡ old.large
 
 -- The lines of a query's delta are printed after what is there; or the log is lost, or there is no room.
 abbrev pub Prints : Kept → QueryId → Bytes → Bool → Bytes → Bytes → Type 0
 Prints k id query whole old new = whole ≡ true → MatchOption (told_at k id) ⊥
     (λ changes. new ≡ old ++ text_of (delta_lines query changes (k.store).seq))
 
--- A session that watches is sent a delta: this text, if it is whole. It ends if too much is pending, or out of
+-- A session that watches hears of a delta: this text, where it is whole. It ends where the delta is large, or out of
 -- memory.
-abbrev pub HearsDelta : Bool → Bytes → State → ℕ → Session → Effect → State → Type 0
-HearsDelta whole text st s x e st' =
-    ((PENDING_BYTES < length x.pending) × EndsWith end_slow Slow st s e st')
-    ⊎ ((length x.pending ≤ PENDING_BYTES) × (whole ≡ true) × (e ≡ says s text) × (st' ≡ st))
-    ⊎ ((length x.pending ≤ PENDING_BYTES) × EndsWith end_memory Memory st s e st')
+abbrev pub HearsDelta : Bool → Bool → Bytes → State → ℕ → Session → Effect → State → Type 0
+HearsDelta whole large text st s x e st' =
+    ((whole ≡ true) × (e ≡ says s text) × (st' ≡ st))
+    ⊎ ((large ≡ true) × EndsWith end_large Large st s e st')
+    ⊎ EndsWith end_memory Memory st s e st'
 
 -- It watches what it did, or nothing.
 abbrev pub WatchesOn : Talk → Talk → Type 0
@@ -77,7 +77,9 @@ pub record TellsQuery (old : Kept) (id : QueryId) (query : Bytes) (xs : List Ope
   pub goes_on : GoesOnTelling old xs new ys
   pub quiet : watchers_in xs query ≡ 0 → (new ≡ old) × (ys ≡ xs)
   pub tells : (d : Delta) (stopped : Bool) (start : List OpenSession) (m : Telling) → (listed_name d.query) ≡ query
-      → (told_at old id ≡ None) ⊎ (told_at old id ≡ Some d.changes) → ToldSoFar stopped start m old xs
+      → (told_at old id ≡ None) ⊎ (told_at old id ≡ Some d.changes)
+      → (IsSome (told_at old id) → is_large d ≡ false) → (is_told_large old id ≡ true → is_large d ≡ true)
+      → ToldSoFar stopped start m old xs
       → (m' : Telling) × TellsDelta (old.store).seq m d m' × ToldSoFar stopped start m' new ys
 
 -- These queries read the relation that changed, and the logs of those that are watched have the deltas.
@@ -86,6 +88,7 @@ pub record AreAffected (k : Kept) (readers : List Registered) (deltas : List Del
   pub there : All (λ r. registered_at k.registered r.id ≡ Some r) readers
   pub queries : map (λ d. d.query) deltas ≡ map (λ r. r.query) (filter is_watched readers)
   pub logs : LogsTell k (filter is_watched readers) deltas
+  pub bounds : LogsBound k (filter is_watched readers) deltas
 
 -- The deltas of the affected queries are published, one after another.
 pub record TellsAffected (old : Kept) (xs : List OpenSession) (new : Kept) (ys : List OpenSession) : Type 0 where

@@ -68,7 +68,7 @@ fn list_answers<L: Ledgers>(
     for read in 0..count {
         match engine.next(id, &mut answer, listing) {
             Next::Given => {
-                if session.queue_answer(&engine.answer(id, &answer)).is_err() {
+                if session.queue_answer(&engine.answer(id, answer.as_slice())).is_err() {
                     return Listed::Cut;
                 }
             }

@@ -22,7 +22,7 @@ use crate::sessions::Sessions;
 use bytes::BytesMut;
 use djq_commands::{Outcome, Queued, end_by};
 use djq_model::Name;
-use djq_protocol::limits::{PENDING_BYTES, REPLY_BYTES};
+use djq_protocol::limits::REPLY_BYTES;
 use djq_protocol::{AddOutcome, DeleteOutcome, EndCause, EndLine};
 use djq_reply::{put_at, put_change};
 use djq_session::Session;
@@ -64,17 +64,23 @@ fn print_delta(engine: &Store, id: QueryId, query: &Name, text: &mut BytesMut) -
     put_at(query, engine.seq(), text).is_ok()
 }
 
-/// Queues a delta for a session that watches, or ends it: too much is pending, or there is no memory.
-fn queue_delta(engine: &mut Store, session: &mut Session<CursorId, Name>, whole: bool, text: &[u8])
+/// Queues a delta for a session that watches, or ends it: the delta is large, or there is no memory.
+fn queue_delta(
+    engine: &mut Store,
+    session: &mut Session<CursorId, Name>,
+    whole: bool,
+    large: bool,
+    text: &[u8],
+)
     requires own { IsOwn engine.old session.old }
     requires running { session.old.cause ≡ None }
-    ensures performs { Performs (λ st s x e st'. HearsDelta whole text.now st s x e st') false
+    ensures performs { Performs (λ st s x e st'. HearsDelta whole large text.now st s x e st') false
         engine.old session.old engine.new session.new 0 0 }
     ensures kept { KeepsTold engine.old engine.new }
     ensures watches { WatchesOn session.old session.new }
 {
-    if session.pending().len() > PENDING_BYTES {
-        end_by(engine, session, EndLine::Slow, EndCause::Slow);
+    if large {
+        end_by(engine, session, EndLine::Large, EndCause::Large);
         return;
     }
     if !whole {
@@ -91,18 +97,19 @@ fn tell_watcher(
     engine: &mut Store,
     session: &mut Session<CursorId, Name>,
     whole: bool,
+    large: bool,
     queued: &mut Queued,
     text: &[u8],
 )
     requires own { IsOwn engine.old session.old }
     requires running { session.old.cause ≡ None }
-    ensures performs { Performs (λ st s x e st'. HearsDelta whole text.now st s x e st') false
+    ensures performs { Performs (λ st s x e st'. HearsDelta whole large text.now st s x e st') false
         engine.old session.old engine.new session.new 0 0 }
     ensures kept { KeepsTold engine.old engine.new }
     ensures watches { WatchesOn session.old session.new }
 {
     queued.enter(session);
-    queue_delta(engine, session, whole, text);
+    queue_delta(engine, session, whole, large, text);
     queued.count(session);
 }
 
@@ -128,11 +135,19 @@ fn tell_query(
     }
     let query = engine.query_name(id);
     text.clear();
+    let large = engine.delta_is_large(id);
     let whole = print_delta(engine, id, &query, text);
     let mut next = near;
     for at in 0..sessions.len() {
         if let Some(place) = sessions.get(at).watch_near(query, near) {
-            tell_watcher(engine, sessions.get_mut(at), whole, queued, text.as_slice());
+            tell_watcher(
+                engine,
+                sessions.get_mut(at),
+                whole,
+                large,
+                queued,
+                text.as_slice(),
+            );
             next = place.saturating_add(1);
         }
     }

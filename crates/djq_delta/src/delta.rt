@@ -5,11 +5,9 @@ ghost use Rattle.djq_delta.specs.Lines.{AreDistinctLines, HaveOneSign, SettlesTo
 
 use crate::place::{Place, cells_of};
 use crate::settle::{have_one_sign, settle_places};
+use djq_protocol::limits::DELTA_LINES;
 use std::alloc::Global;
 use std::marker::Model;
-
-/// The most lines of a delta until it is cleared: with one more it is large.
-pub const DELTA_LINES: usize = 1_000_000;
 
 /// The most cells of an answer.
 pub const MOST_WIDTH: usize = 16;
@@ -33,7 +31,6 @@ pub enum DeltaStatus {
 /// A delta that is lost or large has no line, and gets none until it is cleared.
 #[derive(Drop)]
 pub struct Delta {
-    width: usize,
     // the cells of all lines that were pushed, one line after another
     cells: Vec<u64>,
     // the lines
@@ -46,23 +43,23 @@ pub struct Delta {
 impl Model for Delta {
     ghost use Rattle.std.specs.Prelude.{◌≡◌, ◌≤◌, ◌+◌, ◌*◌, length, All, []};
     ghost use Rattle.std.specs.Vec.{vec_len, vec_capacity};
-    ghost use Rattle.djq_delta.specs.declared.delta.TheConstants.{DELTA_LINES, MOST_WIDTH};
+    ghost use Rattle.djq_delta.specs.declared.delta.TheConstants.{MOST_WIDTH};
+    ghost use Rattle.djq_protocol.specs.declared.limits.TheConstants.{DELTA_LINES};
     ghost use Rattle.djq_delta.specs.declared.delta.DeltaStatus.TheVariants.{Whole};
-    ghost use Rattle.djq_delta.specs.Delta.{DeltaSeen, placed_lines};
+    ghost use Rattle.djq_delta.specs.Delta.{DeltaSeen, IsPlacedIn, placed_lines};
 
     ghost Value = { DeltaSeen };
 
     ghost view = { λ d. record {
-      width = d.width;
-      lines = placed_lines d.width d.cells.items d.places.items;
+      lines = placed_lines d.cells.items d.places.items;
       status = d.status;
       pushed = d.pushed;
       capacity = vec_capacity d.cells + vec_capacity d.places;
     } };
 
-    ghost invariant = { λ d. (d.width ≤ MOST_WIDTH) × (d.pushed ≤ DELTA_LINES)
+    ghost invariant = { λ d. (d.pushed ≤ DELTA_LINES)
         × (vec_len d.cells ≤ MOST_WIDTH * d.pushed) × (vec_len d.places ≤ d.pushed)
-        × All (λ l. length l.cells ≡ d.width) (placed_lines d.width d.cells.items d.places.items)
+        × All (IsPlacedIn d.cells.items) d.places.items
         × ((d.status ≡ Whole → ⊥) → d.places.items ≡ []) };
 }
 
@@ -90,29 +87,38 @@ fn drop_lines(cells: &mut Vec<u64>, places: &mut Vec<Place>)
 
 /// Puts a line after the others, and returns whether there was memory for it.
 fn pack(cells: &mut Vec<u64>, places: &mut Vec<Place>, came: bool, line: &[u64]) -> bool
-    requires { vec_len cells.old < 4294967296 }
-    ensures place { result ≡ true → places.new.items ≡ places.old.items ++ record { at = vec_len cells.old; came = came } ∷ [] }
+    requires room { vec_len cells.old < 4294967296 }
+    requires few { length line.now ≤ MOST_WIDTH }
+    ensures place { result ≡ true → places.new.items
+        ≡ places.old.items ++ record { at = vec_len cells.old; len = length line.now; came = came } ∷ [] }
     ensures cells { result ≡ true → cells.new.items ≡ cells.old.items ++ line.now }
 {
     let at = cells.len() as u32;
-    places.push(Place { at, came }).is_ok() && cells.extend_from_slice(line).is_ok()
+    let len = line.len() as u8;
+    places.push(Place { at, len, came }).is_ok() && cells.extend_from_slice(line).is_ok()
 }
 
 impl Delta {
     ghost use Rattle.djq_delta.specs.declared.delta.DeltaStatus.TheVariants.{Whole, Lost, Large};
 
-    /// A delta without lines, of answers of so many cells.
-    pub fn new(alloc: Global, width: usize) -> Self
-        requires { width ≤ MOST_WIDTH }
-        ensures { result ≡ record { width = width; lines = []; status = Whole; pushed = 0; capacity = 0 } }
+    /// A delta without lines.
+    pub fn new(alloc: Global) -> Self
+        ensures { result ≡ record { lines = []; status = Whole; pushed = 0; capacity = 0 } }
     {
         Delta {
-            width,
             cells: Vec::new(alloc),
             places: Vec::new(alloc),
             pushed: 0,
             status: DeltaStatus::Whole,
         }
+    }
+
+    /// What holds of each delta. It does nothing.
+    pub fn laws(&self)
+        ensures few { self.now.pushed ≤ DELTA_LINES }
+        ensures lines { length self.now.lines ≤ self.now.pushed }
+    {
+        let _places = &self.places;
     }
 
     /// How many lines there are.
@@ -132,12 +138,11 @@ impl Delta {
     /// A line: whether its answer was added, and the answer's cells.
     pub fn line(&self, index: usize) -> (bool, &[u64])
         requires { index < length self.now.lines }
-        ensures line { slice_index_or self.now.lines index record { came = result.0; cells = result.1.now }
+        ensures { slice_index_or self.now.lines index record { came = result.0; cells = result.1.now }
             ≡ record { came = result.0; cells = result.1.now } }
-        ensures width { length result.1.now ≡ self.now.width }
     {
         let place = self.places[index];
-        (place.came, cells_of(&self.cells, self.width, place))
+        (place.came, cells_of(&self.cells, place))
     }
 
     /// Whether it has all of its lines.
@@ -169,7 +174,7 @@ impl Delta {
     /// Out of memory the delta is lost. If [`DELTA_LINES`] lines were pushed before this one it is
     /// large. Either way all its lines are dropped. A delta that isn't whole stays as it is.
     pub fn push(&mut self, came: bool, cells: &[u64])
-        requires { length cells.now ≡ self.old.width }
+        requires { length cells.now ≤ MOST_WIDTH }
         ensures stays { self.old.status ≢ Whole → self.new ≡ self.old }
         ensures whole { self.new.status ≡ Whole → self.old.status ≡ Whole }
         ensures line { self.new.status ≡ Whole
@@ -177,7 +182,6 @@ impl Delta {
         ensures counted { self.new.status ≡ Whole → self.new.pushed ≡ self.old.pushed + 1 }
         ensures large { self.old.status ≡ Whole → (self.new.status ≡ Large ↔ self.old.pushed ≡ DELTA_LINES) }
         ensures none { self.new.status ≢ Whole → self.new.lines ≡ [] }
-        ensures width { self.new.width ≡ self.old.width }
     {
         if !matches!(self.status, DeltaStatus::Whole) {
             return;
@@ -205,7 +209,7 @@ impl Delta {
         ensures rest { self.new ≡ record self.old { lines = self.new.lines } }
     {
         if !have_one_sign(&self.places) {
-            settle_places(&mut self.places, &self.cells, self.width);
+            settle_places(&mut self.places, &self.cells);
         }
     }
 
@@ -213,10 +217,18 @@ impl Delta {
     pub fn lose(&mut self)
         ensures lost { self.new.status ≡ Lost }
         ensures lines { self.new.lines ≡ [] }
-        ensures width { self.new.width ≡ self.old.width }
         ensures capacity { self.new.capacity ≤ RETAINED_WORDS }
     {
         self.end(DeltaStatus::Lost);
+    }
+
+    /// Gives up all lines, since there are more than a delta may have.
+    pub fn overflow(&mut self)
+        ensures large { self.new.status ≡ Large }
+        ensures lines { self.new.lines ≡ [] }
+        ensures capacity { self.new.capacity ≤ RETAINED_WORDS }
+    {
+        self.end(DeltaStatus::Large);
     }
 
     /// Drops all lines, to begin anew, and gives memory back.
@@ -224,7 +236,6 @@ impl Delta {
         ensures whole { self.new.status ≡ Whole }
         ensures lines { self.new.lines ≡ [] }
         ensures pushed { self.new.pushed ≡ 0 }
-        ensures width { self.new.width ≡ self.old.width }
         ensures capacity { self.new.capacity ≤ RETAINED_WORDS }
     {
         self.end(DeltaStatus::Whole);
@@ -235,7 +246,6 @@ impl Delta {
         ensures status { self.new.status ≡ status }
         ensures lines { self.new.lines ≡ [] }
         ensures pushed { self.new.pushed ≡ 0 }
-        ensures width { self.new.width ≡ self.old.width }
         ensures capacity { self.new.capacity ≤ RETAINED_WORDS }
     {
         drop_lines(&mut self.cells, &mut self.places);

@@ -2,7 +2,7 @@
 //!
 //! A [`Delta`] has lines, each with a sign and the cells of an answer. [`Delta::settle`] drops the lines that cancel
 //! out: an answer that one change adds and removes is no change. A delta that was refused memory is lost, and one of
-//! more than [`DELTA_LINES`] lines is large; either has no line until it is cleared.
+//! more than [`DELTA_LINES`](djq_protocol::limits::DELTA_LINES) lines is large; either has no line until it is cleared.
 //!
 //! ```text
 //! push + (1, 2)     + (1, 2)
@@ -14,9 +14,8 @@
 //!
 //! Of a union, [`is_reported`] decides by the settled deltas of its members which answers it gained or lost.
 //!
-//! It lists no answers, and doesn't know its query: whoever lists the answers pushes the lines. The program's deltas are
-//! logs of `djq_enumeration`, which are settled in the same way and by the lemmas of this crate; a [`Delta`] is to
-//! replace them.
+//! It lists no answers, and doesn't know its query: whoever lists the answers pushes the lines. A log of `djq_enumeration`
+//! is such a delta, of a query with a tree.
 //!
 //! What surprises: lines of both signs are in another order once they are settled. The cells of a line that was dropped
 //! use memory until the delta is cleared, and the line still counts among those that were pushed.
@@ -32,6 +31,6 @@ mod members;
 mod place;
 mod settle;
 
-pub use delta::{DELTA_LINES, Delta, DeltaStatus, MOST_WIDTH, RETAINED_WORDS};
+pub use delta::{Delta, DeltaStatus, MOST_WIDTH, RETAINED_WORDS};
 pub use laws::{settling_is_net, settling_shortens, settling_twice_is_once};
 pub use members::{has_line, is_reported};

@@ -5,7 +5,7 @@ ghost use Rattle.std.specs.Cmp.Lexicographic.{slice_cmp};
 ghost use Rattle.std.specs.List.Sorted.{IsPermutation, IsSortedByKey};
 ghost use Rattle.std.specs.Vec.{vec_len, vec_capacity};
 ghost use Rattle.djq_delta.specs.Lines.{AreDistinctLines, SettlesTo};
-ghost use Rattle.djq_delta.specs.Delta.{placed_line, placed_lines};
+ghost use Rattle.djq_delta.specs.Delta.{IsPlacedIn, placed_line, placed_lines};
 
 use crate::place::{Place, cells_of, have_same_cells};
 
@@ -25,27 +25,29 @@ pub fn have_one_sign(places: &[Place]) -> bool
 }
 
 /// Sorts places by the cells that are there. It allocates nothing.
-fn sort_by_cells(places: &mut [Place], cells: &[u64], width: usize)
+fn sort_by_cells(places: &mut [Place], cells: &[u64])
     ensures permutation { IsPermutation places.old places.new }
-    ensures sorted { IsSortedByKey (λ p. (placed_line width cells.now p).cells) (slice_cmp nat_cmp) places.new }
+    ensures sorted { IsSortedByKey (λ p. (placed_line cells.now p).cells) (slice_cmp nat_cmp) places.new }
 {
     places.sort_unstable_by(|one, other| {
-        cells_of(cells, width, *one).cmp(cells_of(cells, width, *other))
+        cells_of(cells, *one).cmp(cells_of(cells, *other))
     });
 }
 
 /// Of places that are sorted by cells, drops each pair of opposites. The places that stay are moved to the front.
-fn drop_opposites(places: &mut Vec<Place>, cells: &[u64], width: usize)
-    requires distinct { AreDistinctLines (placed_lines width cells.now places.old.items) }
-    requires sorted { IsSortedByKey (λ p. (placed_line width cells.now p).cells) (slice_cmp nat_cmp) places.old.items }
-    ensures settled { SettlesTo (placed_lines width cells.now places.old.items) (placed_lines width cells.now places.new.items) }
+fn drop_opposites(places: &mut Vec<Place>, cells: &[u64])
+    requires distinct { AreDistinctLines (placed_lines cells.now places.old.items) }
+    requires sorted { IsSortedByKey (λ p. (placed_line cells.now p).cells) (slice_cmp nat_cmp) places.old.items }
+    requires placed { All (IsPlacedIn cells.now) places.old.items }
+    ensures settled { SettlesTo (placed_lines cells.now places.old.items) (placed_lines cells.now places.new.items) }
+    ensures placed { All (IsPlacedIn cells.now) places.new.items }
     ensures fewer { vec_len places.new ≤ vec_len places.old }
     ensures capacity { vec_capacity places.new ≡ vec_capacity places.old }
 {
     let mut remaining = 0;
     for at in 0..places.len() {
         let place = places[at];
-        if remaining > 0 && have_same_cells(cells, width, places[remaining - 1], place) {
+        if remaining > 0 && have_same_cells(cells, places[remaining - 1], place) {
             remaining -= 1;
         } else {
             places[remaining] = place;
@@ -56,12 +58,14 @@ fn drop_opposites(places: &mut Vec<Place>, cells: &[u64], width: usize)
 }
 
 /// Drops lines that cancel out.
-pub fn settle_places(places: &mut Vec<Place>, cells: &[u64], width: usize)
-    requires { AreDistinctLines (placed_lines width cells.now places.old.items) }
-    ensures settled { SettlesTo (placed_lines width cells.now places.old.items) (placed_lines width cells.now places.new.items) }
+pub fn settle_places(places: &mut Vec<Place>, cells: &[u64])
+    requires distinct { AreDistinctLines (placed_lines cells.now places.old.items) }
+    requires placed { All (IsPlacedIn cells.now) places.old.items }
+    ensures settled { SettlesTo (placed_lines cells.now places.old.items) (placed_lines cells.now places.new.items) }
+    ensures placed { All (IsPlacedIn cells.now) places.new.items }
     ensures fewer { vec_len places.new ≤ vec_len places.old }
     ensures capacity { vec_capacity places.new ≡ vec_capacity places.old }
 {
-    sort_by_cells(places, cells, width);
-    drop_opposites(places, cells, width);
+    sort_by_cells(places, cells);
+    drop_opposites(places, cells);
 }

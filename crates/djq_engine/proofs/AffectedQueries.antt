@@ -1,9 +1,9 @@
 -- Which watched queries a change of rows affects, and what holds of an engine between calls.
-use Rattle.std.proofs.Common.{ℕ, zero, suc, List, [], ◌∷◌, ◌+◌, ◌≡◌, ◌≤◌, ◌⊎◌, inl, inr, Bool, true, false, refl, sym}
+use Rattle.std.proofs.Common.{ℕ, zero, suc, List, [], ◌∷◌, ◌+◌, ◌≡◌, ◌≤◌, ◌⊎◌, inl, inr, Bool, true, false, refl, sym, ap₂}
 use Rattle.std.proofs.Common.{ap, ◌∙◌, subst, arith, length}
 use Rattle.std.specs.Prelude.{◌==◌, ◌&&◌, ◌||◌, Option, None, Some, is_some, cond, map, filter, sum_by, slice_index_or}
-use Rattle.std.specs.Prelude.{All, IsSomeAnd, option_map}
-use Rattle.std.proofs.lemmas.Bool.{eq-eqb, and_parts}
+use Rattle.std.specs.Prelude.{All, IsSome, IsSomeAnd, option_map, nat_lt, unwrap_or}
+use Rattle.std.proofs.lemmas.Bool.{eq-eqb, false≢true, and_parts, lt-ltb, le-ltb}
 use Rattle.std.proofs.lemmas.List.Sums.{sum_by-cons}
 use Rattle.std.proofs.lemmas.List.Elements.{All-cons, All-head, All-nil, All-tail}
 use Rattle.djq_model.specs.declared.relation.Relation.{Relation}
@@ -11,11 +11,12 @@ use Rattle.djq_model.specs.Data.{Bytes}
 use Rattle.djq_model.specs.Answer.{IsAnswer}
 use Rattle.djq_model.specs.Listed.{AnswersOf, a_query, listed_name}
 use Rattle.djq_database.specs.Catalog.{Catalog}
-use Rattle.djq_enumeration.specs.declared.log.Line.{Line}
-use Rattle.djq_enumeration.specs.Log.{Log}
+use Rattle.djq_enumeration.specs.Log.{Line}
+use Rattle.djq_enumeration.specs.Log.{Log, least_changes}
+use Rattle.djq_protocol.specs.declared.limits.TheConstants.{DELTA_LINES}
 use Rattle.djq_store_spec.specs.Changes.{RowsChange, accepted, out_of_memory, is_outdated}
 use Rattle.djq_store_spec.specs.Delta.{Change, IsDelta}
-use Rattle.djq_store_spec.specs.DeltaCost.{Delta, AreDeltas, ArePartsOf, ListsAnswers, ListsDelta, delta_steps}
+use Rattle.djq_store_spec.specs.DeltaCost.{Delta, AreDeltas, ArePartsOf, ListsAnswers, ListsDelta, delta_steps, is_large}
 use Rattle.djq_live_query.specs.Live.{Live, IsShowable}
 use Rattle.djq_live_query.specs.Updating.{change_of}
 use Rattle.djq_live_query.specs.Cursors.{Progress, slot_at}
@@ -23,14 +24,14 @@ use Rattle.djq_live_query.specs.Member.{in_head, ShowableCellsStand}
 use Rattle.djq_reach.specs.Places.{place_at, is_reader, watched_at, log_at}
 use Rattle.djq_engine.specs.declared.parts.Parts.{Parts}
 use Rattle.djq_engine.specs.declared.cursor.CursorId.{CursorId}
-use Rattle.djq_engine.specs.Kept.{Kept, Registered, readers_of, affected_of, is_watched, told_at, HeldCursor}
+use Rattle.djq_engine.specs.Kept.{Kept, Registered, readers_of, affected_of, is_watched, told_at, is_told_large, HeldCursor}
 use Rattle.djq_engine.specs.Kept.{PlacesAreKept, IdsArePlaced, PlacesAreRegistered, CursorsAreRegistered, ToldCellsFit}
 use Rattle.djq_engine.specs.Kept.{CellsAre, registered_at}
 use Rattle.djq_engine.specs.Places.{is_live, query_in, id_at, query_registered_as, registered_in, told_from}
-use Rattle.djq_engine.specs.Places.{held_query_cursor, query_cursor_of, told_of}
+use Rattle.djq_engine.specs.Places.{held_query_cursor, query_cursor_of, told_of, was_too_large}
 use Rattle.djq_engine.specs.Sound.{QueriesAreSound}
-use Rattle.djq_engine.specs.Changing.{KeepsLogs}
-use Rattle.djq_engine.specs.Watching.{LogTells, LogsTell, EngineTellsChange, reaches}
+use Rattle.djq_engine.specs.Changing.{CountsListed, KeepsLogs}
+use Rattle.djq_engine.specs.Watching.{LogTells, LogsTell, LogBounds, LogsBound, EngineTellsChange, reaches}
 use Rattle.djq_engine.specs.Whole.{kept_in, EngineIsWhole, IsTended}
 use Rattle.djq_engine.proofs.RegisteredQueries.{map_mapped, filter_mapped, filter_both, registered_has}
 use Rattle.djq_engine.proofs.RegisteredQueries.{registered_gives}
@@ -116,7 +117,7 @@ module _ (c : Catalog) (gs : List (Option Live)) (order : List ℕ) (readers : L
   AreListed f n = (i : ℕ) (l : Live) → is_reader places i ≡ true → watched_at ws i ≡ true → place_at gs i ≡ Some l
       → ListsAnswers c.relations change l.query (f i) (n i)
 
-  reader_there : (i : ℕ) → is_reader places i ≡ true → There gs i
+  pub reader_there : (i : ℕ) → is_reader places i ≡ true → There gs i
   reader_there i e = live_there gs i (and_parts (is_live gs i) _ (sym (place_is i) ∙ e)).0
 
   pub listed_with : (f : ℕ → List Change) (n : ℕ → ℕ) → AreFor f → AreListed f n
@@ -204,6 +205,45 @@ module _ (c : Catalog) (gs : List (Option Live)) (order : List ℕ) (readers : L
           behind i true e = refl
           behind i false e = e
 
+  -- the same of how many were listed
+  pub bounds_with : (f : ℕ → List Change) (n : ℕ → ℕ) (new : Kept)
+      → ((i : ℕ) → is_reader places i ≡ true → watched_at ws i ≡ true
+      → LogBounds new (query_registered_as gs ws i) (delta_at f n i))
+      → LogsBound new (affected_of (registered_in gs ws order) change) (deltas_with f n)
+  bounds_with f n new h =
+      subst (λ (rs : List Registered). LogsBound new rs (deltas_with f n)) (sym affected_here)
+      (over watched (λ i e.
+      let b = and_parts (is_reader places i) (watched_at ws i) (sym (reader_filter (watched_at ws) places i) ∙ e) in
+      h i b.0 b.1))
+    where
+      over : (xs : List ℕ)
+          → ((i : ℕ) → is_reader xs i ≡ true → LogBounds new (query_registered_as gs ws i) (delta_at f n i))
+          → LogsBound new (registered_in gs ws xs) (map (delta_at f n) xs)
+      over [] k = tt
+      over (x ∷ xs) k = (
+        k x (ap (λ b. b || is_reader xs x) (eq-eqb x x refl)),
+        over xs
+            (λ i e. k i (behind i (x == i) e)),
+      )
+        where
+          behind : (i : ℕ) (b : Bool) → is_reader xs i ≡ true → (b || is_reader xs i) ≡ true
+          behind i true e = refl
+          behind i false e = e
+
+  -- by what the log of a query that is there says
+  pub bounds_by_log : (f : ℕ → List Change) (n : ℕ → ℕ) (new : Kept) (i : ℕ) → There gs i
+      → (IsSome (told_at new (id_at i)) → n i ≤ DELTA_LINES)
+      → (is_told_large new (id_at i) ≡ true → DELTA_LINES + 1 ≤ n i)
+      → LogBounds new (query_registered_as gs ws i) (delta_at f n i)
+  bounds_by_log f n new i y few many = record {
+    few = λ told. over_as false (le-ltb DELTA_LINES (n i) (few told));
+    many = λ large. over_as true (lt-ltb DELTA_LINES (n i) (omega (arith, many large)));
+  }
+    where
+      over_as : (b : Bool) → nat_lt DELTA_LINES (n i) ≡ b → is_large (delta_at f n i) ≡ b
+      over_as b e = subst (λ (o : Option Live). is_large (record
+          { query = query_in o; changes = f i; listed = n i; parts = [] }) ≡ b) (sym y.is) e
+
   -- a delta of each query, as one exists
   module _ (have : (i : ℕ) (l : Live) → place_at gs i ≡ Some l → (changes : List Change)
       × IsDelta (IsAnswer c.relations l.query) (IsAnswer change.after l.query) changes) where
@@ -283,6 +323,42 @@ told_delta texts hs logs i l D alike h changes e =
         subst D (same_some (map (change_of texts l) (log_at logs i).lines) changes
         (sym (ap (λ b. cond b None (Some (map (change_of texts l) (log_at logs i).lines))) f) ∙ g)) (h f)
 
+-- no more were listed for what is told than a log may have lines
+pub told_is_few : (texts : List Bytes) (hs : List (Option Live)) (logs : List Log) (i n : ℕ)
+    → CountsListed (log_at logs i) n → IsSome (slice_index_or (told_from texts hs logs) i None) → n ≤ DELTA_LINES
+told_is_few texts hs logs i n h told = by_lost (log_at logs i).lost refl
+  where
+    by_place : (o : Option Live) → (log_at logs i).lost ≡ true → told_of texts o (log_at logs i) ≡ None
+    by_place None e = refl
+    by_place (Some l) e = ap (λ b. cond b None (Some (map (change_of texts l) (log_at logs i).lines))) e
+
+    by_lost : (b : Bool) → (log_at logs i).lost ≡ b → n ≤ DELTA_LINES
+    by_lost true e = absurd (subst (λ (o : Option (List Change)). IsSome o)
+        (told_is texts hs logs i ∙ by_place (place_at hs i) e) told)
+    by_lost false e = h.few e
+
+-- whether the log in a place was too large
+pub large_is : (logs : List Log) (i : ℕ)
+    → unwrap_or (slice_index_or (map (λ (log : Log). Some (was_too_large log)) logs) i None) false
+    ≡ was_too_large (log_at logs i)
+large_is [] zero = refl
+large_is [] (suc i) = refl
+large_is (log ∷ logs) zero = refl
+large_is (log ∷ logs) (suc i) = large_is logs i
+
+-- then more were listed
+pub large_had_more : (logs : List Log) (i n : ℕ) → CountsListed (log_at logs i) n
+    → unwrap_or (slice_index_or (map (λ (log : Log). Some (was_too_large log)) logs) i None) false ≡ true
+    → DELTA_LINES + 1 ≤ n
+large_had_more logs i n h is = by_lost (log_at logs i).lost refl (sym (large_is logs i) ∙ is)
+  where
+    by_lost : (b : Bool) → (log_at logs i).lost ≡ b → cond b (log_at logs i).large false ≡ true → DELTA_LINES + 1 ≤ n
+    by_lost true lost large =
+        let least : least_changes (log_at logs i) ≡ DELTA_LINES + 1 = ap₂
+        (λ (x y : Bool). cond x (cond y (DELTA_LINES + 1) 0) (log_at logs i).pushed) lost large in
+        omega (arith, least, h.counts)
+    by_lost false lost large = absurd (false≢true large)
+
 -- ---- the parts of an engine
 
 -- a query of which the log stays is told the same
@@ -332,6 +408,7 @@ module _ (old : Parts) (s : EngineIsWhole old) (change : RowsChange) (places : L
         counted = counts f be;
         affected = affected;
         logs = tt;
+        bounds = tt;
         discards = λ id h.
             let r = registered_has old.catalog old.queries.items old.order old.readers.items old.watchers.items s id
             (λ r. is_outdated change r.query ≡ true) h in
@@ -348,10 +425,14 @@ module _ (old : Parts) (s : EngineIsWhole old) (change : RowsChange) (places : L
       → place_at old.queries.items i ≡ Some l → (log_at new.logs.items i).lost ≡ false
       → IsDelta (IsAnswer (old.catalog).relations l.query) (IsAnswer change.after l.query)
       (map (change_of (new.catalog).texts l) (log_at new.logs.items i).lines))
+      → ((i : ℕ) (l : Live) → is_reader places i ≡ true → watched_at old.watchers.items i ≡ true
+      → place_at old.queries.items i ≡ Some l → (f : ℕ → List Change)
+      → IsDelta (IsAnswer (old.catalog).relations l.query) (IsAnswer change.after l.query) (f i)
+      → CountsListed (log_at new.logs.items i) (many f i))
       → AreAlike old.queries.items new.queries.items → new.affected.items ≡ places
       → KeepsLogs (λ i. is_reader places i && watched_at old.watchers.items i) old new → ToldStay old new
       → EngineTellsChange (kept_in old) (accepted change) (kept_in new) before now
-  accepted_tells new tells alike affected quiet told =
+  accepted_tells new tells says alike affected quiet told =
       let f = told_changes old.catalog old.queries.items old.order old.readers.items s old.watchers.items change places
       are have (kept_in new) in
       let be = told_are old.catalog old.queries.items old.order old.readers.items s old.watchers.items change places are
@@ -372,6 +453,15 @@ module _ (old : Parts) (s : EngineIsWhole old) (change : RowsChange) (places : L
         logs = logs_with old.catalog old.queries.items old.order old.readers.items s old.watchers.items change places
             are f (many f) (kept_in new) (λ i r. told_by_log old.catalog old.queries.items old.order
             old.readers.items s old.watchers.items change places are have (kept_in new) (many f) i);
+        bounds = bounds_with old.catalog old.queries.items old.order old.readers.items s old.watchers.items change places
+            are f (many f) (kept_in new) (λ i r w.
+            let y = reader_there old.catalog old.queries.items old.order old.readers.items s old.watchers.items change
+            places are i r in
+            let n = says i y.query r w y.is f (be i y.query r w y.is) in
+            bounds_by_log old.catalog old.queries.items old.order old.readers.items s old.watchers.items change places
+            are f (many f) (kept_in new) i y
+            (told_is_few (new.catalog).texts new.queries.items new.logs.items i (many f i) n)
+            (large_had_more new.logs.items i (many f i) n));
         discards = tt;
         stays = λ id h.
             let r = registered_has old.catalog old.queries.items old.order old.readers.items old.watchers.items s id

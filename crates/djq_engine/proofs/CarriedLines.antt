@@ -43,7 +43,7 @@ use Rattle.djq_transaction.specs.Leading.{AreGroupsOf, HasHeadings, ChangedIsEit
 use Rattle.djq_engine.specs.declared.parts.Parts.{Parts}
 use Rattle.djq_engine.specs.Kept.{Outdates, is_tried}
 use Rattle.djq_engine.specs.Places.{is_live, query_in, queries_in}
-use Rattle.djq_engine.specs.Changing.{KeepsRest}
+use Rattle.djq_engine.specs.Changing.{CountsListed, KeepsRest}
 use Rattle.djq_engine.specs.Outdating.{AgesAll, AgesAt, AgesBy, AreReaders, first_of_names}
 use Rattle.djq_engine.specs.Watching.{EngineTellsChange}
 use Rattle.djq_engine.specs.Whole.{kept_in, EngineIsWhole, IsTended}
@@ -555,6 +555,7 @@ module _ (old mid new : Parts) (s : EngineIsWhole old) (t : IsTended old) (lines
 
     pub carried_tells : (count : ℕ) → (count ≡ 0 → ⊥)
         → EngineTellsChange (kept_in old) (lines_outcome rs lines (Ok count)) (kept_in new) from now
+    unfolding came went many
     carried_tells count some = subst (λ (o : RowsOutcome). EngineTellsChange (kept_in old) o (kept_in new) from now)
         (sym (outcome_some rs lines count some))
         (accepted_tells old s change (outdated_places old.queries.items old.order change) refl
@@ -570,6 +571,12 @@ module _ (old mid new : Parts) (s : EngineIsWhole old) (t : IsTended old) (lines
         (map (change_of c.texts l) (log_at new.logs.items i).lines)) (sym x.catalog)
         (subst (λ (ls : List Log). IsDelta (IsAnswer rs l.query) (IsAnswer change.after l.query)
         (map (change_of (mid.catalog).texts l) (log_at ls i).lines)) (sym x.logs) d2)))
+        (λ i l e w there f delta. subst (λ (ls : List Log). CountsListed (log_at ls i) (length (came i) + length (went i)))
+        (sym x.logs) (k.changes.counts i l (affected_reached i e) w there (came i) (went i)
+        (half_is old.queries.items Comes (delta_of rs (relations_between rs lines)) i l there)
+        (subst (λ (qs : List Relation). IsDelta (IsAnswer (relations_between rs lines) l.query)
+        (IsAnswer qs l.query) (went i)) (sym k.changes.relations)
+        (half_is old.queries.items Goes (delta_of (relations_between rs lines) (relations_after rs lines)) i l there))))
         alike
         (x.affected ∙ affected_as ∙ affected_are)
         (λ i l there e. ap (λ (ls : List Log). log_at ls i) x.logs

@@ -36,6 +36,7 @@ use Rattle.djq_queries.specs.Going.{GroupsGo}
 use Rattle.djq_queries.specs.Changing.{CanChangeBy, CostsChange, EmptiesWatched, GroupsChange, LogTellsNet}
 use Rattle.djq_queries.specs.Changing.{TellsChangeAt, TellsChangeWhere, WorksChange, touched}
 use Rattle.djq_queries.proofs.Chains.{past_gone}
+use Rattle.djq_engine.proofs.DeltaLengths.{no_longer_delta}
 use Rattle.djq_transaction.specs.declared.net.Net.{Net}
 use Rattle.djq_transaction.specs.Leading.{LeadsBy, HeadingsStay, LeftIsAfter, AnswersLeft, catalog_between}
 use Rattle.djq_transaction.specs.Leading.{catalog_left}
@@ -287,6 +288,20 @@ module _ (old : Parts) (s : EngineIsWhole old) (lines : List HeldLine) (lead : L
               (map (change_of (new.catalog).texts l) (log_at new.logs.items i).lines)
               (subst (λ (ts : List Bytes). IsDeltaOf l c left (map (change_of ts l) (log_at new.logs.items i).lines))
               (sym texts) (told.tells lost)));
+          counts = λ i l h w there added removed comes goes. (let told = told_at tends i l h w there in
+              let Before = IsAnswer c.relations l.query in
+              let Between = IsAnswer e.relations l.query in
+              let After = IsAnswer left.relations l.query in
+              let removes = delta_to Between (IsAnswer (new.catalog).relations l.query) After (to_left l.query)
+              (to_after l.query) removed goes in
+              let more_came = no_longer_delta Before Between added told.came comes told.inserts in
+              let less_came = no_longer_delta Before Between told.came added told.inserts comes in
+              let more_went = no_longer_delta Between After removed told.went removes told.deletes in
+              let less_went = no_longer_delta Between After told.went removed told.deletes removes in
+              record {
+                few = λ whole. omega (arith, more_came, more_went, told.few whole);
+                counts = omega (arith, less_came, less_went, told.counts);
+              });
           shown = λ i l h w there lost. (let told = told_at tends i l h w there in
               subst (λ (ts : List Bytes). All (λ k. IsShowable ts l k.answer) (log_at new.logs.items i).lines)
               (sym texts) (told.shown lost));

@@ -48,7 +48,7 @@ use Rattle.djq_engine.specs.declared.cursor.QueryId.{QueryId}
 use Rattle.djq_engine.specs.declared.parts.Parts.{Parts}
 use Rattle.djq_engine.specs.Kept.{Kept, registered_at, told_at}
 use Rattle.djq_engine.specs.Places.{is_live, query_in, id_at, registered_in, told_of, told_from, places_without}
-use Rattle.djq_engine.specs.Changing.{IsDeltaWith, TellsRows, CountsRows, KeepsRest, KeepsLogs, AgesReaders}
+use Rattle.djq_engine.specs.Changing.{TellsRows, TellsWith, CountsRows, KeepsRest, KeepsLogs, AgesReaders}
 use Rattle.djq_engine.specs.Changing.{LacksMemory, NoPlace, for_copies, for_texts, RowLacksPlace, PutsRow, DropsRow}
 use Rattle.djq_engine.specs.Changing.{reads_at, tells_at}
 use Rattle.djq_engine.specs.Watching.{EngineTellsChange, reaches}
@@ -214,6 +214,7 @@ tells_nothing old new before now h affected stays = record {
   counted = omega (arith, h);
   affected = affected;
   logs = tt;
+  bounds = tt;
   discards = tt;
   stays = stays;
 }
@@ -313,21 +314,19 @@ module _ (old : Parts) (s : EngineIsWhole old) (at : ℕ) (low : at < length (ol
       before now counts_one
 
   -- where the change was accepted
-  pub tells_done : (new : Parts)
-      → ((i : ℕ) (l : Live) → is_reader (readers_at old.readers.items at) i ≡ true → watched_at old.watchers.items i
-      ≡ true
-      → place_at old.queries.items i ≡ Some l → (log_at new.logs.items i).lost ≡ false
-      → IsDeltaWith at rows (old.catalog).relations l
-      (map (change_of (new.catalog).texts l) (log_at new.logs.items i).lines))
+  pub tells_done : (new : Parts) → TellsRows at rows old new
       → AreAlike old.queries.items new.queries.items → new.affected.items ≡ readers_at old.readers.items at
       → KeepsLogs (tells_at old at) old new → ToldStay old new
       → EngineTellsChange (kept_in old) (accepted one) (kept_in new) before now
+  unfolding many_one
   tells_done new tells =
       accepted_tells old s one (readers_at old.readers.items at) places_are have_one many_one lists_one before
       now counts_one new
       (λ i l r w there lost. subst
       (λ (rs : List Relation). IsDelta (IsAnswer (old.catalog).relations l.query) (IsAnswer rs l.query)
-      (map (change_of (new.catalog).texts l) (log_at new.logs.items i).lines)) after_is (tells i l r w there lost))
+      (map (change_of (new.catalog).texts l) (log_at new.logs.items i).lines)) after_is ((tells i l r w there).tells lost))
+      (λ i l r w there f delta. (tells i l r w there).counts (f i) (subst (λ (rs : List Relation). IsDelta
+      (IsAnswer (old.catalog).relations l.query) (IsAnswer rs l.query) (f i)) (sym after_is) delta))
 
 -- ---- what is kept once readers were reached and their cursors outdated
 
@@ -432,11 +431,8 @@ module _ (old : Parts) (s : EngineIsWhole old) (name : Bytes) (row : Tuple) (at 
         (kept_in new) before now
     done rows counts tells = tells_done old s at m.below name m.named rows law differ (have rows) before now counts new
         (λ i l r w there. subst
-        (λ (ls : List Log). (log_at ls i).lost ≡ false
-        → IsDeltaWith at rows (old.catalog).relations l (map (change_of (new.catalog).texts l) (log_at ls i).lines))
-        (sym logs)
-        (subst (λ (x : Catalog). (log_at mid.logs.items i).lost ≡ false
-        → IsDeltaWith at rows (old.catalog).relations l (map (change_of x.texts l) (log_at mid.logs.items i).lines))
+        (λ (ls : List Log). TellsWith at rows (old.catalog).relations (new.catalog).texts l (log_at ls i)) (sym logs)
+        (subst (λ (x : Catalog). TellsWith at rows (old.catalog).relations x.texts l (log_at mid.logs.items i))
         (sym catalog) (tells i l r w there)))
         alike places
         (λ i l there e. ap (λ (ls : List Log). log_at ls i) logs ∙ quiet i l there e) told

@@ -8,6 +8,7 @@ pub mod OutdatedQueries
 pub mod StoredRows
 pub mod RegisteredQueries
 pub mod Registrations
+pub mod DeltaLengths
 pub mod Logs
 pub mod Refusals
 pub mod AffectedQueries

@@ -3,7 +3,7 @@ use Rattle.std.proofs.Common.{ℕ, zero, suc, List, [], ◌∷◌, ◌++◌, ◌
 use Rattle.std.proofs.Common.{set, get_or, arith, ◌≢◌, ◌+◌, ◌<◌, ◌≤◌, inl, inr, length}
 use Rattle.std.specs.Prelude.{Option, None, Some, All, map, cond, slice_index_or, ⊤, IsSomeAnd, sum_by}
 use Rattle.std.proofs.lemmas.Bool.{eq-eqb, false≢true}
-use Rattle.std.proofs.lemmas.List.{get_or-set_other, get_or-set_same}
+use Rattle.std.proofs.lemmas.List.{get_or-set_other, get_or-set_same, length-map}
 use Rattle.djq_model.specs.declared.relation.Relation.{Relation}
 use Rattle.djq_model.specs.declared.relation.CountedRow.{CountedRow}
 use Rattle.djq_model.specs.Data.{Bytes, Tuple}
@@ -12,7 +12,7 @@ use Rattle.djq_model.specs.Answer.{IsAnswer}
 use Rattle.djq_tree.specs.Tree.{Tree}
 use Rattle.djq_protocol.specs.declared.answer.Sign.TheVariants.{Came as HasCome, Went as HasGone}
 use Rattle.djq_database.specs.Catalog.{Catalog, with_rows_at}
-use Rattle.djq_enumeration.specs.declared.log.Line.{Line}
+use Rattle.djq_enumeration.specs.Log.{Line}
 use Rattle.djq_enumeration.specs.Log.{Log}
 use Rattle.djq_query.specs.Numbered.{Numbered}
 use Rattle.djq_store_spec.specs.Delta.{Change, IsDelta}
@@ -30,8 +30,9 @@ use Rattle.djq_engine.specs.Kept.{SameShape, same_query, SameTellings}
 use Rattle.djq_engine.specs.Places.{query_in, told_of, told_from, id_at, Watches, kept_of}
 use Rattle.djq_engine.specs.Placing.{SameLogs}
 use Rattle.djq_engine.specs.Sound.{QueriesAreSound}
-use Rattle.djq_engine.specs.Changing.{IsDeltaWith}
+use Rattle.djq_engine.specs.Changing.{IsDeltaWith, TellsWith}
 use Rattle.djq_engine.proofs.Catalogs.{readers_kept}
+use Rattle.djq_engine.proofs.DeltaLengths.{no_longer_delta}
 
 -- ---- What the logs tell, by place.
 
@@ -332,18 +333,33 @@ module _ (Changed : Catalog → Catalog → Tuple → Type 0) (c d : Catalog) (g
     (rows : List CountedRow) (rel : d.relations ≡ with_rows_at c.relations at rows) where
   pub tells_rows : (old new : List Log) → Tends places (LogTellsAt ws Changed) gs old new → (i : ℕ) (l : Live)
       → is_reader (readers_at readers at) i ≡ true → watched_at ws i ≡ true
-      → place_at gs i ≡ Some l → (log_at new i).lost ≡ false
-      → IsDeltaWith at rows c.relations l (map (change_of d.texts l) (log_at new i).lines)
-  tells_rows old new t i l reads watched there kept =
+      → place_at gs i ≡ Some l → TellsWith at rows c.relations d.texts l (log_at new i)
+  tells_rows old new t i l reads watched there =
       let a = subst (λ (b : Bool). TendedAt (LogTellsAt ws Changed i) b (place_at gs i) (log_at old i) (log_at new i))
       (ap (λ (ps : List ℕ). is_reader ps i) are ∙ reads) (t.each i) in
       let b : TellsWhere (watched_at ws i) Changed l (log_at old i) (log_at new i) = subst
       (λ (o : Option Live). TendedAt (LogTellsAt ws Changed i) true o (log_at old i) (log_at new i)) there a in
       let x : LogTellsOver Changed l (log_at new i) = subst
       (λ (w : Bool). TellsWhere w Changed l (log_at old i) (log_at new i)) watched b in
-      subst (λ (rs : List Relation). IsDelta (IsAnswer c.relations l.query) (IsAnswer rs l.query)
-      (map (change_of d.texts l) (log_at new i).lines)) rel
-      (x.tells kept c d row (s.live i l there).kept changed)
+      let kept = (s.live i l there).kept in
+      let told : (log_at new i).lost ≡ false → IsDeltaWith at rows c.relations l
+      (map (change_of d.texts l) (log_at new i).lines) = λ whole. subst
+      (λ (rs : List Relation). IsDelta (IsAnswer c.relations l.query) (IsAnswer rs l.query)
+      (map (change_of d.texts l) (log_at new i).lines)) rel (x.tells whole c d row kept changed) in
+      record {
+        tells = told;
+        counts = λ changes delta. record {
+          few = λ whole. omega (
+            arith,
+            no_longer_delta (IsAnswer c.relations l.query) (IsAnswer (with_rows_at c.relations at rows) l.query) changes
+                (map (change_of d.texts l) (log_at new i).lines) delta (told whole),
+            length-map (log_at new i).lines (change_of d.texts l),
+            x.few whole,
+          );
+          counts = x.counts c d row changes kept changed (subst (λ (rs : List Relation). IsDelta
+              (IsAnswer c.relations l.query) (IsAnswer rs l.query) changes) (sym rel) delta);
+        };
+      }
 
   pub counts_rows : (before now : ℕ) → Costs Changed places ws gs at before now → (f : ℕ → List Change)
       → ((i : ℕ) (l : Live) → is_reader (readers_at readers at) i ≡ true → watched_at ws i ≡ true → place_at gs i

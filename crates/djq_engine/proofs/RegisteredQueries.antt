@@ -20,7 +20,7 @@ use Rattle.djq_database.specs.declared.refusal.RowsRefusal.{RowsRefusal}
 use Rattle.djq_database.specs.declared.refusal.RowsRefusal.TheVariants.{NameTaken, Full, NoMem}
 use Rattle.djq_database.specs.Catalog.{Catalog, relation_at, IsCatalog, no_relation, rows_at}
 use Rattle.djq_database.specs.Changes.{MakesRelationAt}
-use Rattle.djq_enumeration.specs.declared.log.Line.{Line}
+use Rattle.djq_enumeration.specs.Log.{Line}
 use Rattle.djq_query.specs.declared.numbered.Variable.{Variable}
 use Rattle.djq_query.specs.declared.numbered.NumberedAtom.{NumberedAtom}
 use Rattle.djq_store_spec.specs.Stale.{listed_reads, by_relation}

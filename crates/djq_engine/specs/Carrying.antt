@@ -27,7 +27,7 @@ use Rattle.djq_transaction.specs.Applied.{IsJudged}
 use Rattle.djq_transaction.specs.Leading.{catalog_between}
 use Rattle.djq_transaction.specs.Grouped.{AreItsGroups, inserted_groups, deleted_groups}
 use Rattle.djq_engine.specs.declared.parts.Parts.{Parts}
-use Rattle.djq_engine.specs.Changing.{KeepsLogs, KeepsRest}
+use Rattle.djq_engine.specs.Changing.{CountsListed, KeepsLogs, KeepsRest}
 use Rattle.djq_engine.specs.Outdating.{AgesAll, first_of_names}
 
 -- ---- what is planned
@@ -92,6 +92,13 @@ pub record ChangesRows (lines : List HeldLine) (come gone : List Group) (old new
       → watched_at old.watchers.items i ≡ true → place_at old.queries.items i ≡ Some l
       → (log_at new.logs.items i).lost ≡ false → IsDeltaOf l old.catalog new.catalog
       (map (change_of (new.catalog).texts l) (log_at new.logs.items i).lines)
+  pub counts : (i : ℕ) (l : Live) → is_reader (places_changed old come gone) i ≡ true
+      → watched_at old.watchers.items i ≡ true → place_at old.queries.items i ≡ Some l → (added removed : List Change)
+      → IsDelta (IsAnswer (old.catalog).relations l.query)
+      (IsAnswer (relations_between (old.catalog).relations lines) l.query) added
+      → IsDelta (IsAnswer (relations_between (old.catalog).relations lines) l.query)
+      (IsAnswer (new.catalog).relations l.query) removed
+      → CountsListed (log_at new.logs.items i) (length added + length removed)
   pub shown : (i : ℕ) (l : Live) → is_reader (places_changed old come gone) i ≡ true
       → watched_at old.watchers.items i ≡ true → place_at old.queries.items i ≡ Some l
       → (log_at new.logs.items i).lost ≡ false

@@ -10,7 +10,7 @@ use Rattle.djq_protocol.specs.declared.answer.AddOutcome.{AddOutcome}
 use Rattle.djq_protocol.specs.declared.answer.AddOutcome.TheVariants.{First, More}
 use Rattle.djq_protocol.specs.declared.answer.DeleteOutcome.{DeleteOutcome}
 use Rattle.djq_protocol.specs.declared.answer.DeleteOutcome.TheVariants.{Last, Left, Absent}
-use Rattle.djq_protocol.specs.declared.limits.TheConstants.{ROWS, COPIES, TEXTS}
+use Rattle.djq_protocol.specs.declared.limits.TheConstants.{ROWS, COPIES, TEXTS, DELTA_LINES}
 use Rattle.djq_store_spec.specs.Relations.{LearnsAll, LearnsFirst, FindsNoPlace}
 use Rattle.djq_dictionary.specs.declared.refusal.InternRefusal.{InternRefusal}
 use Rattle.djq_dictionary.specs.declared.refusal.InternRefusal.TheVariants.{Full as TextsFull, NoMem as NoMemForText}
@@ -19,6 +19,7 @@ use Rattle.djq_engine.specs.declared.change.AddRefusal.TheVariants.{Full, NoMem}
 use Rattle.djq_database.specs.Catalog.{Catalog, StandForRow, counted_at, rows_at, with_rows_at}
 use Rattle.djq_database.specs.Changes.{HasNoPlace}
 use Rattle.djq_store_spec.specs.Delta.{Change, IsDelta}
+use Rattle.djq_enumeration.specs.Log.{Log, least_changes}
 use Rattle.djq_live_query.specs.Live.{Live}
 use Rattle.djq_live_query.specs.Updating.{change_of}
 use Rattle.djq_live_query.specs.Staying.{StaysOver}
@@ -211,13 +212,23 @@ abbrev pub IsDeltaWith : ℕ → List CountedRow → List Relation → Live → 
 IsDeltaWith at rows relations l changes =
     IsDelta (IsAnswer relations l.query) (IsAnswer (with_rows_at relations at rows) l.query) changes
 
--- Unless it is lost, the log of a watched query that reads the relation has them.
+-- So many were listed, by what a log says: no more than it may have lines, unless it is lost; and more, if it is large.
+pub record CountsListed (log : Log) (listed : ℕ) : Type 0 where
+  pub few : log.lost ≡ false → listed ≤ DELTA_LINES
+  pub counts : least_changes log ≤ listed
+
+-- Unless it is lost, a log tells them; lost or not, as many were listed as it says.
+pub record TellsWith (at : ℕ) (rows : List CountedRow) (relations : List Relation) (texts : List Bytes) (l : Live)
+    (log : Log) : Type 0 where
+  pub tells : log.lost ≡ false → IsDeltaWith at rows relations l (map (change_of texts l) log.lines)
+  pub counts : (changes : List Change) → IsDeltaWith at rows relations l changes → CountsListed log (length changes)
+
+-- So does the log of each watched query that reads the relation.
 abbrev pub TellsRows : ℕ → List CountedRow → Parts → Parts → Type 0
 TellsRows at rows old new = (i : ℕ) (l : Live)
     → is_reader (readers_at old.readers.items at) i ≡ true → watched_at old.watchers.items i ≡ true
-    → place_at old.queries.items i ≡ Some l → (log_at new.logs.items i).lost ≡ false
-    → IsDeltaWith at rows (old.catalog).relations l
-    (map (change_of (new.catalog).texts l) (log_at new.logs.items i).lines)
+    → place_at old.queries.items i ≡ Some l
+    → TellsWith at rows (old.catalog).relations (new.catalog).texts l (log_at new.logs.items i)
 
 -- These are such deltas of the watched queries that read the relation.
 abbrev pub DeltasWith : ℕ → List CountedRow → Parts → (ℕ → List Change) → Type 0

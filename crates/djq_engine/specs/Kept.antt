@@ -1,7 +1,7 @@
 -- What contracts see of an engine, and what its calls do to its cursors.
 use Rattle.std.specs.Prelude.{ℕ, List, [], ◌∷◌, ◌==◌, ◌≡◌, ◌≤◌, ◌+◌, ◌++◌, ◌&&◌, ◌⊎◌, Bool, true, false, not}
 use Rattle.std.specs.Prelude.{Option, None, Some, is_none, IsSome, IsSomeAnd, IfSome, All, Result, Ok, Err}
-use Rattle.std.specs.Prelude.{map, filter, find, nat_lt, slice_get, slice_index_or, slice_set, ⊤}
+use Rattle.std.specs.Prelude.{map, filter, find, nat_lt, slice_get, slice_index_or, slice_set, unwrap_or, ⊤}
 use Rattle.djq_model.specs.declared.query.Query.{Query}
 use Rattle.djq_model.specs.Data.{Bytes, Tuple, bytes_eq, change_first}
 use Rattle.djq_model.specs.Listed.{Listed, a_query, a_union, listed_name, AnswersOf, listed_of}
@@ -44,14 +44,15 @@ pub record Registered : Type 0 where
 
 -- What the engine has: the store of the join machine, and cursors; the registered queries, in
 -- order of registration; those that the last accepted change affected, in that order;
--- and by place how a query's answers changed last, or that it was lost. Beside them the queries by
--- place.
+-- and by place how a query's answers changed last, or that it was lost, and whether that was because there were too
+-- many. Beside them the queries by place.
 pub record Kept : Type 0 where
   pub store : Store
   pub cursors : List HeldCursor
   pub registered : List Registered
   pub affected : List QueryId
   pub told : List (Option (List Change))
+  pub large : List (Option Bool)
   pub places : List (Option Live)
 
 -- whether two ids name the same query
@@ -94,6 +95,10 @@ with_watchers id f rs =
 -- how a query's answers changed last; None if that was lost
 abbrev pub told_at : Kept → QueryId → Option (List Change)
 told_at k id = slice_index_or k.told id.at None
+
+-- whether that was lost because too many answers changed
+abbrev pub is_told_large : Kept → QueryId → Bool
+is_told_large k id = unwrap_or (slice_index_or k.large id.at None) false
 
 -- whether two ids name the same cursor
 abbrev pub same_id : CursorId → CursorId → Bool

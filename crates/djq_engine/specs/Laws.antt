@@ -14,6 +14,7 @@ pub record IsEngine (e : Kept) : Type 0 where
   pub named : AllPairs (λ r s. bytes_eq (listed_name r.query) (listed_name s.query) ≡ false) e.registered
   pub few : length e.places ≤ QUERIES
   pub long : length e.told ≡ length e.places
+  pub sized : length e.large ≡ length e.places
   pub over : PlacesAreKept e
   pub placed : IdsArePlaced e
   pub listed : PlacesAreRegistered e

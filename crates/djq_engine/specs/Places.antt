@@ -103,7 +103,11 @@ told_from texts [] logs = []
 told_from texts (g ∷ gs) [] = []
 told_from texts (g ∷ gs) (log ∷ logs) = told_of texts g log ∷ told_from texts gs logs
 
--- What the engine stores for watching: the readers of each relation, how many sessions watch the
+-- whether a log was lost because there were too many lines
+abbrev pub was_too_large : Log → Bool
+was_too_large log = if log.lost then log.large else false
+
+-- What the engine keeps for watching: the readers of each relation, how many sessions watch the
 -- query in each place, its log, and the places that the last accepted change affected.
 pub record Watches : Type 0 where
   pub readers : List (List ℕ)
@@ -119,5 +123,6 @@ kept_of c gs order seq w = record {
   registered = registered_in gs w.watchers order;
   affected = map id_at w.affected;
   told = told_from c.texts gs w.logs;
+  large = map (λ log. Some (was_too_large log)) w.logs;
   places = gs;
 }

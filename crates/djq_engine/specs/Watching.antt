@@ -1,6 +1,6 @@
 -- What an engine has of the queries that sessions watch.
 use Rattle.std.specs.Prelude.{ℕ, List, [], ◌∷◌, ◌++◌, ◌≡◌, ◌≤◌, ◌+◌, ◌*◌, ◌⊎◌, ◌&&◌, Bool, true}
-use Rattle.std.specs.Prelude.{false, None, Some, IsSomeAnd, Result, Ok, Err, min, filter, length}
+use Rattle.std.specs.Prelude.{false, None, Some, IsSome, IsSomeAnd, Result, Ok, Err, min, filter, length}
 use Rattle.std.specs.Prelude.{map, sum_by, ⊤}
 use Rattle.djq_model.specs.declared.query.Query.{Query}
 use Rattle.djq_model.specs.declared.relation.Relation.{Relation}
@@ -25,21 +25,34 @@ use Rattle.djq_store_spec.specs.Held.{HeldLine}
 use Rattle.djq_store_spec.specs.Lines.{lines_come}
 use Rattle.djq_store_spec.specs.Transaction.{has_inserted, has_deleted, lines_change}
 use Rattle.djq_store_spec.specs.Asking.{IsShapeOf}
-use Rattle.djq_store_spec.specs.DeltaCost.{Delta, ListsDeltas, deltas_steps}
+use Rattle.djq_store_spec.specs.DeltaCost.{Delta, ListsDeltas, deltas_steps, is_large}
 use Rattle.djq_engine.specs.declared.cursor.QueryId.{QueryId}
 use Rattle.djq_engine.specs.Kept.{Kept, Registered, registered_at, registered_of, TellsOfQuery}
-use Rattle.djq_engine.specs.Kept.{is_watched, readers_of, affected_of, told_at}
+use Rattle.djq_engine.specs.Kept.{is_watched, readers_of, affected_of, told_at, is_told_large}
 
 -- The log of a query has a delta, or was lost.
 abbrev pub LogTells : Kept → Registered → Delta → Type 0
 LogTells k r d = (told_at k r.id ≡ None) ⊎ (told_at k r.id ≡ Some d.changes)
 
--- The logs of queries have deltas, one by one.
+-- What a log says of how many were listed for a delta: unless it was lost, not too many; and if it says that too many
+-- were, they were.
+pub record LogBounds (k : Kept) (r : Registered) (d : Delta) : Type 0 where
+  pub few : IsSome (told_at k r.id) → is_large d ≡ false
+  pub many : is_told_large k r.id ≡ true → is_large d ≡ true
+
+-- The logs of queries tell deltas, one by one.
 abbrev pub LogsTell : Kept → List Registered → List Delta → Type 0
 LogsTell k [] [] = ⊤
 LogsTell k (r ∷ rs) (d ∷ ds) = LogTells k r d × LogsTell k rs ds
 LogsTell k [] (d ∷ ds) = ⊥
 LogsTell k (r ∷ rs) [] = ⊥
+
+-- The same of logs and deltas, one by one.
+abbrev pub LogsBound : Kept → List Registered → List Delta → Type 0
+LogsBound k [] [] = ⊤
+LogsBound k (r ∷ rs) (d ∷ ds) = LogBounds k r d × LogsBound k rs ds
+LogsBound k [] (d ∷ ds) = ⊥
+LogsBound k (r ∷ rs) [] = ⊥
 
 -- What holds of a change that was accepted.
 abbrev pub IfAccepted : RowsOutcome → (RowsChange → Type 0) → Type 0
@@ -79,7 +92,9 @@ pub record EngineTellsChange (old : Kept) (outcome : RowsOutcome) (new : Kept) (
     pub affected : Affects outcome old new
     pub logs : IfAccepted outcome
         (λ change. LogsTell new (affected_of old.registered change) deltas)
-    -- if memory was refused, the logs of the queries that it would outdate are empty
+    pub bounds : IfAccepted outcome
+        (λ change. LogsBound new (affected_of old.registered change) deltas)
+    -- where memory was refused, the logs of the queries that it would outdate tell of nothing
     pub discards : IfOutOfMemory outcome (λ change. (id : QueryId)
         → IsSomeAnd (registered_at old.registered id) (λ r. is_outdated change r.query ≡ true)
         → told_at new id ≡ Some [])

@@ -98,7 +98,7 @@ impl Engine {
 
     /// Lends an answer that an open cursor gave, or another tuple that can be shown by the query that
     /// the cursor is over.
-    pub fn answer<'a>(&'a self, id: CursorId, answer: &'a Answer) -> LentAnswer<'a>
+    pub fn answer<'a>(&'a self, id: CursorId, answer: &'a [u64]) -> LentAnswer<'a>
         requires { IsShown self.now id answer.now }
         ensures { AnswerIs self.now id answer.now result }
     {

@@ -4,7 +4,6 @@ ghost use Rattle.djq_live_query.specs.Live.{IsLive, IsShowable, values_of};
 use djq_database::Catalog;
 use djq_live_query::LiveQuery;
 use djq_model::{Answered, ValueRef};
-use djq_reduct::Answer;
 use std::marker::Model;
 
 /// An answer that is lent as its values, in the head's order, or one that was removed. Contracts see the tuple of them.
@@ -12,7 +11,7 @@ use std::marker::Model;
 pub struct LentAnswer<'a> {
     catalog: &'a Catalog,
     query: &'a LiveQuery,
-    answer: &'a Answer,
+    answer: &'a [u64],
 }
 
 impl<'a> Model for LentAnswer<'a> {
@@ -33,7 +32,7 @@ impl<'a> LentAnswer<'a> {
     pub(crate) fn new(
         catalog: &'a Catalog,
         query: &'a LiveQuery,
-        answer: &'a Answer,
+        answer: &'a [u64],
     ) -> LentAnswer<'a>
         requires live { IsLive catalog.now query.now }
         requires showable { IsShowable catalog.now.texts query.now answer.now }

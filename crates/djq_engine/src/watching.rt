@@ -3,7 +3,7 @@ ghost use Rattle.std.specs.Prelude.{◌≡◌, ◌<◌, ◌+◌, ◌-◌, Some, 
 ghost use Rattle.std.specs.Prelude.{length, slice_get};
 ghost use Rattle.djq_model.specs.Listed.{listed_name};
 ghost use Rattle.djq_engine.specs.Kept.{registered_of, registered_at, IsRegistered, with_watchers};
-ghost use Rattle.djq_engine.specs.Kept.{told_at, TellsChangeCells};
+ghost use Rattle.djq_engine.specs.Kept.{is_told_large, told_at, TellsChangeCells};
 ghost use Rattle.djq_engine.specs.Laws.{IsEngine};
 ghost use Rattle.djq_engine.specs.Lending.{sign_of};
 
@@ -11,7 +11,6 @@ use crate::cursor::QueryId;
 use crate::engine::Engine;
 use crate::lent::LentAnswer;
 use crate::places::find_query;
-use djq_enumeration::{DeltaLog, Line};
 use djq_model::Name;
 use djq_protocol::Sign;
 use djq_reduct::Cells;
@@ -21,14 +20,6 @@ pub fn sign_of(came: bool) -> Sign
     ensures { result ≡ sign_of came }
 {
     if came { Sign::Came } else { Sign::Went }
-}
-
-/// A line of a log.
-fn line_at(log: &DeltaLog, nth: usize) -> &Line
-    requires { nth < length log.now.lines }
-    ensures { slice_get log.now.lines nth ≡ Some result.now }
-{
-    &log.lines()[nth]
 }
 
 /// The most that watch one query: sessions, and unions for those that watch them.
@@ -122,7 +113,19 @@ impl Engine {
         if log.lost() {
             return None;
         }
-        Some(log.lines().len())
+        Some(log.len())
+    }
+
+    /// Whether that was lost because too many answers came or went.
+    pub fn delta_is_large(&self, id: QueryId) -> bool
+        requires { IsRegistered self.now id }
+        ensures { result ≡ is_told_large self.now id }
+    {
+        let log = &self.parts.logs[id.at];
+        if log.lost() {
+            return log.is_large();
+        }
+        false
     }
 
     /// One of them: whether it was added or removed, and the answer, lent.
@@ -132,11 +135,11 @@ impl Engine {
         ensures { IsSomeAnd (told_at self.now id) (λ changes. IsSomeAnd (slice_get changes nth)
             (λ c. (result.0 ≡ c.sign) × (result.1 ≡ c.answer))) }
     {
-        let line = line_at(&self.parts.logs[id.at], nth);
+        let (came, answer) = self.parts.logs[id.at].line(nth);
         match &self.parts.queries[id.at] {
             Some(live) => (
-                sign_of(line.came),
-                LentAnswer::new(&self.parts.catalog, live, &line.answer),
+                sign_of(came),
+                LentAnswer::new(&self.parts.catalog, live, answer),
             ),
             None => unreachable!(),
         }
@@ -148,11 +151,11 @@ impl Engine {
         requires within { IsSomeAnd (told_at self.now id) (λ changes. nth < length changes) }
         ensures { TellsChangeCells self.now id nth (sign_of result) cells.new }
     {
-        let line = line_at(&self.parts.logs[id.at], nth);
+        let (came, answer) = self.parts.logs[id.at].line(nth);
         match &self.parts.queries[id.at] {
             Some(live) => {
-                live.put_in_head(&line.answer, cells);
-                line.came
+                live.put_in_head(answer, cells);
+                came
             }
             None => unreachable!(),
         }

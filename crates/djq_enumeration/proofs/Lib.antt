@@ -7,4 +7,4 @@ pub mod NextAnswers
 pub mod MarkedGroups
 pub mod Deltas
 pub mod BackwardWalks
-mod Settling
+pub mod Lines

@@ -58,7 +58,7 @@ pub use cursor::{Cursor, State};
 pub use delta::{DeltaCursor, changes_are};
 pub use left::is_left_by;
 pub use levels::source;
-pub use log::{DeltaLog, Line};
+pub use log::DeltaLog;
 pub use lookup::has;
 pub use places::{Choice, Places};
 pub use walk::advance_by;

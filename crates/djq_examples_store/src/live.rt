@@ -9,7 +9,7 @@ ghost use Rattle.djq_live_query.specs.Live.{IsKept, IsKeptSomewhere, IsLive, IsS
 use djq_binder::{intern_constants, plan_query, query_fault_of};
 use djq_counters::{Blanks, Ledgers, Listing, Steps, Tally};
 use djq_database::{Catalog, RelationId};
-use djq_enumeration::{DeltaLog, Line};
+use djq_enumeration::DeltaLog;
 use djq_index::{CELLS, Cells};
 use djq_leaves::{added_came, copies_keep_rows, deleted_went};
 use djq_live_query::{LiveQuery, Next, answers_are_showable, live_stays, showable_stays};
@@ -99,7 +99,7 @@ fn number(lent: ValueRef<'_>) -> i64 {
 }
 
 /// The digits of an answer of three integers.
-fn digits(live: &LiveQuery, catalog: &Catalog, answer: &Answer) -> i64
+fn digits(live: &LiveQuery, catalog: &Catalog, answer: &[u64]) -> i64
     requires kept { IsKeptSomewhere live.now }
     requires showable { IsShowable catalog.now.texts live.now answer.now }
     requires wide { 2 < length live.now.query.head }
@@ -113,14 +113,14 @@ fn digits(live: &LiveQuery, catalog: &Catalog, answer: &Answer) -> i64
         .wrapping_add(third)
 }
 
-/// The digits of the answer of a line, after a one if it was removed.
-fn line_digits(live: &LiveQuery, catalog: &Catalog, line: &Line) -> i64
+/// The digits of the answer of a line, behind a one where it went.
+fn line_digits(live: &LiveQuery, catalog: &Catalog, came: bool, answer: &[u64]) -> i64
     requires kept { IsKeptSomewhere live.now }
-    requires showable { IsShowable catalog.now.texts live.now line.now.answer }
+    requires showable { IsShowable catalog.now.texts live.now answer.now }
     requires wide { 2 < length live.now.query.head }
 {
-    let digits = digits(live, catalog, &line.answer);
-    if line.came {
+    let digits = digits(live, catalog, answer);
+    if came {
         return digits;
     }
     digits.wrapping_add(1000)
@@ -140,10 +140,10 @@ fn told(
     if log.lost() || live.width() != 3 {
         return Err(NoMem)?;
     }
-    let lines = log.lines();
     let mut told = Vec::new(alloc);
-    'lines: for i in 0..lines.len() {
-        told.push(line_digits(live, catalog, &lines[i]))?;
+    'lines: for i in 0..log.len() {
+        let (came, answer) = log.line(i);
+        told.push(line_digits(live, catalog, came, answer))?;
     }
     told.sort()?;
     told.push(0)?;
@@ -289,7 +289,7 @@ fn listed_digits(live: &LiveQuery, catalog: &Catalog, answer: &Answer) -> Option
         return None;
     }
     answers_are_showable();
-    Some(digits(live, catalog, answer))
+    Some(digits(live, catalog, answer.as_slice()))
 }
 
 /// Reads a cursor: the digits of a further answer, if there is one.

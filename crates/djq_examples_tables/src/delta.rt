@@ -1,10 +1,11 @@
-use djq_delta::{DELTA_LINES, Delta, DeltaStatus, is_reported};
+use djq_delta::{Delta, DeltaStatus, is_reported};
+use djq_protocol::limits::DELTA_LINES;
 use std::test::Fail;
 
 /// A row was replaced, and the query doesn't show what is new in it.
 #[test]
 fn drops_an_answer_that_came_and_went(rt: HostRuntime) -> Result<(), Fail> {
-    let mut delta = Delta::new(rt.alloc(), 2);
+    let mut delta = Delta::new(rt.alloc());
     delta.push(true, &[1, 2]);
     delta.push(false, &[1, 2]);
     assert!(rt; matches!(delta.status(), DeltaStatus::Whole));
@@ -15,7 +16,7 @@ fn drops_an_answer_that_came_and_went(rt: HostRuntime) -> Result<(), Fail> {
 
 #[test]
 fn leaves_what_only_came_or_only_went(rt: HostRuntime) -> Result<(), Fail> {
-    let mut delta = Delta::new(rt.alloc(), 1);
+    let mut delta = Delta::new(rt.alloc());
     delta.push(true, &[7]);
     delta.push(true, &[5]);
     delta.push(false, &[7]);
@@ -32,7 +33,7 @@ fn leaves_what_only_came_or_only_went(rt: HostRuntime) -> Result<(), Fail> {
 
 #[test]
 fn stays_lost_until_it_is_cleared(rt: HostRuntime) {
-    let mut delta = Delta::new(rt.alloc(), 1);
+    let mut delta = Delta::new(rt.alloc());
     delta.push(true, &[7]);
     delta.lose();
     delta.push(true, &[5]);
@@ -44,7 +45,7 @@ fn stays_lost_until_it_is_cleared(rt: HostRuntime) {
 
 #[test]
 fn is_large_until_it_is_cleared(rt: HostRuntime) {
-    let mut delta = Delta::new(rt.alloc(), 0);
+    let mut delta = Delta::new(rt.alloc());
     for _ in 0..DELTA_LINES {
         delta.push(true, &[]);
     }
@@ -59,9 +60,9 @@ fn is_large_until_it_is_cleared(rt: HostRuntime) {
 /// A union gains an answer unless another member has had it.
 #[test]
 fn reports_what_no_other_member_has(rt: HostRuntime) {
-    let mut first = Delta::new(rt.alloc(), 1);
+    let mut first = Delta::new(rt.alloc());
     first.push(true, &[5]);
-    let second = Delta::new(rt.alloc(), 1);
+    let second = Delta::new(rt.alloc());
     let deltas = [first, second];
     assert!(rt; is_reported(&deltas, &[true, false], true, &[5]));
     assert!(rt; !is_reported(&deltas, &[true, true], true, &[5]));

@@ -21,7 +21,7 @@ use Rattle.djq_union.proofs.Merges.{head_or_tail, all_of}
 use Rattle.djq_protocol.specs.declared.answer.Sign.{Sign}
 use Rattle.djq_protocol.specs.declared.answer.Sign.TheVariants.{Came, Went}
 use Rattle.djq_database.specs.Cells.{cells_of, StandFor}
-use Rattle.djq_enumeration.specs.declared.log.Line.{Line}
+use Rattle.djq_enumeration.specs.Log.{Line}
 use Rattle.djq_store_spec.specs.Delta.{Change, HasChanged, IsDelta}
 use Rattle.djq_store_spec.specs.DeltaCost.{Part}
 use Rattle.djq_store_spec.specs.Registering.{atoms_of}

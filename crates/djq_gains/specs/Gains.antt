@@ -21,7 +21,7 @@ use Rattle.djq_model.specs.Data.{Bytes, Tuple}
 use Rattle.djq_model.specs.Answer.{IsAnswer}
 use Rattle.djq_model.specs.Listed.{a_union, AnswersOf}
 use Rattle.djq_store_spec.specs.Delta.{Change, IsDelta}
-use Rattle.djq_enumeration.specs.declared.log.Line.{Line}
+use Rattle.djq_enumeration.specs.Log.{Line}
 use Rattle.djq_live_query.specs.Live.{Live, IsShowable}
 use Rattle.djq_live_query.specs.Updating.{change_of}
 use Rattle.djq_live_query.specs.Member.{query_at, queries_at}

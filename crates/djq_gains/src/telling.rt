@@ -96,7 +96,7 @@ fn tell_one<L: Ledger>(
     }
 }
 
-/// Lists into the log the union's delta, from all that is gathered.
+/// Lists into the log what is to be told of all that is gathered; nothing more once the log has given up its lines.
 fn tell<L: Ledger>(group: &QueriesAt, gains: &Gains, log: &mut DeltaLog, listing: &mut Tally<L>)
     requires queries { HaveQueries group.now.queries.now group.now.places.now }
     requires some { 0 < length group.now.places.now }
@@ -116,6 +116,9 @@ fn tell<L: Ledger>(group: &QueriesAt, gains: &Gains, log: &mut DeltaLog, listing
         match at {
             None => return,
             Some(slot) => {
+                if log.lost() {
+                    return;
+                }
                 tell_one(group, gains, slot, log, listing);
                 at = gains.next(slot);
             }

@@ -18,10 +18,10 @@ use Rattle.djq_reduct.specs.Tables.{entries_at}
 use Rattle.djq_reduct.specs.Reducts.{Reducts, IsReducts, SameTables}
 use Rattle.djq_reduct.specs.Answers.{on_node, IsAnswerOf}
 use Rattle.djq_reduct.proofs.Assignments.{apart_at}
-use Rattle.djq_enumeration.specs.declared.log.Line.{Line}
-use Rattle.djq_enumeration.specs.Listing.{ListsTuples}
+use Rattle.djq_protocol.specs.declared.limits.TheConstants.{DELTA_LINES}
+use Rattle.djq_enumeration.specs.Listing.{AreSome, ListsTuples}
 use Rattle.djq_enumeration.specs.Changed.{IsGained}
-use Rattle.djq_enumeration.specs.Log.{Log}
+use Rattle.djq_enumeration.specs.Log.{Line, Log, lines_used}
 use Rattle.djq_enumeration.proofs.Cells.{out_within}
 use Rattle.djq_propagate.specs.Updates.{HasInserted, HasMarked, HasKept, HasGained, HasLost}
 use Rattle.djq_propagate.proofs.Costs.{length_even}
@@ -123,6 +123,16 @@ answer_or r u h wide =
 
 -- ---- what was gained, step by step
 
+-- all are some
+pub some_of : (P : List ℕ → Type 0) (us : List (List ℕ)) → ListsTuples P us → AreSome P us
+some_of P us h = record { different = h.different; all = h.all }
+
+pub none_some : (P : List ℕ → Type 0) → AreSome P []
+none_some P = record {
+  different = λ i j d before low. absurd (omega arith);
+  all = λ i d low. absurd (omega arith);
+}
+
 pub gained_none : (r : Reducts) → ListsTuples (IsGained r r) []
 gained_none r = record {
   different = λ i j d before low. absurd (omega arith);
@@ -130,10 +140,11 @@ gained_none r = record {
   complete = λ t is. absurd (is.was_none is.is);
 }
 
-pub gained_both : (r s t : Reducts) (us vs : List (List ℕ)) → IsReducts r → IsReducts s
-    → IsReducts t → HasMore r s → HasMore s t → ListsTuples (IsGained s r) us
-    → ListsTuples (IsGained t s) vs → ListsTuples (IsGained t r) (us ++ vs)
-gained_both r s t us vs hr hs ht rs st early late = record {
+-- what came early, and then late, are different answers, and all came
+pub some_gained : (r s t : Reducts) (us vs : List (List ℕ)) → IsReducts r → IsReducts s
+    → IsReducts t → HasMore r s → HasMore s t → AreSome (IsGained s r) us
+    → AreSome (IsGained t s) vs → AreSome (IsGained t r) (us ++ vs)
+some_gained r s t us vs hr hs ht rs st early late = record {
   different = differ_both us vs early.different late.different
       (λ u m k. (All-contains (IsGained t s) vs u late.all k).was_none
       (All-contains (IsGained s r) us u early.all m).is);
@@ -146,21 +157,30 @@ gained_both r s t us vs hr hs ht rs st early late = record {
         is = g.is;
         was_none = λ is. g.was_none (more_answers r s _ hr hs rs is);
       });
-  complete = λ u g.
-      elim (answer_or s u hs
-      (g.is.wide ∙ ap (λ (x : Tree). length x.head) st.tree)) [
-        | inl is ↦ Contains-append_left us vs u
-            (early.complete u (record { is = is; was_none = g.was_none }))
-        | inr isnt ↦ Contains-append_right us vs u
-            (late.complete u (record { is = g.is; was_none = isnt }))
-      ];
 }
 
+pub gained_both : (r s t : Reducts) (us vs : List (List ℕ)) → IsReducts r → IsReducts s
+    → IsReducts t → HasMore r s → HasMore s t → ListsTuples (IsGained s r) us
+    → ListsTuples (IsGained t s) vs → ListsTuples (IsGained t r) (us ++ vs)
+gained_both r s t us vs hr hs ht rs st early late =
+    let some = some_gained r s t us vs hr hs ht rs st (some_of _ us early) (some_of _ vs late) in record {
+      different = some.different;
+      all = some.all;
+      complete = λ u g.
+          elim (answer_or s u hs
+          (g.is.wide ∙ ap (λ (x : Tree). length x.head) st.tree)) [
+            | inl is ↦ Contains-append_left us vs u
+                (early.complete u (record { is = is; was_none = g.was_none }))
+            | inr isnt ↦ Contains-append_right us vs u
+                (late.complete u (record { is = g.is; was_none = isnt }))
+          ];
+    }
+
 -- going down the same way: what the first has and the last hasn't
-pub lost_both : (r s t : Reducts) (us vs : List (List ℕ)) → IsReducts r → IsReducts s
-    → IsReducts t → HasMore s r → HasMore t s → ListsTuples (IsGained r s) us
-    → ListsTuples (IsGained s t) vs → ListsTuples (IsGained r t) (us ++ vs)
-lost_both r s t us vs hr hs ht sr ts early late = record {
+pub some_lost : (r s t : Reducts) (us vs : List (List ℕ)) → IsReducts r → IsReducts s
+    → IsReducts t → HasMore s r → HasMore t s → AreSome (IsGained r s) us
+    → AreSome (IsGained s t) vs → AreSome (IsGained r t) (us ++ vs)
+some_lost r s t us vs hr hs ht sr ts early late = record {
   different = differ_both us vs early.different late.different
       (λ u m k. (All-contains (IsGained r s) us u early.all m).was_none
       (All-contains (IsGained s t) vs u late.all k).is);
@@ -173,15 +193,24 @@ lost_both r s t us vs hr hs ht sr ts early late = record {
         is = more_answers s r _ hs hr sr g.is;
         was_none = g.was_none;
       });
-  complete = λ u g.
-      elim (answer_or s u hs
-      (g.is.wide ∙ ap (λ (x : Tree). length x.head) sr.tree)) [
-        | inl is ↦ Contains-append_right us vs u
-            (late.complete u (record { is = is; was_none = g.was_none }))
-        | inr isnt ↦ Contains-append_left us vs u
-            (early.complete u (record { is = g.is; was_none = isnt }))
-      ];
 }
+
+pub lost_both : (r s t : Reducts) (us vs : List (List ℕ)) → IsReducts r → IsReducts s
+    → IsReducts t → HasMore s r → HasMore t s → ListsTuples (IsGained r s) us
+    → ListsTuples (IsGained s t) vs → ListsTuples (IsGained r t) (us ++ vs)
+lost_both r s t us vs hr hs ht sr ts early late =
+    let some = some_lost r s t us vs hr hs ht sr ts (some_of _ us early) (some_of _ vs late) in record {
+      different = some.different;
+      all = some.all;
+      complete = λ u g.
+          elim (answer_or s u hs
+          (g.is.wide ∙ ap (λ (x : Tree). length x.head) sr.tree)) [
+            | inl is ↦ Contains-append_right us vs u
+                (late.complete u (record { is = is; was_none = g.was_none }))
+            | inr isnt ↦ Contains-append_left us vs u
+                (early.complete u (record { is = g.is; was_none = isnt }))
+          ];
+    }
 
 -- a listing of one property is one of another that says the same
 pub listing_as : (P Q : List ℕ → Type 0) (us : List (List ℕ)) → ((u : List ℕ) → P u ↔ Q u)
@@ -190,6 +219,13 @@ listing_as P Q us same h = record {
   different = h.different;
   all = λ i d low. (same _).0 (h.all i d low);
   complete = λ u is. h.complete u ((same u).1 is);
+}
+
+pub some_as : (P Q : List ℕ → Type 0) (us : List (List ℕ)) → ((u : List ℕ) → P u ↔ Q u)
+    → AreSome P us → AreSome Q us
+some_as P Q us same h = record {
+  different = h.different;
+  all = λ i d low. (same _).0 (h.all i d low);
 }
 
 -- the gain is the same where the larger, or the smaller, reducts have the same answers
@@ -202,18 +238,22 @@ gained_same r s t u hs ht st ts = (
 
 -- ---- A log as it goes on, and what listing counts.
 
-kept_before : (old new : Log) → (old.lost ≡ true → new.lost ≡ true) → new.lost ≡ false
+-- a log that isn't lost wasn't
+pub whole_before : (came : Bool) (us : List (List ℕ)) (old new : Log) → LogTellsOf came us old new → new.lost ≡ false
     → old.lost ≡ false
-kept_before old new stays kept =
+whole_before came us old new h kept =
     elim (cases_Bool old.lost) [
-      | inl lost ↦ absurd (false≢true (sym kept ∙ stays lost))
+      | inl lost ↦ absurd (false≢true (sym kept ∙ ap (λ (l : Log). l.lost) ((h.stays lost).0) ∙ lost))
       | inr is ↦ is
     ]
 
 pub tells_none : (came : Bool) (log : Log) → LogTellsOf came [] log log
 tells_none came log = record {
   behind = λ kept. sym (append-nil log.lines);
-  stays = λ lost. lost;
+  pushed = λ kept. omega arith;
+  stays = λ lost. (refl, refl);
+  large = λ lost large kept. absurd (false≢true (sym kept ∙ lost));
+  room = omega arith;
 }
 
 pub tells_both : (came : Bool) (us vs : List (List ℕ)) (old mid new : Log)
@@ -222,17 +262,38 @@ tells_both came us vs old mid new h k = record {
   behind = λ kept.
       k.behind kept
       ∙ ap (λ (l : List Line). l ++ answer_lines came vs)
-      (h.behind (kept_before mid new k.stays kept))
+      (h.behind (whole_before came vs mid new k kept))
       ∙ append_assoc old.lines (answer_lines came us) (answer_lines came vs)
       ∙ ap (λ (l : List Line). old.lines ++ l)
       (sym (map-append (λ (u : List ℕ). record { came = came; answer = u }) us vs));
-  stays = λ lost. k.stays (h.stays lost);
+  pushed = λ kept. omega (arith, k.pushed kept, h.pushed (whole_before came vs mid new k kept), length-append us vs);
+  stays = λ lost.
+      let early = h.stays lost in
+      let late = k.stays (ap (λ (l : Log). l.lost) early.0 ∙ lost) in
+      (late.0 ∙ early.0, ap (λ (l : List (List ℕ)). l ++ vs) early.1 ∙ late.1);
+  large = λ gone large kept. elim (cases_Bool mid.lost) [
+    | inl lost ↦
+        let late = k.stays lost in
+        let early = h.large lost (sym (ap (λ (l : Log). l.large) late.0) ∙ large) kept in
+        omega (arith, early, length-append us vs, ap (λ (l : List (List ℕ)). length l) late.1)
+    | inr whole ↦ omega (arith, k.large gone large whole, h.pushed whole, length-append us vs)
+  ];
+  room = omega (arith, h.room, k.room, length-append us vs);
 }
 
-pub tells_one : (came : Bool) (u : List ℕ) (old new : Log)
+-- a line is put in
+pub tells_one : (came : Bool) (u : List ℕ) (old new : Log) → old.lost ≡ false
     → (new.lost ≡ false → new.lines ≡ old.lines ++ record { came = came; answer = u } ∷ [])
-    → (old.lost ≡ true → new.lost ≡ true) → LogTellsOf came (u ∷ []) old new
-tells_one came u old new behind stays = record { behind = behind; stays = stays }
+    → (new.lost ≡ false → new.pushed ≡ old.pushed + 1)
+    → (new.large ≡ true → old.lost ≡ false → old.pushed ≡ DELTA_LINES)
+    → (old.lost ≡ false → lines_used old + 1 ≤ lines_used new) → LogTellsOf came (u ∷ []) old new
+tells_one came u old new whole behind pushed large room = record {
+  behind = behind;
+  pushed = pushed;
+  stays = λ lost. absurd (false≢true (sym whole ∙ lost));
+  large = λ gone is kept. ap (λ (n : ℕ). n + 1) (large is kept);
+  room = room whole;
+}
 
 -- ---- counts
 
@@ -346,9 +407,11 @@ pub lists_as : (wanted came : Bool) (P Q : List ℕ → Type 0) (h k calls : ℕ
     → ListsWhere wanted came Q k calls old new before now
 lists_as true came P Q h k calls old new before now e same l = record {
   answers = l.answers;
-  listing = listing_as P Q l.answers same l.listing;
+  some = some_as P Q l.answers same l.some;
+  complete = λ kept. listing_as P Q l.answers same (l.complete kept);
   tells = l.tells;
   counted = subst (λ (n : ℕ). now ≤ before + (length l.answers + calls) * most_steps n) e l.counted;
+  rests = l.rests;
 }
 lists_as false came P Q h k calls old new before now e same l = l
 
@@ -356,27 +419,32 @@ pub lists_none : (wanted came : Bool) (r : Reducts) (h calls : ℕ) (log : Log) 
     → ListsWhere wanted came (IsGained r r) h calls log log n n
 lists_none true came r h calls log n = record {
   answers = [];
-  listing = gained_none r;
+  some = none_some (IsGained r r);
+  complete = λ kept. gained_none r;
   tells = tells_none came log;
   counted = counts_none n (length {A = List ℕ} [] + calls) (most_steps h);
+  rests = λ lost. refl;
 }
 lists_none false came r h calls log n = (refl, refl)
 
 pub lists_both : (wanted came : Bool) (P Q R : List ℕ → Type 0) (h c d : ℕ) (old mid new : Log)
     (x y z : ℕ)
+    → ((us vs : List (List ℕ)) → AreSome P us → AreSome Q vs → AreSome R (us ++ vs))
     → ((us vs : List (List ℕ)) → ListsTuples P us → ListsTuples Q vs → ListsTuples R (us ++ vs))
     → ListsWhere wanted came P h c old mid x y → ListsWhere wanted came Q h d mid new y z
     → ListsWhere wanted came R h (c + d) old new x z
-lists_both true came P Q R h c d old mid new x y z both l k = record {
+lists_both true came P Q R h c d old mid new x y z some both l k = record {
   answers = l.answers ++ k.answers;
-  listing = both l.answers k.answers l.listing k.listing;
+  some = some l.answers k.answers l.some k.some;
+  complete = λ kept. both l.answers k.answers (l.complete (whole_before came k.answers mid new k.tells kept)) (k.complete kept);
   tells = tells_both came l.answers k.answers old mid new l.tells k.tells;
   counted = subst (λ (n : ℕ). z ≤ x + (n + (c + d)) * most_steps h)
       (sym (length-append l.answers k.answers))
       (counts_both x y z (length l.answers) (length k.answers) c d (most_steps h) l.counted
       k.counted);
+  rests = λ lost. k.rests (ap (λ (g : Log). g.lost) ((l.tells).stays lost).0 ∙ lost) ∙ l.rests lost;
 }
-lists_both false came P Q R h c d old mid new x y z both l k = (k.0 ∙ l.0, k.1 ∙ l.1)
+lists_both false came P Q R h c d old mid new x y z some both l k = (k.0 ∙ l.0, k.1 ∙ l.1)
 
 -- the listing of the marks, once they are cleared
 pub kept_lists : (came : Bool) (old mid new : Reducts) (log told : Log) (before now : ℕ)
@@ -498,6 +566,7 @@ lists_gained wanted r s t c d old mid new x y z hr hs ht rs st e l k =
     calls_as wanted true (IsGained t r) (length r.tree.head) (c + 1) d old new x z e
     (lists_both wanted true (IsGained s r) (IsGained t s) (IsGained t r) (length r.tree.head) c 1
     old mid new x y z
+    (λ us vs early late. some_gained r s t us vs hr hs ht rs st early late)
     (λ us vs early late. gained_both r s t us vs hr hs ht rs st early late) l
     (head_as wanted true (IsGained t s) (length s.tree.head) (length r.tree.head) 1 mid new y z
     (heads_as r s rs.tree) k))
@@ -511,6 +580,7 @@ lists_lost wanted r s t c d old mid new x y z hr hs ht sr ts e l k =
     calls_as wanted false (IsGained r t) (length r.tree.head) (c + 1) d old new x z e
     (lists_both wanted false (IsGained r s) (IsGained s t) (IsGained r t) (length r.tree.head) c 1
     old mid new x y z
+    (λ us vs early late. some_lost r s t us vs hr hs ht sr ts early late)
     (λ us vs early late. lost_both r s t us vs hr hs ht sr ts early late) l
     (head_as wanted false (IsGained s t) (length s.tree.head) (length r.tree.head) 1 mid new y z
     (heads_as r s (sym sr.tree)) k))

@@ -14,6 +14,7 @@ use Rattle.std.specs.Prelude.{
   true,
   false,
   List,
+  [],
   ◌++◌,
   length,
   map,
@@ -32,9 +33,9 @@ use Rattle.djq_reduct.specs.Tables.{entries_at}
 use Rattle.djq_reduct.specs.Reducts.{Reducts, IsReducts}
 use Rattle.djq_reduct.specs.Marks.{IsBare}
 use Rattle.djq_propagate.specs.Updates.{HasAtMost, paths}
-use Rattle.djq_enumeration.specs.Listing.{ListsTuples}
-use Rattle.djq_enumeration.specs.declared.log.Line.{Line}
-use Rattle.djq_enumeration.specs.Log.{Log}
+use Rattle.djq_protocol.specs.declared.limits.TheConstants.{DELTA_LINES}
+use Rattle.djq_enumeration.specs.Listing.{AreSome, ListsTuples}
+use Rattle.djq_enumeration.specs.Log.{Line, Log, lines_used}
 use Rattle.djq_query.specs.declared.numbered.NumberedAtom.{NumberedAtom}
 use Rattle.djq_query.specs.Pattern.{Shape, GivesRow}
 use Rattle.djq_leaves.specs.Leaves.{GivesOne}
@@ -110,19 +111,27 @@ atoms_below at atoms k = length (filter (λ a. a.relation == at) (take k atoms))
 abbrev pub answer_lines : Bool → List (List ℕ) → List Line
 answer_lines came us = map (λ u. record { came = came; answer = u }) us
 
--- Unless it is lost, these answers are appended to the log.
+-- What a log tells once these answers were listed for it.
 pub record LogTellsOf (came : Bool) (us : List (List ℕ)) (old new : Log) : Type 0 where
+  -- unless it is lost, it has them behind what it told
   pub behind : new.lost ≡ false → new.lines ≡ old.lines ++ answer_lines came us
-  pub stays : old.lost ≡ true → new.lost ≡ true
+  pub pushed : new.lost ≡ false → new.pushed ≡ old.pushed + length us
+  -- for one that was lost, none is listed
+  pub stays : old.lost ≡ true → (new ≡ old) × (us ≡ [])
+  -- it is large with the first for which it has no room
+  pub large : new.lost ≡ true → new.large ≡ true → old.lost ≡ false → old.pushed + length us ≡ DELTA_LINES + 1
+  pub room : lines_used old + length us ≤ lines_used new
 
--- The log has all tuples that changed; listing them needed a call for each, and so many more, each
--- of which counts at most what it may in a head of h variables.
+-- Tuples that changed were listed, for the log: all of them, unless it is lost. It took a call for each, and so many
+-- more, each of which counts at most what it may in a head of h variables. For a log that was lost it took none.
 pub record ListsAll (came : Bool) (Changed : List ℕ → Type 0) (h calls : ℕ) (old new : Log)
     (before now : ℕ) : Type 0 where
   pub answers : List (List ℕ)
-  pub listing : ListsTuples Changed answers
+  pub some : AreSome Changed answers
+  pub complete : new.lost ≡ false → ListsTuples Changed answers
   pub tells : LogTellsOf came answers old new
   pub counted : now ≤ before + (length answers + calls) * most_steps h
+  pub rests : old.lost ≡ true → now ≡ before
 
 -- So it is if the delta is wanted; else nothing is listed.
 abbrev pub ListsWhere : Bool → Bool → (List ℕ → Type 0) → ℕ → ℕ → Log → Log → ℕ → ℕ → Type 0

@@ -36,7 +36,8 @@ use djq_query::{NumberedAtom, Pattern};
 use djq_reduct::{Cells, Reducts};
 use std::sync::ledger::Ledger;
 
-/// Lists the answers that an update of one leaf changes, by its marks.
+/// Tells of the answers that an update of one leaf changes, by its marks. Once the log is lost no further
+/// one is listed.
 pub(crate) fn list_changes<L: Ledger>(
     reducts: &Reducts,
     leaf: usize,
@@ -53,7 +54,7 @@ pub(crate) fn list_changes<L: Ledger>(
     changes_are(reducts, leaf);
     reducts.laws();
     let mut cursor = DeltaCursor::start(leaf);
-    'answers: while cursor.step(reducts, listing) {
+    'answers: while !log.lost() && cursor.step(reducts, listing) {
         log.push(came, &cursor.cursor.answer);
     }
 }

@@ -24,7 +24,7 @@ use Rattle.djq_reduct.specs.Tables.{entries_at}
 use Rattle.djq_reduct.proofs.Assignments.{cell_there, row_same}
 use Rattle.djq_database.specs.Cells.{cell_for, CellStandsFor, IsCell}
 use Rattle.djq_database.specs.Catalog.{Catalog, rows_at}
-use Rattle.djq_enumeration.specs.Listing.{ListsTuples}
+use Rattle.djq_enumeration.specs.Listing.{AreSome, ListsTuples}
 use Rattle.djq_enumeration.specs.Changed.{IsGained}
 use Rattle.djq_query.specs.declared.numbered.NumberedAtom.{NumberedAtom}
 use Rattle.djq_query.specs.Numbered.{Numbered, labels}
@@ -193,7 +193,7 @@ went_delta Before After big small show us hb hs more shows all shows_small all_s
 pub few_changes : (P Q Before After : Tuple → Type 0) (sign : Sign) (big small : Reducts)
     (show : List ℕ → Tuple) (us : List (List ℕ)) (changes : List Change) → IsReducts big
     → IsReducts small → HasMore small big → Shows P big show → ShowsAll Q small show
-    → ListsTuples (IsGained big small) us
+    → AreSome (IsGained big small) us
     → ((t : Tuple) → P t → (Q t → ⊥) → HasChanged Before After sign t)
     → IsDelta Before After changes → length us ≤ length changes
 few_changes P Q Before After sign big small show us changes hb hs more shows all l turns delta =

@@ -30,7 +30,7 @@ use Rattle.djq_database.specs.Cells.{CellStandsFor, cell_for, HasCell}
 use Rattle.djq_database.specs.Parts.{value_of}
 use Rattle.djq_database.specs.Catalog.{Catalog, relation_at}
 use Rattle.djq_database.proofs.Cells.{value_back, cell_more, has_more, stands_back, stay}
-use Rattle.djq_enumeration.specs.declared.log.Line.{Line}
+use Rattle.djq_enumeration.specs.Log.{Line}
 use Rattle.djq_enumeration.specs.declared.cursor.Cursor.{Cursor}
 use Rattle.djq_enumeration.specs.Listing.{AreSome, IsTupleLeft, ListsTuples}
 use Rattle.djq_enumeration.specs.Given.{given, Fits}

@@ -15,7 +15,7 @@ use Rattle.djq_protocol.specs.declared.answer.AddOutcome.{AddOutcome}
 use Rattle.djq_protocol.specs.declared.answer.AddOutcome.TheVariants.{First, More}
 use Rattle.djq_database.specs.Catalog.{Catalog, IsCatalog, counted_at, no_relation, rows_at, with_rows_at}
 use Rattle.djq_database.specs.Changes.{AddsRowAt}
-use Rattle.djq_enumeration.specs.declared.log.Line.{Line}
+use Rattle.djq_enumeration.specs.Log.{Line}
 use Rattle.djq_enumeration.specs.Log.{Log}
 use Rattle.djq_binder.proofs.EdgeOrder.{in_cons, in_rest, in_without}
 use Rattle.djq_leaves.specs.Changes.{Went}

@@ -1,7 +1,7 @@
 -- What an update of the leaves, of one row or many, makes of a registered query.
 use Rattle.std.proofs.Common.{◌≡◌, ℕ, ◌+◌, ◌*◌, ◌<◌, ◌≤◌, Bool, true, false, List, [], ◌∷◌, length, map, refl, ap, sym}
 use Rattle.std.proofs.Common.{subst, ◌∙◌, inl, inr, arith, length-append, ◌++◌}
-use Rattle.std.specs.Prelude.{◌==◌, Contains, Some, slice_get}
+use Rattle.std.specs.Prelude.{◌==◌, Contains, Some, slice_get, if◌then◌else◌}
 use Rattle.std.proofs.lemmas.Bool.{cases_lt, cases_eq}
 use Rattle.std.proofs.lemmas.List.{get_or_past}
 use Rattle.std.proofs.lemmas.Nat.{mul-le}
@@ -24,9 +24,10 @@ use Rattle.djq_reduct.specs.Tables.{entries_at}
 use Rattle.djq_reduct.proofs.Assignments.{member_on, one_family}
 use Rattle.djq_database.specs.Catalog.{Catalog, IsCatalog, no_relation, rows_at, relation_at}
 use Rattle.djq_database.proofs.Cells.{differ as cells_differ}
-use Rattle.djq_enumeration.specs.Listing.{ListsTuples}
+use Rattle.djq_protocol.specs.declared.limits.TheConstants.{DELTA_LINES}
+use Rattle.djq_enumeration.specs.Listing.{AreSome, ListsTuples}
 use Rattle.djq_enumeration.specs.Changed.{IsGained}
-use Rattle.djq_enumeration.specs.Log.{Log}
+use Rattle.djq_enumeration.specs.Log.{IsLog, Log, least_changes}
 use Rattle.djq_propagate.specs.Batches.{times}
 use Rattle.djq_query.specs.declared.numbered.NumberedAtom.{NumberedAtom}
 use Rattle.djq_query.specs.Numbered.{Numbered}
@@ -37,7 +38,7 @@ use Rattle.djq_binder.proofs.EdgeOrder.{in_cons, first_different}
 use Rattle.djq_leaves.specs.Leaves.{IsOver}
 use Rattle.djq_leaves.specs.Changes.{IsLater, CameAll, WentAll, GainsTuple, GainsAll, Loses, LosesAll, StandForRows}
 use Rattle.djq_leaves.specs.Stepping.{LacksCells, Has, HasMore, ChangesBelow, AreLeaves, HoldBelow, ListsWhere}
-use Rattle.djq_leaves.specs.Stepping.{atoms_below, answer_lines}
+use Rattle.djq_leaves.specs.Stepping.{LogTellsOf, atoms_below, answer_lines}
 use Rattle.djq_leaves.specs.Batching.{AreDistinct, AreTuples, RowsFit, CanTake, GainsTuples, LosesTuples}
 use Rattle.djq_leaves.proofs.LeafRows.{one_of, has_at}
 use Rattle.djq_leaves.proofs.LeafUpdates.{part_few}
@@ -307,40 +308,108 @@ loses_log l s at cells us c d gone more change listing h went =
     (all_as (IsAnswer d.relations q) d.texts n r s change.tree
     (shows_all d q n l.patterns s over)) listing)
 
+-- A log says no more changes than were listed.
+counted_changes : (came : Bool) (old new : Log) (us : List (List ℕ)) (changes : List Change) → LogTellsOf came us old new
+    → length us ≤ length changes → least_changes new ≤ least_changes old + length changes
+counted_changes came old new us changes t few = by_old old.lost refl
+  where
+    by_large : (b : Bool) → new.large ≡ b → old.lost ≡ false → new.lost ≡ true
+        → (if b then DELTA_LINES + 1 else 0) ≤ old.pushed + length changes
+    by_large true large whole lost = omega (arith, t.large lost large whole, few)
+    by_large false small whole lost = omega arith
+
+    by_new : (b : Bool) → new.lost ≡ b → old.lost ≡ false
+        → (if b then (if new.large then DELTA_LINES + 1 else 0) else new.pushed) ≤ old.pushed + length changes
+    by_new true lost whole = by_large new.large refl whole lost
+    by_new false kept whole = omega (arith, t.pushed kept, few)
+
+    by_old : (b : Bool) → old.lost ≡ b → least_changes new
+        ≤ (if b then (if old.large then DELTA_LINES + 1 else 0) else old.pushed) + length changes
+    by_old true lost = subst (λ (x : Log). least_changes x
+        ≤ (if old.large then DELTA_LINES + 1 else 0) + length changes) (sym (t.stays lost).0)
+        (subst (λ (b : Bool). (if b then (if old.large then DELTA_LINES + 1 else 0) else old.pushed)
+        ≤ (if old.large then DELTA_LINES + 1 else 0) + length changes) (sym lost) (omega arith))
+    by_old false kept = by_new new.lost refl kept
+
+-- answers that came are no more than are in the delta
+came_few : (l : Live) (s : Reducts) (at : ℕ) (cells : List (List ℕ)) (k : ℕ) (us : List (List ℕ)) (c d : Catalog)
+    (rows : List Tuple) (changes : List Change) → HasMore l.reducts s
+    → ChangesBelow (λ p old new. GainsAll p cells old new) at (l.numbered).atoms l.patterns k l.reducts s
+    → AreSome (IsGained s l.reducts) us → IsKept c l → CameAll c d at cells rows → IsDeltaOf l c d changes
+    → length us ≤ length changes
+came_few l s at cells k us c d rows changes more change some h came delta =
+    let q = l.query in
+    let n = l.numbered in
+    let r = l.reducts in
+    few_changes (IsAnswer d.relations q) (IsAnswer c.relations q) (IsAnswer c.relations q)
+    (IsAnswer d.relations q) HasCome s r (values_of d.texts l) us changes
+    change.sound h.over.reducts more
+    (shows_as (IsAnswer d.relations q) d.texts n r s change.tree
+    (shows_part d q n s
+    (some_part c d q n l.patterns r s at cells rows k h.over came change)))
+    (all_later c d q n l.patterns r h.over came.later) some
+    (λ t is none. (is, none)) delta
+
+-- nor are those that went
+went_few : (l : Live) (s : Reducts) (at : ℕ) (cells : List (List ℕ)) (us : List (List ℕ)) (c d : Catalog)
+    (gone : List Tuple) (changes : List Change) → HasMore s l.reducts
+    → ChangesBelow (λ p old new. LosesAll p cells old new) at (l.numbered).atoms l.patterns
+    (length (l.numbered).atoms) l.reducts s
+    → AreSome (IsGained l.reducts s) us → IsKept c l → WentAll c d at cells gone → IsDeltaOf l c d changes
+    → length us ≤ length changes
+went_few l s at cells us c d gone changes more change some h went delta =
+    let q = l.query in
+    let n = l.numbered in
+    let r = l.reducts in
+    let over = (lost_kept c d l s at cells gone h went change).over in
+    few_changes (IsAnswer c.relations q) (IsAnswer d.relations q) (IsAnswer c.relations q)
+    (IsAnswer d.relations q) HasGone r s (values_of d.texts l) us changes
+    h.over.reducts change.sound more
+    (part_later c d q n r (whole_part c q n l.patterns r h.over) went.later)
+    (all_as (IsAnswer d.relations q) d.texts n r s change.tree
+    (shows_all d q n l.patterns s over)) some
+    (λ t is none. (is, none)) delta
+
 came_logged : (wanted : Bool) (l : Live) (s : Reducts) (at : ℕ) (cells : List (List ℕ))
     (h calls : ℕ) (log new : Log) (x y : ℕ) → HasMore l.reducts s
     → ChangesBelow (λ p old new. GainsAll p cells old new) at (l.numbered).atoms l.patterns
     (length (l.numbered).atoms) l.reducts s
     → ListsWhere wanted true (IsGained s l.reducts) h calls log new x y
-    → LogsWhere wanted (λ c d. CameAll c d at cells) l log new
-came_logged true l s at cells h calls log new x y more change k = record {
+    → IsLog new → LogsWhere wanted (λ c d. CameAll c d at cells) l log new
+came_logged true l s at cells h calls log new x y more change k law = record {
   lines = answer_lines true k.answers;
   behind = k.tells.behind;
   tells = λ whole c d rows kept came. gains_log l s at cells k.answers c d rows more change
-      k.listing kept came;
+      (k.complete whole) kept came;
   shown = λ whole c d rows kept came. new_lines d l s k.answers
       (added_kept c d l s at cells rows kept came change) change.tree
-      (λ i u low. (k.listing.all i u low).is);
-  stays = k.tells.stays;
+      (λ i u low. (k.some.all i u low).is);
+  stays = λ lost. (k.tells.stays lost).0;
+  few = λ before kept. omega (arith, law.few kept, law.lines);
+  counts = λ c d rows changes kept came delta. counted_changes true log new k.answers changes k.tells
+      (came_few l s at cells (length (l.numbered).atoms) k.answers c d rows changes more change k.some kept came delta);
 }
-came_logged false l s at cells h calls log new x y more change k = k.0
+came_logged false l s at cells h calls log new x y more change k law = k.0
 
 went_logged : (wanted : Bool) (l : Live) (s : Reducts) (at : ℕ) (cells : List (List ℕ))
     (h calls : ℕ) (log new : Log) (x y : ℕ) → HasMore s l.reducts
     → ChangesBelow (λ p old new. LosesAll p cells old new) at (l.numbered).atoms l.patterns
     (length (l.numbered).atoms) l.reducts s
     → ListsWhere wanted false (IsGained l.reducts s) h calls log new x y
-    → LogsWhere wanted (λ c d. WentAll c d at cells) l log new
-went_logged true l s at cells h calls log new x y more change k = record {
+    → IsLog new → LogsWhere wanted (λ c d. WentAll c d at cells) l log new
+went_logged true l s at cells h calls log new x y more change k law = record {
   lines = answer_lines false k.answers;
   behind = k.tells.behind;
   tells = λ whole c d gone kept went. loses_log l s at cells k.answers c d gone more change
-      k.listing kept went;
+      (k.complete whole) kept went;
   shown = λ whole c d gone kept went. old_lines c d l k.answers kept went.later
-      (λ i u low. (k.listing.all i u low).is);
-  stays = k.tells.stays;
+      (λ i u low. (k.some.all i u low).is);
+  stays = λ lost. (k.tells.stays lost).0;
+  few = λ before kept. omega (arith, law.few kept, law.lines);
+  counts = λ c d gone changes kept went delta. counted_changes false log new k.answers changes k.tells
+      (went_few l s at cells k.answers c d gone changes more change k.some kept went delta);
 }
-went_logged false l s at cells h calls log new x y more change k = k.0
+went_logged false l s at cells h calls log new x y more change k law = k.0
 
 -- ---- counts
 
@@ -359,21 +428,11 @@ came_counted : (wanted : Bool) (l : Live) (s : Reducts) (at : ℕ) (cells : List
     (atoms_below at (l.numbered).atoms k) log new x y
     → CountsDelta wanted (λ c d. CameAll c d at cells) l at x y
 came_counted true l s at cells k log new x y more change lists = λ c d rows changes h came delta.
-    let q = l.query in
-    let n = l.numbered in
-    let r = l.reducts in
-    within x y (length lists.answers) (length changes) (atoms_below at n.atoms k)
-    (atoms_over l at) (length r.tree.head) (length q.head) lists.counted
-    (few_changes (IsAnswer d.relations q) (IsAnswer c.relations q) (IsAnswer c.relations q)
-    (IsAnswer d.relations q) HasCome s r (values_of d.texts l) lists.answers changes
-    change.sound h.over.reducts more
-    (shows_as (IsAnswer d.relations q) d.texts n r s change.tree
-    (shows_part d q n s
-    (some_part c d q n l.patterns r s at cells rows k h.over came change)))
-    (all_later c d q n l.patterns r h.over came.later) lists.listing
-    (λ t is none. (is, none)) delta)
-    (part_few (λ (a : NumberedAtom). a.relation == at) n.atoms k)
-    (head_narrow c q n l.patterns r h.over)
+    within x y (length lists.answers) (length changes) (atoms_below at (l.numbered).atoms k)
+    (atoms_over l at) (length (l.reducts).tree.head) (length (l.query).head) lists.counted
+    (came_few l s at cells k lists.answers c d rows changes more change lists.some h came delta)
+    (part_few (λ (a : NumberedAtom). a.relation == at) (l.numbered).atoms k)
+    (head_narrow c l.query l.numbered l.patterns l.reducts h.over)
 came_counted false l s at cells k log new x y more change lists = lists.1
 
 went_counted : (wanted : Bool) (l : Live) (s : Reducts) (at : ℕ) (cells : List (List ℕ)) (k : ℕ)
@@ -384,21 +443,11 @@ went_counted : (wanted : Bool) (l : Live) (s : Reducts) (at : ℕ) (cells : List
     (atoms_below at (l.numbered).atoms k) log new x y
     → CountsDelta wanted (λ c d. WentAll c d at cells) l at x y
 went_counted true l s at cells k log new x y more change lists = λ c d gone changes h went delta.
-    let q = l.query in
-    let n = l.numbered in
-    let r = l.reducts in
-    let over = (lost_kept c d l s at cells gone h went change).over in
-    within x y (length lists.answers) (length changes) (atoms_below at n.atoms k)
-    (atoms_over l at) (length r.tree.head) (length q.head) lists.counted
-    (few_changes (IsAnswer c.relations q) (IsAnswer d.relations q) (IsAnswer c.relations q)
-    (IsAnswer d.relations q) HasGone r s (values_of d.texts l) lists.answers changes
-    h.over.reducts change.sound more
-    (part_later c d q n r (whole_part c q n l.patterns r h.over) went.later)
-    (all_as (IsAnswer d.relations q) d.texts n r s change.tree
-    (shows_all d q n l.patterns s over)) lists.listing
-    (λ t is none. (is, none)) delta)
-    (part_few (λ (a : NumberedAtom). a.relation == at) n.atoms k)
-    (head_narrow c q n l.patterns r h.over)
+    within x y (length lists.answers) (length changes) (atoms_below at (l.numbered).atoms k)
+    (atoms_over l at) (length (l.reducts).tree.head) (length (l.query).head) lists.counted
+    (went_few l s at cells lists.answers c d gone changes more change lists.some h went delta)
+    (part_few (λ (a : NumberedAtom). a.relation == at) (l.numbered).atoms k)
+    (head_narrow c l.query l.numbered l.patterns l.reducts h.over)
 went_counted false l s at cells k log new x y more change lists = lists.1
 
 -- ---- the same, of what a call has in hand
@@ -408,26 +457,26 @@ pub logs_came : (wanted : Bool) (l self : Live) (s : Reducts) (at : ℕ) (cells 
     → l ≡ self → atoms ≡ (l.numbered).atoms → ps ≡ l.patterns → HasMore l.reducts s
     → ChangesBelow (λ p old new. GainsAll p cells old new) at atoms ps (length atoms) l.reducts s
     → ListsWhere wanted true (IsGained s l.reducts) h calls log new x y
-    → LogsWhere wanted (λ c d. CameAll c d at cells) self log new
-logs_came wanted l self s at cells atoms ps h calls log new x y e a p more change lists =
+    → IsLog new → LogsWhere wanted (λ c d. CameAll c d at cells) self log new
+logs_came wanted l self s at cells atoms ps h calls log new x y e a p more change lists law =
     subst (λ (z : Live). LogsWhere wanted (λ c d. CameAll c d at cells) z log new) e
     (came_logged wanted l s at cells h calls log new x y more
     (outside (λ v w. ChangesBelow (λ q old new. GainsAll q cells old new) at v w (length v)
     l.reducts s)
-    atoms (l.numbered).atoms ps l.patterns a p change) lists)
+    atoms (l.numbered).atoms ps l.patterns a p change) lists law)
 
 pub logs_went : (wanted : Bool) (l self : Live) (s : Reducts) (at : ℕ) (cells : List (List ℕ))
     (atoms : List NumberedAtom) (ps : List Shape) (h calls : ℕ) (log new : Log) (x y : ℕ)
     → l ≡ self → atoms ≡ (l.numbered).atoms → ps ≡ l.patterns → HasMore s l.reducts
     → ChangesBelow (λ p old new. LosesAll p cells old new) at atoms ps (length atoms) l.reducts s
     → ListsWhere wanted false (IsGained l.reducts s) h calls log new x y
-    → LogsWhere wanted (λ c d. WentAll c d at cells) self log new
-logs_went wanted l self s at cells atoms ps h calls log new x y e a p more change lists =
+    → IsLog new → LogsWhere wanted (λ c d. WentAll c d at cells) self log new
+logs_went wanted l self s at cells atoms ps h calls log new x y e a p more change lists law =
     subst (λ (z : Live). LogsWhere wanted (λ c d. WentAll c d at cells) z log new) e
     (went_logged wanted l s at cells h calls log new x y more
     (outside (λ v w. ChangesBelow (λ q old new. LosesAll q cells old new) at v w (length v) l.reducts
     s)
-    atoms (l.numbered).atoms ps l.patterns a p change) lists)
+    atoms (l.numbered).atoms ps l.patterns a p change) lists law)
 
 pub counts_came : (wanted : Bool) (l self : Live) (s : Reducts) (at : ℕ) (cells : List (List ℕ))
     (atoms : List NumberedAtom) (ps : List Shape) (k : ℕ) (log new : Log) (x y : ℕ)
@@ -474,6 +523,8 @@ logs_one Changed true l log new h = record {
   tells = λ whole c d row kept changed. h.tells whole c d (row ∷ []) kept changed;
   shown = λ whole c d row kept changed. h.shown whole c d (row ∷ []) kept changed;
   stays = h.stays;
+  few = h.few;
+  counts = λ c d row changes kept changed delta. h.counts c d (row ∷ []) changes kept changed delta;
 }
 logs_one Changed false l log new h = h
 

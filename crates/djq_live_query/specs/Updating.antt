@@ -11,8 +11,9 @@ use Rattle.djq_hypergraph.specs.Flat.{IsFlat}
 use Rattle.djq_protocol.specs.Hypergraph.{edges_of, head_of}
 use Rattle.djq_tree.specs.Flat.{HasEqualMeets}
 use Rattle.djq_propagate.specs.Updates.{HasAtMost}
-use Rattle.djq_enumeration.specs.declared.log.Line.{Line}
-use Rattle.djq_enumeration.specs.Log.{Log}
+use Rattle.djq_protocol.specs.declared.limits.TheConstants.{DELTA_LINES}
+use Rattle.djq_delta.specs.declared.delta.TheConstants.{RETAINED_WORDS}
+use Rattle.djq_enumeration.specs.Log.{Line, Log, least_changes}
 use Rattle.djq_database.specs.Catalog.{Catalog, rows_at}
 use Rattle.djq_leaves.specs.Changes.{Came, CameAll, Went, WentAll}
 use Rattle.djq_live_query.specs.Live.{Live, IsKept, IsShowable, values_of}
@@ -68,7 +69,8 @@ change_of texts l k = record {
 abbrev pub IsDeltaOf : Live → Catalog → Catalog → List Change → Type 0
 IsDeltaOf l c d = IsDelta (IsAnswer c.relations l.query) (IsAnswer d.relations l.query)
 
--- Unless the log is lost, the delta is appended to it, in lines that can be shown.
+-- Unless the log is lost, it tells the delta behind what it told, in lines that can be shown. One that was lost stays as
+-- it is.
 pub record LogsDelta {R : Type 0} (Changed : Catalog → Catalog → R → Type 0) (old : Live)
     (log new : Log) : Type 0 where
   pub lines : List Line
@@ -77,7 +79,12 @@ pub record LogsDelta {R : Type 0} (Changed : Catalog → Catalog → R → Type 
       → IsDeltaOf old c d (map (change_of d.texts old) lines)
   pub shown : new.lost ≡ false → (c d : Catalog) (what : R) → IsKept c old → Changed c d what
       → All (λ k. IsShowable d.texts old k.answer) lines
-  pub stays : log.lost ≡ true → new.lost ≡ true
+  pub stays : log.lost ≡ true → new ≡ log
+  -- it has no more lines than it may have
+  pub few : (log.lost ≡ false → length log.lines ≤ DELTA_LINES) → new.lost ≡ false → length new.lines ≤ DELTA_LINES
+  -- no more answers changed by what it says than did, so it is large only if there were too many
+  pub counts : (c d : Catalog) (what : R) (changes : List Change) → IsKept c old → Changed c d what
+      → IsDeltaOf old c d changes → least_changes new ≤ least_changes log + length changes
 
 -- What is done with the log, if the delta is wanted and if it isn't.
 abbrev pub LogsWhere :
@@ -85,10 +92,13 @@ abbrev pub LogsWhere :
 LogsWhere {R} true Changed old log new = LogsDelta Changed old log new
 LogsWhere {R} false Changed old log new = new ≡ log
 
--- The log has no change, and isn't lost.
+-- The log tells of no change, isn't lost, and has given memory back.
 pub record IsEmpty (log : Log) : Type 0 where
   pub lines : log.lines ≡ []
+  pub pushed : log.pushed ≡ 0
   pub kept : log.lost ≡ false
+  pub small : log.large ≡ false
+  pub capacity : log.capacity ≤ RETAINED_WORDS
 
 -- how many atoms are over the relation at a place
 abbrev pub atoms_over : Live → ℕ → ℕ

@@ -183,7 +183,7 @@ impl LiveQuery {
 
     /// A value of an answer, or of one that was removed, in the head's order. A text is lent by
     /// the catalog.
-    pub fn value<'a>(&self, catalog: &'a Catalog, answer: &Answer, at: usize) -> ValueRef<'a>
+    pub fn value<'a>(&self, catalog: &'a Catalog, answer: &[u64], at: usize) -> ValueRef<'a>
         requires kept { IsKeptSomewhere self.now }
         requires showable { IsShowable catalog.now.texts self.now answer.now }
         requires within { at < length self.now.query.head }
@@ -192,6 +192,6 @@ impl LiveQuery {
     {
         self.numbered.within();
         let shown = self.numbered.cells()[at];
-        catalog.value(shown.column, answer.as_slice()[shown.at])
+        catalog.value(shown.column, answer[shown.at])
     }
 }

@@ -34,7 +34,7 @@ use djq_union::{Listing, Members};
 use std::sync::ledger::Ledger;
 
 /// Writes an answer of the tree as cells in a head's order.
-fn put_in_order(reducts: &Reducts, head: &[usize], answer: &Answer, cells: &mut Cells)
+fn put_in_order(reducts: &Reducts, head: &[usize], answer: &[u64], cells: &mut Cells)
     requires few { length head.now ≤ CELLS }
     requires wide { length answer.now ≡ length reducts.now.tree.head }
     requires within { (x : ℕ) → member x head.now ≡ true → member x reducts.now.tree.head ≡ true }
@@ -42,7 +42,7 @@ fn put_in_order(reducts: &Reducts, head: &[usize], answer: &Answer, cells: &mut 
 {
     cells.clear();
     for variable in head {
-        cells.push(answer.as_slice()[reducts.column(*variable)]);
+        cells.push(answer[reducts.column(*variable)]);
     }
 }
 
@@ -71,8 +71,8 @@ fn same_columns(
 }
 
 impl LiveQuery {
-    /// Writes an answer of the tree, or one that was removed, as cells in the head's order.
-    pub fn put_in_head(&self, answer: &Answer, cells: &mut Cells)
+    /// Writes an answer of the tree, or one that went, as cells in the head's order.
+    pub fn put_in_head(&self, answer: &[u64], cells: &mut Cells)
         requires kept { IsKeptSomewhere self.now }
         requires wide { length answer.now ≡ length self.now.reducts.tree.head }
         ensures { cells.new ≡ in_head self.now answer.now }
@@ -142,7 +142,7 @@ impl Listing for LiveQuery {
         if !state.step(&self.reducts, listing) {
             return false;
         }
-        put_in_order(&self.reducts, self.numbered.head(), &state.answer, out);
+        put_in_order(&self.reducts, self.numbered.head(), state.answer.as_slice(), out);
         true
     }
 

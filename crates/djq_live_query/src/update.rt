@@ -93,6 +93,7 @@ impl LiveQuery {
             steps,
         );
         if done == atoms.len() {
+            log.laws();
             return Ok(());
         }
         delete_from_leaves(
@@ -173,6 +174,7 @@ impl LiveQuery {
             steps,
         );
         if done == atoms.len() {
+            log.laws();
             return Ok(());
         }
         give_all_from_leaves(
@@ -227,6 +229,7 @@ impl LiveQuery {
             log,
             steps,
         );
+        log.laws();
     }
 
     /// Deletes rows that were deleted from a relation at once, each given by its cells; they are
@@ -273,6 +276,7 @@ impl LiveQuery {
             log,
             steps,
         );
+        log.laws();
     }
 
     /// Deletes a row again that [`add`](LiveQuery::add) inserted, without a delta. It needs no memory,

@@ -227,7 +227,7 @@ module _ (old : State) (s : ℕ) (batch : Option HeldTransaction) (c : Command) 
 
   lines_quiet : (lines : List Bytes) → TellsLines old s lines e new → IsKept
   lines_quiet lines (inl h) = quiet (ap (λ (f : Effect). f.kept) h.0) (ap (λ (st : State). st.store) h.1)
-  lines_quiet lines (inr (told, lacking, rest, parts, ends)) =
+  lines_quiet lines (inr ends) =
       quiet (ap (λ (f : Effect). f.kept) ends.0) (ap (λ (st : State). st.store) ends.1)
 
   explain_found : (o : Option Listed)

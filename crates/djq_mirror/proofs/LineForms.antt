@@ -10,7 +10,7 @@ use Rattle.djq_model.specs.Parts.{before}
 use Rattle.djq_tree.specs.Explaining.{end_text}
 use Rattle.djq_value.specs.Literal.{is_name}
 use Rattle.djq_protocol.specs.declared.answer.EndLine.{EndLine}
-use Rattle.djq_protocol.specs.declared.answer.EndLine.TheVariants.{Long, Slow, Memory, Full}
+use Rattle.djq_protocol.specs.declared.answer.EndLine.TheVariants.{Long, Slow, Large, Memory, Full}
 use Rattle.djq_protocol.specs.declared.answer.Refusal.{Refusal}
 use Rattle.djq_protocol.specs.declared.answer.Refusal.TheVariants.{Syntax, Taken, NoRelation, NoQuery, NoCursor, Arity}
 use Rattle.djq_protocol.specs.declared.answer.Refusal.TheVariants.{WrongType, HeadUnbound, HeadRepeated, VariableType}
@@ -60,6 +60,7 @@ refused_words OtherCount = codes "err 20 held"
 abbrev pub ended_words : EndLine → Bytes
 ended_words Long = codes "end long"
 ended_words Slow = codes "end slow"
+ended_words Large = codes "end large"
 ended_words Memory = codes "end memory"
 ended_words Full = codes "end full"
 
@@ -138,6 +139,7 @@ refused_text OtherCount = refl
 ended_text : (e : EndLine) → reply_text (ended e) ≡ line (ended_words e)
 ended_text Long = refl
 ended_text Slow = refl
+ended_text Large = refl
 ended_text Memory = refl
 ended_text Full = refl
 
@@ -413,6 +415,7 @@ refused_told OtherCount = refl
 ended_told : (e : EndLine) → news_in (ended_words e) ≡ Some nothing
 ended_told Long = refl
 ended_told Slow = refl
+ended_told Large = refl
 ended_told Memory = refl
 ended_told Full = refl
 

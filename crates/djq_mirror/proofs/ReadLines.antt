@@ -8,7 +8,7 @@ use Rattle.std.proofs.lemmas.Bool.{and_parts, and_from, or_cases}
 use Rattle.djq_model.specs.Data.{Bytes, bytes_eq}
 use Rattle.djq_model.specs.Parts.{before, behind}
 use Rattle.djq_value.specs.Literal.{is_name}
-use Rattle.djq_protocol.specs.declared.answer.EndLine.TheVariants.{Long, Slow, Memory, Full}
+use Rattle.djq_protocol.specs.declared.answer.EndLine.TheVariants.{Long, Slow, Large, Memory, Full}
 use Rattle.djq_protocol.specs.declared.answer.Refusal.TheVariants.{Syntax, Taken, NoRelation, NoQuery, NoCursor, Arity}
 use Rattle.djq_protocol.specs.declared.answer.Refusal.TheVariants.{WrongType, HeadUnbound, HeadRepeated, VariableType}
 use Rattle.djq_protocol.specs.declared.answer.Refusal.TheVariants.{Limit, NoMemory, InUse, Unbound, Member, Misplaced}
@@ -87,7 +87,7 @@ all_fixed = (
                   (
                     fixed (codes "end slow") (ended Slow) tt refl refl,
                     (
-                      fixed (codes "end memory") (ended Memory) tt refl refl,
+                      fixed (codes "end large") (ended Large) tt refl refl, (fixed (codes "end memory") (ended Memory) tt refl refl,
                       (
                         fixed (codes "end full") (ended Full) tt refl refl,
                         (
@@ -156,7 +156,7 @@ all_fixed = (
       ),
     ),
   ),
-)
+))
 
 -- Lines of words. A line is a first word and others, each behind a space.
 

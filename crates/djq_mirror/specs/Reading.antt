@@ -169,7 +169,7 @@ count_told ws = None
 abbrev pub fixed_lines : List Bytes
 fixed_lines =
     codes "ok" ∷ codes "ok batch" ∷ codes "yes" ∷ codes "no" ∷ codes "flat" ∷ codes "linear"
-    ∷ codes "union" ∷ codes "bye" ∷ codes "end long" ∷ codes "end slow" ∷ codes "end memory" ∷ codes "end full"
+    ∷ codes "union" ∷ codes "bye" ∷ codes "end long" ∷ codes "end slow" ∷ codes "end large" ∷ codes "end memory" ∷ codes "end full"
     ∷ codes "err 1 syntax" ∷ codes "err 2 taken" ∷ codes "err 3 no relation"
     ∷ codes "err 4 no query" ∷ codes "err 5 no cursor" ∷ codes "err 6 arity" ∷ codes "err 7 type"
     ∷ codes "err 8 head unbound" ∷ codes "err 9 head repeated" ∷ codes "err 10 variable type"

@@ -16,7 +16,7 @@ use djq_value::{is_name, is_text};
 pub(crate) fn is_fixed(line: &[u8]) -> bool
     ensures { result ≡ is_fixed_of line.now }
 {
-    let lines: [&[u8]; 31] = [
+    let lines: [&[u8]; 32] = [
         b"ok",
         b"ok batch",
         b"yes",
@@ -27,6 +27,7 @@ pub(crate) fn is_fixed(line: &[u8]) -> bool
         b"bye",
         b"end long",
         b"end slow",
+        b"end large",
         b"end memory",
         b"end full",
         b"err 1 syntax",

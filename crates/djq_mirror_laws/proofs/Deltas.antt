@@ -1,6 +1,6 @@
 -- What a change of rows sends one session that goes on: its deltas, and no other.
 use Rattle.std.specs.Prelude.{ℕ, List, [], ◌∷◌, ◌==◌, ◌≡◌, ◌<◌, ◌⊎◌, ◌++◌, Bool, true, false, cond, Option, None, Some}
-use Rattle.std.specs.Prelude.{MatchOption, option_map, map, All, AllPairs, Contains, ◌≢◌, ◌&&◌, filter}
+use Rattle.std.specs.Prelude.{MatchOption, option_map, map, All, AllPairs, Contains, ◌≢◌, ◌&&◌, not, filter}
 use Rattle.std.specs.List.{list_any, flat_map}
 use Rattle.std.proofs.Common.{refl, sym, ap, ap₂, ◌∙◌, subst, inl, inr, arith, append_assoc, append-nil}
 use Rattle.std.proofs.lemmas.Bool.{eqb-true, eq-eqb, ne_eqb}
@@ -12,8 +12,8 @@ use Rattle.djq_model.specs.Data.{Bytes, bytes_eq}
 use Rattle.djq_model.specs.Listed.{listed_name, Listed, AnswersOf, listed_of}
 use Rattle.djq_model.specs.Equality.{bytes_eq-decides}
 use Rattle.djq_protocol.specs.declared.answer.EndCause.{EndCause}
-use Rattle.djq_protocol.specs.declared.answer.EndCause.TheVariants.{Slow, Memory}
-use Rattle.djq_protocol.specs.Reply.{text_of, end_slow, end_memory}
+use Rattle.djq_protocol.specs.declared.answer.EndCause.TheVariants.{Slow, Large, Memory}
+use Rattle.djq_protocol.specs.Reply.{text_of, end_slow, end_large, end_memory}
 use Rattle.djq_mirror.specs.Replies.{Reply, changed as changes_answer, reply_text, counted}
 use Rattle.djq_store_spec.specs.Store.{Store}
 use Rattle.djq_store_spec.specs.Delta.{Change, change_lines, delta_lines, IsDelta}
@@ -22,16 +22,16 @@ use Rattle.djq_store_spec.specs.DeltaCost.{Delta, AreDeltas}
 use Rattle.djq_answer_laws.proofs.Lists.{nothing_there, first_or_later, mapped_there, pairs_head, pairs_tail}
 use Rattle.djq_answer_laws.proofs.Lists.{first_there, later_there, kept_there, hold_each, some_there}
 use Rattle.djq_machine.specs.State.{State, Session, session_of, with_session, ended_by, state_ids}
-use Rattle.djq_machine.specs.Effect.{Effect, queue_all}
+use Rattle.djq_machine.specs.Effect.{Effect}
 use Rattle.djq_machine.specs.Outdating.{outdated_cursor, changed}
 use Rattle.djq_machine.specs.Run.{Walk, to_session}
 use Rattle.djq_machine.specs.Call.{IsOpen, cause_of, cause_in}
-use Rattle.djq_machine.specs.Watch.{Telling, says_more, ends_more, watching, watcher_of, TellsWatcher, TellsSession}
-use Rattle.djq_machine.specs.Watch.{TellsDelta, RepliesLast, ChangeStep, is_watching, affected}
+use Rattle.djq_machine.specs.Watch.{Telling, says_more, ends_more, ends_first, ends_slow, watching, TellsWatcher, TellsSession}
+use Rattle.djq_machine.specs.Watch.{TellsDelta, RepliesLast, ChangeStep, affected, awaits, is_behind}
 use Rattle.djq_run_laws.specs.Moved.{EndsByRun}
-use Rattle.djq_run_laws.proofs.Lists.{gaining, session_changed, session_other, queued_all, found_there, found_passes}
+use Rattle.djq_run_laws.proofs.Lists.{session_changed, session_other, slow_keeps, slow_open, still_open, found_there, found_passes}
 use Rattle.djq_run_laws.proofs.Lists.{any_there, mapped_from, beginning, session_keeps, delta_keeps}
-use Rattle.djq_run_laws.proofs.Deltas.{IsOver, over_stays, find_mapped}
+use Rattle.djq_run_laws.proofs.Deltas.{IsOver, ended_over, over_stays, find_mapped}
 use Rattle.djq_run_laws.proofs.Sessions.{changed_ids}
 use Rattle.djq_mirror_laws.specs.Told.{replies_text, delta_replies, is_told_of}
 
@@ -127,14 +127,26 @@ module _ (s : ℕ) (ws : List Bytes) where
   })
 
   other_told : (d : Delta) (n : ℕ) (m : Telling) (t : ℕ) (new : Telling) (rs : List Reply) (o : Option Session)
-      → (t == s) ≡ false → MatchOption o (new ≡ m) (λ x. TellsWatcher d n t x.pending m new) → Heard m rs → Heard new rs
+      → (t == s) ≡ false → MatchOption o (new ≡ m) (λ x. TellsWatcher d n t m new) → Heard m rs → Heard new rs
   other_told d n m t new rs None e h k = subst (λ (l : Telling). Heard l rs) (sym h) k
   other_told d n m t new rs (Some x) e (inl h) k =
-      subst (λ (l : Telling). Heard l rs) (sym h.1) (other_ends m t end_slow Slow rs e k)
-  other_told d n m t new rs (Some x) e (inr (inl h)) k =
       subst (λ (l : Telling). Heard l rs) (sym h.1) (other_says m t _ rs e k)
+  other_told d n m t new rs (Some x) e (inr (inl h)) k =
+      subst (λ (l : Telling). Heard l rs) (sym h.1) (other_ends m t end_large Large rs e k)
   other_told d n m t new rs (Some x) e (inr (inr h)) k =
-      subst (λ (l : Telling). Heard l rs) (sym h.4) (other_ends m t _ Memory rs e k)
+      subst (λ (l : Telling). Heard l rs) (sym h) (other_ends m t end_memory Memory rs e k)
+
+  -- those that are too slow end, this one too if it is one of them
+  slow_told : (ss : List ℕ) (m : Telling) (rs : List Reply) → All (λ t. IsOpen m.state t) ss → Heard m rs
+      → Heard (ends_slow m ss) rs
+  slow_told [] m rs all h = h
+  slow_told (t ∷ ss) m rs all h = slow_told ss (ends_more t end_slow Slow m) rs
+      (still_open m t ss (All-tail (λ i. IsOpen m.state i) t ss all)) (by (t == s) refl)
+    where
+      by : (b : Bool) → (t == s) ≡ b → Heard (ends_more t end_slow Slow m) rs
+      by false e = other_ends m t end_slow Slow rs e h
+      by true e = inl (subst (λ (i : ℕ). IsOver (with_session m.state t (ended_by Slow)) i) (eqb-true t s e)
+          (ended_over m.state t Slow (All-head (λ i. IsOpen m.state i) t ss all)))
 
   -- it is told itself
   over_says : (m : Telling) (t : ℕ) (text : Bytes) → IsOpen m.state t → IsOver m.state s
@@ -145,12 +157,10 @@ module _ (s : ℕ) (ws : List Bytes) where
       → IsOver m.state s → IsOver (ends_more t text cause m).state s
   over_ends m t text cause may there over = over_stays m.state t cause s (t == s) refl there over
 
-  own_watcher : (d : Delta) (n : ℕ) (pending : Bytes) (m new : Telling) (rs : List Reply) (h : Hears m rs)
-      → TellsWatcher d n s pending m new
+  own_watcher : (d : Delta) (n : ℕ) (m new : Telling) (rs : List Reply) (h : Hears m rs)
+      → TellsWatcher d n s m new
       → Heard new (rs ++ delta_replies (listed_name d.query) (record { number = n; changes = d.changes }))
-  own_watcher d n pending m new rs h (inl k) =
-      inl (subst (λ (l : Telling). IsOver l.state s) (sym k.1) (ended_now m h.session end_slow Slow h.is))
-  own_watcher d n pending m new rs h (inr (inl k)) =
+  own_watcher d n m new rs h (inl k) =
       let more = delta_replies (listed_name d.query) (record { number = n; changes = d.changes }) in
       let text = text_of (delta_lines (listed_name d.query) d.changes n) in
       inr (subst (λ (l : Telling). Hears l (rs ++ more)) (sym k.1) (record {
@@ -161,40 +171,35 @@ module _ (s : ℕ) (ws : List Bytes) where
             ∙ ap₂ (λ (xs ys : Bytes). xs ++ ys) h.told (delta_text (listed_name d.query) d.changes n)
             ∙ sym (text_append rs more);
       }))
-  own_watcher d n pending m new rs h (inr (inr k)) =
-      inl (subst (λ (l : Telling). IsOver l.state s) (sym k.4)
-      (ended_now m h.session (text_of (change_lines (listed_name d.query) k.1) ++ end_memory) Memory h.is))
+  own_watcher d n m new rs h (inr (inl k)) =
+      inl (subst (λ (l : Telling). IsOver l.state s) (sym k.1) (ended_now m h.session end_large Large h.is))
+  own_watcher d n m new rs h (inr (inr k)) =
+      inl (subst (λ (l : Telling). IsOver l.state s) (sym k) (ended_now m h.session end_memory Memory h.is))
 
   own_told : (d : Delta) (n : ℕ) (m new : Telling) (rs : List Reply) → TellsSession d n m s new → Heard m rs
       → Heard new (rs ++ heard ws n d)
   own_told d n m new rs h (inl over) =
       inl (session_keeps (λ (l : Telling). IsOver l.state s) over_says over_ends d n m s new
-      (watcher_of m (listed_name d.query) s) refl h over)
+      (watching (listed_name d.query) (session_of m.state s)) refl h over)
   own_told d n m new rs h (inr k) = by (list_any (λ w. bytes_eq w (listed_name d.query)) ws) refl
     where
-      now : Session
-      now = gaining (to_session s m.queued) k.session
-
-      found : session_of (queue_all m.state m.queued) s ≡ Some now
-      found = queued_all m.state m.queued s ∙ ap (λ o. option_map (gaining (to_session s m.queued)) o) k.is
-
       is_watched : (b : Bool) → list_any (λ w. bytes_eq w (listed_name d.query)) ws ≡ b
-          → watcher_of m (listed_name d.query) s ≡ cond b (Some now) None
+          → watching (listed_name d.query) (session_of m.state s) ≡ cond b (Some k.session) None
       is_watched b e =
-          ap (λ o. watching (listed_name d.query) o) found
-          ∙ ap (λ (r : Bool). cond r (Some now) None)
+          ap (λ o. watching (listed_name d.query) o) k.is
+          ∙ ap (λ (r : Bool). cond r (Some k.session) None)
           (ap (λ (vs : List Bytes). list_any (λ w. bytes_eq w (listed_name d.query)) vs) k.watches ∙ e)
 
       by : (b : Bool) → list_any (λ w. bytes_eq w (listed_name d.query)) ws ≡ b
           → Heard new (rs ++ cond b (delta_replies (listed_name d.query) (record { number = n; changes = d.changes }))
           [])
       by true e =
-          own_watcher d n now.pending m new rs k
-          (subst (λ (o : Option Session). MatchOption o (new ≡ m) (λ x. TellsWatcher d n s x.pending m new))
+          own_watcher d n m new rs k
+          (subst (λ (o : Option Session). MatchOption o (new ≡ m) (λ x. TellsWatcher d n s m new))
           (is_watched true e) h)
       by false e =
           let same : new ≡ m =
-          subst (λ (o : Option Session). MatchOption o (new ≡ m) (λ x. TellsWatcher d n s x.pending m new))
+          subst (λ (o : Option Session). MatchOption o (new ≡ m) (λ x. TellsWatcher d n s m new))
           (is_watched false e) h in
           inr (subst (λ (l : Telling). Hears l (rs ++ [])) (sym same)
           (subst (λ (ts : List Reply). Hears m ts) (sym (append-nil rs)) k))
@@ -206,7 +211,7 @@ module _ (s : ℕ) (ws : List Bytes) where
   others_told d n m [] new rs apart w h = subst (λ (l : Telling). Heard l rs) (sym w) h
   others_told d n m (t ∷ xs) new rs apart w h =
       others_told d n w.0 xs new rs (All-tail (λ t. (t == s) ≡ false) t xs apart) w.2
-      (other_told d n m t w.0 rs (watcher_of m (listed_name d.query) t) (All-head (λ t. (t == s) ≡ false) t xs apart)
+      (other_told d n m t w.0 rs (watching (listed_name d.query) (session_of m.state t)) (All-head (λ t. (t == s) ≡ false) t xs apart)
       w.1 h)
 
   each_told : (d : Delta) (n : ℕ) (m : Telling) (xs : List ℕ) (new : Telling) (rs : List Reply)
@@ -230,7 +235,7 @@ module _ (s : ℕ) (ws : List Bytes) where
       by (inr later) more =
           let lt = All-contains (λ j. t < j) xs s above later in
           more later
-          (other_told d n m t w.0 rs (watcher_of m (listed_name d.query) t) (ne_eqb t s (λ e. omega (arith, e, lt))) w.1
+          (other_told d n m t w.0 rs (watching (listed_name d.query) (session_of m.state t)) (ne_eqb t s (λ e. omega (arith, e, lt))) w.1
           h)
 
   ids_say : (ids : List ℕ) (m : Telling) (t : ℕ) (text : Bytes) → IsOpen m.state t → state_ids m.state ≡ ids
@@ -375,13 +380,23 @@ module _ (s : ℕ) (x : Session) (old : State) (is : session_of old s ≡ Some x
       ds = cond (is_made outcome) h.deltas []
 
       start : Telling
-      start = beginning old outcome store
+      start = ends_slow (beginning old outcome store) (ends_first old outcome)
+
+      ids : List ℕ
+      ids = state_ids (changed old (tried outcome) store)
 
       risen : AllPairs (λ i j. i < j) (state_ids start.state)
-      risen = subst (λ (js : List ℕ). AllPairs (λ i j. i < j) js) (sym (begun_ids (tried outcome) store)) rising
+      risen = subst (λ (js : List ℕ). AllPairs (λ i j. i < j) js)
+          (sym (slow_keeps (λ (l : Telling). state_ids l.state ≡ ids) (ids_say s x.watches ids) (ids_end s x.watches ids)
+          (ends_first old outcome) (beginning old outcome store) (slow_open old outcome store) refl
+          ∙ begun_ids (tried outcome) store)) rising
+
+      first : Heard s x.watches start []
+      first = slow_told s x.watches (ends_first old outcome) (beginning old outcome store) []
+          (slow_open old outcome store) (inr (begun outcome store))
 
       told : Heard s x.watches h.told (all_heard x.watches store.seq ds)
-      told = deltas_told s x.watches store.seq start ds h.told [] risen h.tells (inr (begun outcome store))
+      told = deltas_told s x.watches store.seq start ds h.told [] risen h.tells first
 
       last : Heard s x.watches h.last (all_heard x.watches store.seq ds ++ own_replies s x.watches (t == s) r)
       last = reply_told s x.watches reply r text t h.told h.last (all_heard x.watches store.seq ds) h.replies told
@@ -521,7 +536,7 @@ module _ (old : State) (change : RowsChange) (ds : List Delta)
       pairs_unmapped (λ a b. listed_name a ≢ listed_name b) (λ (d : Delta). d.query) ds
       (subst (λ (qs : List Listed). AllPairs (λ a b. listed_name a ≢ listed_name b) qs) (sym deltas.of_queries)
       (AllPairs-filter (λ a b. listed_name a ≢ listed_name b)
-      (λ q. is_outdated change q && list_any (is_watching (listed_name q)) old.sessions) old.store.queries apart))
+      (λ q. is_outdated change q && list_any (awaits (listed_name q)) old.sessions) old.store.queries apart))
 
   -- the query of one of them is registered, and the change outdates it
   from_filter : (p : Listed → Bool) (qs : List Listed) (q : Listed) → Contains (filter p qs) q
@@ -545,15 +560,16 @@ module _ (old : State) (change : RowsChange) (ds : List Delta)
   -- where the change outdates the query, and a session watches it
   pub told_one : (q : Listed) (s : ℕ) (x : Session) (n : ℕ) → session_of old s ≡ Some x
       → listed_of old.store.queries (listed_name q) ≡ Some q → is_outdated change q ≡ true
-      → list_any (λ w. bytes_eq w (listed_name q)) x.watches ≡ true
+      → list_any (λ w. bytes_eq w (listed_name q)) x.watches ≡ true → is_behind x ≡ false
       → (changes : List Change) × IsDelta (AnswersOf old.store.relations q) (AnswersOf change.after q) changes
       × (filter (is_told_of (listed_name q)) (all_heard x.watches n ds)
       ≡ delta_replies (listed_name q) (record { number = n; changes = changes }))
-  told_one q s x n is registered outdated watching =
-      let watched = any_there (is_watching (listed_name q)) old.sessions x
-      (found_there (λ (y : Session). y.id == s) old.sessions x is) watching in
+  told_one q s x n is registered outdated watches in_time =
+      let watched = any_there (awaits (listed_name q)) old.sessions x
+      (found_there (λ (y : Session). y.id == s) old.sessions x is)
+      (ap₂ (λ (a b : Bool). a && b) watches (ap not in_time)) in
       let among : Contains (affected old change) q =
-      kept_there (λ p. is_outdated change p && list_any (is_watching (listed_name p)) old.sessions) old.store.queries q
+      kept_there (λ p. is_outdated change p && list_any (awaits (listed_name p)) old.sessions) old.store.queries q
       (ap₂ (λ (a b : Bool). a && b) outdated watched)
       (found_there (λ (p : Listed). bytes_eq (listed_name p) (listed_name q)) old.store.queries q registered) in
       let d = mapped_from (λ (k : Delta). k.query) ds q
@@ -567,7 +583,7 @@ module _ (old : State) (change : RowsChange) (ds : List Delta)
         subst (λ (p : Listed). filter (is_told_of (listed_name p)) (all_heard x.watches n ds)
             ≡ delta_replies (listed_name p) (record { number = n; changes = (d.0).changes })) d.2
             (of_one x.watches n ds d.0 deltas_apart d.1
-            (ap (λ (p : Listed). list_any (λ w. bytes_eq w (listed_name p)) x.watches) d.2 ∙ watching)),
+            (ap (λ (p : Listed). list_any (λ w. bytes_eq w (listed_name p)) x.watches) d.2 ∙ watches)),
       )
 
   -- where it doesn't outdate the query
@@ -576,11 +592,11 @@ module _ (old : State) (change : RowsChange) (ds : List Delta)
   told_none q ws n registered outdated =
       of_others (listed_name q) ws n ds
       (hold_each (λ (d : Delta). bytes_eq (listed_name d.query) (listed_name q) ≡ false) ds (λ d c.
-      let there = from_filter (λ p. is_outdated change p && list_any (is_watching (listed_name p)) old.sessions)
+      let there = from_filter (λ p. is_outdated change p && list_any (awaits (listed_name p)) old.sessions)
       old.store.queries d.query
       (subst (λ (qs : List Listed). Contains qs d.query) deltas.of_queries
       (mapped_there (λ (k : Delta). k.query) ds d c)) in
-      let is = both_first (is_outdated change d.query) (list_any (is_watching (listed_name d.query)) old.sessions)
+      let is = both_first (is_outdated change d.query) (list_any (awaits (listed_name d.query)) old.sessions)
       there.1 in
       other_name_not (listed_name d.query) (listed_name q) (λ same.
       let one = apart_same old.store.queries d.query q apart there.0

@@ -16,7 +16,7 @@ use Rattle.djq_model.specs.Equality.{bytes_eq-decides}
 use Rattle.djq_model.specs.Listed.{listed_name}
 use Rattle.djq_value.specs.Literal.{is_lower, is_digit, is_name, is_small_value}
 use Rattle.djq_value.specs.ValueText.{escaped, value_text}
-use Rattle.djq_protocol.specs.declared.answer.EndLine.TheVariants.{Long, Slow, Memory, Full}
+use Rattle.djq_protocol.specs.declared.answer.EndLine.TheVariants.{Long, Slow, Large, Memory, Full}
 use Rattle.djq_protocol.specs.declared.answer.Shape.TheVariants.{Flat, Linear, Union}
 use Rattle.djq_protocol.specs.declared.answer.Sign.{Sign}
 use Rattle.djq_protocol.specs.declared.answer.Sign.TheVariants.{Came, Went}
@@ -326,6 +326,7 @@ printed_are_lines (refused NoCopy) p few = fixed (refused NoCopy) (codes "err 19
 printed_are_lines (refused OtherCount) p few = fixed (refused OtherCount) (codes "err 20 held") refl refl (omega arith)
 printed_are_lines (ended Long) p few = fixed (ended Long) (codes "end long") refl refl (omega arith)
 printed_are_lines (ended Slow) p few = fixed (ended Slow) (codes "end slow") refl refl (omega arith)
+printed_are_lines (ended Large) p few = fixed (ended Large) (codes "end large") refl refl (omega arith)
 printed_are_lines (ended Memory) p few = fixed (ended Memory) (codes "end memory") refl refl (omega arith)
 printed_are_lines (ended Full) p few = fixed (ended Full) (codes "end full") refl refl (omega arith)
 printed_are_lines cut p few = fixed cut (codes "err 13 cut") refl refl (omega arith)

@@ -467,16 +467,11 @@ lines_replies : {U : Type 0} (old : State) (s : ℕ) (lines : List Bytes) (e : E
 lines_replies old s lines e new rs plain none are (inl h) =
     several_lines s rs e.queued plain (λ u. absurd (none u))
     (ap (λ (x : Effect). x.queued) h.0 ∙ ap (λ (bytes : Bytes). (s, bytes) ∷ []) (ap text_of are ∙ text_of_replies rs))
-lines_replies old s lines e new rs plain none are (inr (told, lacking, rest, parts, ends)) =
-    let first = first_of rs told (lacking ∷ rest) plain (sym are ∙ parts) in
-    several_lines s (first.some ++ is_ended Memory ∷ []) e.queued
-    (All-append IsPlain first.some (is_ended Memory ∷ []) first.plain
-    (All-cons IsPlain (is_ended Memory) [] (λ name. refl) (All-nil IsPlain))) (λ u. absurd (none u))
+lines_replies old s lines e new rs plain none are (inr ends) =
+    several_lines s (is_ended Memory ∷ []) e.queued
+    (All-cons IsPlain (is_ended Memory) [] (λ name. refl) (All-nil IsPlain)) (λ u. absurd (none u))
     (ap (λ (x : Effect). x.queued) ends.0
-    ∙ ap (λ (bytes : Bytes). (s, bytes) ∷ [])
-    (ap (λ bytes. bytes ++ end_memory) (ap text_of first.are ∙ text_of_replies first.some)
-    ∙ ap (λ bytes. replies_text first.some ++ bytes) (sym (append-nil end_memory))
-    ∙ sym (text_append first.some (is_ended Memory ∷ []))))
+    ∙ ap (λ (bytes : Bytes). (s, bytes) ∷ []) (sym (append-nil end_memory)))
 
 -- the members of a union
 members_plain : (qs : List Query) → All IsPlain (map (λ (q : Query). member q.name) qs)

@@ -44,7 +44,7 @@ use Rattle.djq_machine.specs.Step.{Event, opened, fed, stepped, took, ended, clo
 use Rattle.djq_machine.specs.Step.{cut_line, with_relations, Step}
 use Rattle.djq_machine.specs.Run.{Did, to_session, out}
 use Rattle.djq_machine.specs.Call.{cause_of, cause_in}
-use Rattle.djq_machine.specs.Watch.{is_watching, ChangeStep}
+use Rattle.djq_machine.specs.Watch.{awaits, is_watching, ChangeStep}
 use Rattle.djq_run_laws.specs.Added.{added_up}
 use Rattle.djq_run_laws.specs.Rising.{AreRising}
 use Rattle.djq_run_laws.specs.Form.{RowCommand, row_comes, row_goes, carries_out}
@@ -59,6 +59,7 @@ use Rattle.djq_run_laws.proofs.Forms.{Reads, turned_down, carried_out, line_read
 use Rattle.djq_run_laws.proofs.RowCommands.{RowsMade, outdater_by, added, deleted}
 use Rattle.djq_run_laws.proofs.SoundStates.{step_sound}
 use Rattle.djq_run_laws.proofs.Deltas.{StepTells, is_quiet, is_told, change_store, queued_store, step_tells, changed_to}
+use Rattle.djq_run_laws.proofs.Deltas.{watcher_in_time}
 use Rattle.djq_run_laws.proofs.Sessions.{changed_ids}
 use Rattle.djq_mirror_laws.specs.Told.{replies_text, is_told_of, delta_replies, WatchersAreToldExactly}
 use Rattle.djq_mirror_laws.specs.Sayable.{IsSayableRelation, IsSayableListed, IsSayableStore, IsSayableSession}
@@ -258,7 +259,7 @@ all_heard_fine old t (accepted change) store reply e mid c made h before behind 
     h.deltas
     (all_unmapped IsSayableListed (λ (d : Delta). d.query) h.deltas
     (subst (λ (qs : List Listed). All IsSayableListed qs) (sym h.listed.of_queries)
-    (All-filter (λ (p : Listed). is_outdated change p && list_any (is_watching (listed_name p)) old.sessions)
+    (All-filter (λ (p : Listed). is_outdated change p && list_any (awaits (listed_name p)) old.sessions)
     IsSayableListed
     old.store.queries before.queries)))
     h.listed.are_deltas
@@ -353,7 +354,8 @@ module _ (q : Listed) (s : ℕ) (old : State) (x : Session) (is : session_of old
               ≡ false = ap is_some nothing_of in absurd (cc (none, counts))
           outdates (Some relation) does tells =
               let one =
-              told_one old change k.deltas apart k.listed q s x store.seq is registered (ap is_some does) watching in
+              told_one old change k.deltas apart k.listed q s x store.seq is registered (ap is_some does) watching
+              (watcher_in_time q s old t change store reply e mid k (ap is_some does) registered x is watching running) in
               tells_delta one.0
               (same_delta old.store.relations change.after new.relations q one.0
               (subst (λ (rs : List Relation). SameAnswers rs new.relations q)

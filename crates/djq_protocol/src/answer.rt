@@ -78,6 +78,8 @@ pub enum EndLine {
     Long,
     /// Too many bytes were pending.
     Slow,
+    /// A delta has more answers than may be listed.
+    Large,
     /// Out of memory.
     Memory,
     /// Too many sessions are open.
@@ -106,6 +108,8 @@ pub enum EndCause {
     Long,
     /// Too many bytes were pending.
     Slow,
+    /// A delta has more answers than may be listed.
+    Large,
     /// Out of memory.
     Memory,
 }

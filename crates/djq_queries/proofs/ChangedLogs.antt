@@ -1,6 +1,6 @@
 -- What the logs of watched queries say of groups that come and, behind that, of groups that go.
 use Rattle.std.proofs.Common.{ℕ, List, [], ◌++◌, ◌≡◌, ◌⊎◌, Bool, true, false, refl, sym, ap, ◌∙◌, subst, append-nil}
-use Rattle.std.proofs.Common.{inl, inr}
+use Rattle.std.proofs.Common.{arith, inl, inr, length, length-append, ◌+◌, ◌≤◌}
 use Rattle.std.specs.Prelude.{◌||◌, ◌&&◌, Option, None, Some, IsSomeAnd, All, ⊤, map}
 use Rattle.std.proofs.lemmas.Bool.{or_parts}
 use Rattle.std.proofs.lemmas.List.Elements.{All-append}
@@ -8,8 +8,10 @@ use Rattle.djq_model.specs.Data.{Bytes}
 use Rattle.djq_model.specs.Answer.{IsAnswer}
 use Rattle.djq_model.specs.Listed.{a_query}
 use Rattle.djq_database.specs.Catalog.{Catalog}
-use Rattle.djq_enumeration.specs.declared.log.Line.{Line}
-use Rattle.djq_enumeration.specs.Log.{Log}
+use Rattle.djq_protocol.specs.declared.limits.TheConstants.{DELTA_LINES}
+use Rattle.djq_store_spec.specs.Delta.{Change, IsDelta}
+use Rattle.djq_model.specs.declared.query.Query.{Query}
+use Rattle.djq_enumeration.specs.Log.{Line, Log, least_changes}
 use Rattle.djq_answer_laws.proofs.Choices.{answer_stays}
 use Rattle.djq_live_query.specs.Live.{Live, IsKept, SameQuery, IsShowable}
 use Rattle.djq_live_query.specs.Updating.{IsDeltaOf, IsEmpty, LogsDelta, LogsWhere, change_of}
@@ -20,14 +22,13 @@ use Rattle.djq_reach.specs.Tending.{Empties, LogTellsAt, LogTellsOver, TellsWher
 use Rattle.djq_reach.specs.Batching.{LogsAt}
 use Rattle.djq_reach.specs.Grouping.{Clears, GroupsLead, reached}
 use Rattle.djq_reach.proofs.CatalogChains.{unread_by}
-use Rattle.djq_reach.proofs.Groups.{delta_same, showable_same}
-use Rattle.djq_reach.proofs.Logs.{all_none}
+use Rattle.djq_reach.proofs.Groups.{delta_same, not_lost, showable_same}
+use Rattle.djq_reach.proofs.Logs.{all_none, none_changed}
 use Rattle.djq_reach.proofs.PlacedQueries.{reader_both, same_refl}
 use Rattle.djq_reach.proofs.RowChanges.{delta_none}
 use Rattle.djq_queries.specs.Going.{GroupsGo}
 use Rattle.djq_queries.specs.Changing.{EmptiesWatched, GroupsChange, LogTellsHalves, touched}
 use Rattle.djq_queries.proofs.Chains.{falls_by, names_gone, rows_rise}
-use Rattle.djq_queries.proofs.Logs.{not_lost}
 use Rattle.djq_queries.proofs.Changes.{mid_goes, past_came, rests_came, rests_gone, unread_going}
 
 and_false : (a b : Bool) → b ≡ false → (a && b) ≡ false
@@ -47,6 +48,8 @@ TellsHalvesAt watchers c e d i = TellsHalvesWhere (watched_at watchers i) c e d
 record CameTold (c e : Catalog) (l : Live) (log : Log) : Type 0 where
   tells : log.lost ≡ false → IsDeltaOf l c e (map (change_of e.texts l) log.lines)
   shown : log.lost ≡ false → All (λ k. IsShowable e.texts l k.answer) log.lines
+  few : log.lost ≡ false → length log.lines ≤ DELTA_LINES
+  counts : (added : List Change) → IsDeltaOf l c e added → least_changes log ≤ length added
 
 module _ (readers : List (List ℕ)) (come gone : List Group) (gs mid : List (Option Live)) (c e d : Catalog)
     (h : GroupsChange readers come gone gs c e d) (kept : AllAt (touched readers come gone) gs (λ l. IsKept c l))
@@ -67,6 +70,8 @@ module _ (readers : List (List ℕ)) (come gone : List Group) (gs mid : List (Op
         (rests_came c e come l.query l.numbered h.comes.comes k.over.asked
         (unread_by readers come gs c e i l h.comes there out)));
     shown = λ u. all_none (λ j. IsShowable e.texts l j.answer) log.lines empty.lines;
+    few = λ u. omega (arith, ap length empty.lines);
+    counts = λ added delta. omega (arith, none_changed log empty);
   }
 
   told_came : (l : Live) (log : Log) → IsKept c l → LogTellsOver (λ x y (w : ⊤). GroupsLead readers come gs x y) l log
@@ -74,6 +79,8 @@ module _ (readers : List (List ℕ)) (come gone : List Group) (gs mid : List (Op
   told_came l log k x = record {
     tells = λ u. x.tells u c e tt k h.comes;
     shown = λ u. x.shown u c e tt k h.comes;
+    few = x.few;
+    counts = λ added delta. x.counts c e tt added k h.comes delta;
   }
 
   came_delta : (l : Live) (log : Log) → CameTold c e l log → log.lost ≡ false
@@ -93,14 +100,19 @@ module _ (readers : List (List ℕ)) (come gone : List Group) (gs mid : List (Op
     came = old.lines;
     went = y.lines;
     lines = y.behind;
-    comes = λ u. came_delta l old x (not_lost old.lost new.lost y.stays u);
+    comes = λ u. came_delta l old x (not_lost old new y.stays u);
     goes = λ u. delta_same l m e d y.lines same (y.tells u e d tt k goes);
     shown = λ u.
         let more = y.shown u e d tt k goes in
         subst (λ (ks : List Line). All (λ j. IsShowable d.texts l j.answer) ks) (sym (y.behind u))
         (All-append (λ j. IsShowable d.texts l j.answer) old.lines y.lines
-        (came_shown l old x (not_lost old.lost new.lost y.stays u))
+        (came_shown l old x (not_lost old new y.stays u))
         (λ j z less. showable_same l m d.texts _ same (more j z less)));
+    few = λ u. omega (arith, y.few x.few u, ap length (y.behind u), length-append old.lines y.lines);
+    counts = λ added removed comes gone_by.
+        let turned : IsDeltaOf m e d removed = subst (λ (q : Query). IsDelta (IsAnswer e.relations q) (IsAnswer d.relations q)
+        removed) (sym same.query) gone_by in
+        omega (arith, x.counts added comes, y.counts e d tt removed k goes turned);
   }
 
   -- and of relations that it doesn't read
@@ -115,6 +127,8 @@ module _ (readers : List (List ℕ)) (come gone : List Group) (gs mid : List (Op
         (rests_gone e d gone l.query h.goes.goes (unread_going readers gone gs e d i l h.goes there out))
         (falls_by e d gone l.query h.goes.goes);
     shown = came_shown l log x;
+    few = λ u. omega (arith, x.few u);
+    counts = λ added removed comes goes_by. omega (arith, x.counts added comes);
   }
 
   pub tends_halves : (ws : List ℕ) (first empty some new : List Log)

@@ -1,6 +1,6 @@
 -- What the logs of watched queries say behind what they said, where groups of rows go one after another.
 use Rattle.std.proofs.Common.{ℕ, List, [], ◌++◌, ◌+◌, ◌≡◌, ◌<◌, Bool, true, false, refl, sym, ap, ◌∙◌, subst}
-use Rattle.std.proofs.Common.{length, take, append-nil, append_assoc}
+use Rattle.std.proofs.Common.{arith, length, take, append-nil, append_assoc}
 use Rattle.std.specs.Prelude.{Option, None, Some, All, slice_index_or, ⊤, map}
 use Rattle.std.proofs.lemmas.Bool.{false≢true}
 use Rattle.std.proofs.lemmas.List.Elements.{All-append}
@@ -9,9 +9,10 @@ use Rattle.djq_model.specs.Data.{Bytes}
 use Rattle.djq_model.specs.Answer.{IsAnswer}
 use Rattle.djq_model.specs.Listed.{a_query}
 use Rattle.djq_database.specs.Catalog.{Catalog}
-use Rattle.djq_enumeration.specs.declared.log.Line.{Line}
+use Rattle.djq_enumeration.specs.Log.{Line}
 use Rattle.djq_enumeration.specs.Log.{Log}
-use Rattle.djq_store_spec.specs.Delta.{Change}
+use Rattle.djq_model.specs.declared.query.Query.{Query}
+use Rattle.djq_store_spec.specs.Delta.{Change, IsDelta}
 use Rattle.djq_answer_laws.proofs.Decisions.{answers_are_decided}
 use Rattle.djq_leaves.specs.Changes.{WentAll}
 use Rattle.djq_live_query.specs.Live.{Live, IsShowable}
@@ -22,19 +23,14 @@ use Rattle.djq_reach.specs.Reaching.{DoneAt, Reach}
 use Rattle.djq_reach.specs.Tending.{TendedAt, Tends}
 use Rattle.djq_reach.specs.Batching.{LogsAt}
 use Rattle.djq_reach.specs.Grouping.{reached}
-use Rattle.djq_reach.proofs.Groups.{delta_same, showable_same}
+use Rattle.djq_reach.proofs.Groups.{delta_same, not_lost, showable_same}
 use Rattle.djq_reach.proofs.Logs.{all_none}
 use Rattle.djq_reach.proofs.RowChanges.{delta_as, delta_none}
 use Rattle.djq_queries.specs.Going.{GroupsGo}
 use Rattle.djq_queries.proofs.Catalogs.{names_went, went_falls, went_rests}
 use Rattle.djq_queries.proofs.Chains.{LetsGoBy, falls_by, goes_so, none_gone, one_gone, place_reached}
 use Rattle.djq_queries.proofs.Chains.{unread_gone}
-use Rattle.djq_queries.proofs.Deltas.{deltas_fall}
-
--- a log that isn't lost wasn't
-pub not_lost : (a b : Bool) → (a ≡ true → b ≡ true) → b ≡ false → a ≡ false
-not_lost false b h e = refl
-not_lost true b h e = absurd (false≢true (sym e ∙ h refl))
+use Rattle.djq_queries.proofs.Deltas.{deltas_fall, first_falls, first_gone, gone_long, last_falls, last_gone}
 
 -- ---- group after group
 
@@ -48,7 +44,9 @@ logs_none readers groups gs l log = record {
       subst (λ (x : Catalog). IsDeltaOf l c x []) (sym (none_gone c d groups leads.goes))
       (delta_none (IsAnswer c.relations l.query) (IsAnswer c.relations l.query) (λ t a. a) (λ t a. a));
   shown = λ e c d w kept leads. all_none (λ k. IsShowable d.texts l k.answer) [] refl;
-  stays = λ e. e;
+  stays = λ e. refl;
+  few = λ few e. few e;
+  counts = λ c d w changes kept leads delta. omega arith;
 }
 
 pub tends_start : (readers : List (List ℕ)) (groups : List Group) (gs : List (Option Live)) (ws : List ℕ)
@@ -79,12 +77,12 @@ module _ (readers : List (List ℕ)) (groups : List Group) (gs : List (Option Li
     logs_read l m first old new t x h = record {
       lines = x.lines ++ h.lines;
       behind = λ e. h.behind e
-          ∙ ap (λ (xs : List Line). xs ++ h.lines) (x.behind (not_lost old.lost new.lost h.stays e))
+          ∙ ap (λ (xs : List Line). xs ++ h.lines) (x.behind (not_lost old new h.stays e))
           ∙ append_assoc first.lines x.lines h.lines;
       tells = λ e c d w kept leads.
           let s = one_gone readers groups gs k g c d low is leads in
           let goes = goes_so readers groups gs k g low is places cells are rows c d s in
-          let unlost = not_lost old.lost new.lost h.stays e in
+          let unlost = not_lost old new h.stays e in
           let texts : d.texts ≡ s.middle.texts = (names_went s.middle d g.relation.at cells s.rows goes).texts in
           let one : IsDeltaOf l c s.middle (map (change_of d.texts l) x.lines) =
           subst (λ (ts : List Bytes). IsDeltaOf l c s.middle (map (change_of ts l) x.lines)) (sym texts)
@@ -101,7 +99,7 @@ module _ (readers : List (List ℕ)) (groups : List Group) (gs : List (Option Li
       shown = λ e c d w kept leads.
           let s = one_gone readers groups gs k g c d low is leads in
           let goes = goes_so readers groups gs k g low is places cells are rows c d s in
-          let unlost = not_lost old.lost new.lost h.stays e in
+          let unlost = not_lost old new h.stays e in
           let texts : d.texts ≡ s.middle.texts = (names_went s.middle d g.relation.at cells s.rows goes).texts in
           let one : All (λ j. IsShowable d.texts l j.answer) x.lines =
           subst (λ (ts : List Bytes). All (λ j. IsShowable ts l j.answer) x.lines) (sym texts)
@@ -110,7 +108,24 @@ module _ (readers : List (List ℕ)) (groups : List Group) (gs : List (Option Li
           let other : All (λ j. IsShowable d.texts l j.answer) h.lines =
           λ j y less. showable_same l m d.texts _ t.same (more j y less) in
           All-append (λ j. IsShowable d.texts l j.answer) x.lines h.lines one other;
-      stays = λ e. h.stays (x.stays e);
+      stays = λ e. h.stays (ap (λ (g : Log). g.lost) (x.stays e) ∙ e) ∙ x.stays e;
+      few = λ few. h.few (x.few few);
+      counts = λ c d w changes kept leads delta.
+          let s = one_gone readers groups gs k g c d low is leads in
+          let goes = goes_so readers groups gs k g low is places cells are rows c d s in
+          let A = IsAnswer c.relations l.query in
+          let B = IsAnswer s.middle.relations l.query in
+          let C = IsAnswer d.relations l.query in
+          let down = falls_by c s.middle (take k groups) l.query s.front.goes in
+          let more = went_falls s.middle d g.relation.at cells s.rows goes l.query in
+          let decided = answers_are_decided s.middle.relations (a_query l.query) in
+          let one = first_falls A B C down more decided changes delta in
+          let other : IsDeltaOf m s.middle d (last_gone B decided changes) =
+          subst (λ (q : Query). IsDelta (IsAnswer s.middle.relations q) (IsAnswer d.relations q) (last_gone B decided changes))
+          (sym (t.same).query) (last_falls A B C down more decided changes delta) in
+          omega (arith, x.counts c s.middle tt (first_gone B decided changes) kept s.front one,
+          h.counts s.middle d s.rows (last_gone B decided changes) (t.follows c s.middle kept s.front) goes.went other,
+          gone_long B decided changes);
     }
 
     -- a group of another relation
@@ -137,6 +152,16 @@ module _ (readers : List (List ℕ)) (groups : List Group) (gs : List (Option Li
           subst (λ (ts : List Bytes). All (λ j. IsShowable ts l j.answer) x.lines) (sym texts)
           (x.shown e c s.middle tt kept s.front);
       stays = x.stays;
+      few = x.few;
+      counts = λ c d w changes kept leads delta.
+          let s = one_gone readers groups gs k g c d low is leads in
+          x.counts c s.middle tt changes kept s.front
+          (delta_as (IsAnswer c.relations l.query) (IsAnswer c.relations l.query) (IsAnswer d.relations l.query)
+          (IsAnswer s.middle.relations l.query) (λ t a. a) (λ t a. a)
+          (went_falls s.middle d g.relation.at g.rows s.rows s.goes l.query)
+          (went_rests s.middle d g.relation.at g.rows s.rows s.goes l.query
+          (unread_gone readers groups gs k g low is places cells are rows c d s i l there out))
+          changes delta);
     }
 
     pub tends_more : (ws : List ℕ) (now : List (Option Live)) (first old new : List Log)

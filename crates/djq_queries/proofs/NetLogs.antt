@@ -16,8 +16,7 @@ use Rattle.djq_hypergraph.specs.Hypergraph.{member}
 use Rattle.djq_reduct.specs.Columns.{column}
 use Rattle.djq_query.specs.declared.numbered.Variable.{Variable}
 use Rattle.djq_delta.specs.Lines.{SignedLine, AreDistinctLines}
-use Rattle.djq_enumeration.specs.declared.log.Line.{Line}
-use Rattle.djq_enumeration.specs.Log.{Log, signed_line, signed_lines}
+use Rattle.djq_enumeration.specs.Log.{Line, Log, least_changes, signed_line, signed_lines}
 use Rattle.djq_enumeration.proofs.Cells.{head_simple, tuple_same}
 use Rattle.djq_database.specs.Catalog.{Catalog}
 use Rattle.djq_answer_laws.specs.Net.{CancelsOut}
@@ -193,24 +192,43 @@ module _ (readers : List (List ℕ)) (come gone : List Group) (gs : List (Option
       (cancel_out tuple (signed_lines old.lines) (signed_lines new.lines) apart (s.lines v))))
 
   -- whatever the log tells, there are the answers that were added and those that were removed
-  net_told : (l : Live) (log : Log) → IsKept c l
+  net_told : (l : Live) (old log : Log) → IsKept c l → LogTellsHalves c e d l old → log.lost ≡ old.lost
+      → least_changes log ≡ least_changes old
       → (log.lost ≡ false → IsDeltaOf l c d (map (change_of d.texts l) log.lines))
       → (log.lost ≡ false → All (λ k. IsShowable d.texts l k.answer) log.lines) → LogTellsNet c e d l log
-  net_told l log kept tells shown =
-      let first = deltas_exist c.relations e.relations (a_query l.query) (heads_bound c l kept) in
-      let last = deltas_exist e.relations d.relations (a_query l.query) (heads_bound c l kept) in
-      record {
-        tells = tells;
-        shown = shown;
-        came = first.0;
-        went = last.0;
-        inserts = first.1;
-        deletes = last.1;
-      }
+  net_told l old log kept t same least tells shown = by old.lost refl
+    where
+      by : (b : Bool) → old.lost ≡ b → LogTellsNet c e d l log
+      by true lost =
+          let first = deltas_exist c.relations e.relations (a_query l.query) (heads_bound c l kept) in
+          let last = deltas_exist e.relations d.relations (a_query l.query) (heads_bound c l kept) in
+          record {
+            tells = tells;
+            shown = shown;
+            came = first.0;
+            went = last.0;
+            inserts = first.1;
+            deletes = last.1;
+            few = λ u. absurd (false≢true (sym u ∙ same ∙ lost));
+            counts = omega (arith, least, t.counts first.0 last.0 first.1 last.1);
+          }
+      by false whole =
+          let added = map (change_of d.texts l) t.came in
+          let removed = map (change_of d.texts l) t.went in
+          record {
+            tells = tells;
+            shown = shown;
+            came = added;
+            went = removed;
+            inserts = t.comes whole;
+            deletes = t.goes whole;
+            few = λ u. omega (arith, t.few whole, length-map t.came (change_of d.texts l), length-map t.went (change_of d.texts l));
+            counts = omega (arith, least, t.counts added removed (t.comes whole) (t.goes whole));
+          }
 
   net_settled : (l : Live) (old new : Log) → IsKept c l → LogTellsHalves c e d l old → LogSettles old new
       → LogTellsNet c e d l new
-  net_settled l old new kept t s = net_told l new kept (net_lines l old new kept t s)
+  net_settled l old new kept t s = net_told l old new kept t s.lost s.counts (net_lines l old new kept t s)
       (λ u.
       let v : old.lost ≡ false = sym s.lost ∙ u in
       hold_each (λ (k : Line). IsShowable d.texts l k.answer) new.lines
@@ -223,7 +241,7 @@ module _ (readers : List (List ℕ)) (come gone : List Group) (gs : List (Option
   -- a query that reads none of the relations of which rows are deleted has no line to settle
   net_inserted : (i : ℕ) (l : Live) (log : Log) → place_at gs i ≡ Some l → is_reader (reached readers gone) i ≡ false
       → IsKept c l → LogTellsHalves c e d l log → LogTellsNet c e d l log
-  net_inserted i l log there out kept t = net_told l log kept
+  net_inserted i l log there out kept t = net_told l log log kept t refl refl
       (λ u.
       let rests = rests_gone e d gone l.query h.goes.goes (unread_going readers gone gs e d i l h.goes there out) in
       let none : t.went ≡ [] = no_line d.texts l (IsAnswer e.relations l.query) (IsAnswer d.relations l.query) rests (falls l)

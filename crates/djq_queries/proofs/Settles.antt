@@ -15,6 +15,7 @@ use Rattle.djq_queries.specs.Settling.{HasDistinctLines, LogSettles, SettlesLogs
 log_twice : (a b c : Log) → LogSettles a b → LogSettles b c → LogSettles a c
 log_twice a b c h k = record {
   lost = k.lost ∙ h.lost;
+  counts = k.counts ∙ h.counts;
   lines = λ u. (settles_twice (signed_lines a.lines) (signed_lines b.lines) (signed_lines c.lines)
       (h.lines u) (k.lines (h.lost ∙ u))).1;
 }

@@ -6,8 +6,8 @@ use Rattle.djq_store_spec.specs.Delta.{Change}
 use Rattle.djq_hypergraph.specs.Flat.{IsFlat}
 use Rattle.djq_protocol.specs.Hypergraph.{edges_of, head_of}
 use Rattle.djq_propagate.specs.Updates.{HasAtMost}
-use Rattle.djq_enumeration.specs.declared.log.Line.{Line}
-use Rattle.djq_enumeration.specs.Log.{Log}
+use Rattle.djq_protocol.specs.declared.limits.TheConstants.{DELTA_LINES}
+use Rattle.djq_enumeration.specs.Log.{Line, Log, least_changes}
 use Rattle.djq_database.specs.Catalog.{Catalog}
 use Rattle.djq_answer_laws.specs.Net.{CancelsOut}
 use Rattle.djq_live_query.specs.Live.{Live, IsKept, IsShowable}
@@ -48,9 +48,14 @@ pub record LogTellsHalves (c e d : Catalog) (l : Live) (log : Log) : Type 0 wher
   pub comes : log.lost ≡ false → IsDeltaOf l c e (map (change_of d.texts l) came)
   pub goes : log.lost ≡ false → IsDeltaOf l e d (map (change_of d.texts l) went)
   pub shown : log.lost ≡ false → All (λ k. IsShowable d.texts l k.answer) log.lines
+  pub few : log.lost ≡ false → length came + length went ≤ DELTA_LINES
+  -- lost or not, no more answers changed in both halves by what it says than did
+  pub counts : (added removed : List Change) → IsDeltaOf l c e added → IsDeltaOf l e d removed
+      → least_changes log ≤ length added + length removed
 
--- Unless it is lost, a log has the net delta of the whole change, in lines that can be shown. Lost or not, there are
--- the answers that the insertions added, up to the catalog between, and those that the deletions removed from there.
+-- Unless it is lost, a log tells the net delta of the whole change, in lines that can be shown. Lost or not, there are
+-- the answers that the insertions added, up to the catalog between, and those that the deletions removed from there:
+-- together no more than it may have lines, unless it is lost; and if it is large, more.
 pub record LogTellsNet (c e d : Catalog) (l : Live) (log : Log) : Type 0 where
   pub tells : log.lost ≡ false → IsDeltaOf l c d (map (change_of d.texts l) log.lines)
   pub shown : log.lost ≡ false → All (λ k. IsShowable d.texts l k.answer) log.lines
@@ -58,6 +63,8 @@ pub record LogTellsNet (c e d : Catalog) (l : Live) (log : Log) : Type 0 where
   pub went : List Change
   pub inserts : IsDeltaOf l c e came
   pub deletes : IsDeltaOf l e d went
+  pub few : log.lost ≡ false → length came + length went ≤ DELTA_LINES
+  pub counts : least_changes log ≤ length came + length went
 
 -- It has that if the query is watched, and is as before if it isn't.
 abbrev pub TellsChangeWhere : Bool → Catalog → Catalog → Catalog → Live → Log → Log → Type 0

@@ -12,7 +12,7 @@ use Rattle.djq_model.specs.Answer.{IsAnswer}
 use Rattle.djq_model.specs.Listed.{a_query}
 use Rattle.djq_tree.specs.Tree.{Tree}
 use Rattle.djq_database.specs.Catalog.{Catalog, relation_at}
-use Rattle.djq_enumeration.specs.declared.log.Line.{Line}
+use Rattle.djq_enumeration.specs.Log.{Line}
 use Rattle.djq_enumeration.specs.Log.{Log}
 use Rattle.djq_propagate.specs.Updates.{HasAtMost}
 use Rattle.djq_query.specs.Numbered.{Numbered}
@@ -35,7 +35,8 @@ use Rattle.djq_reach.proofs.CatalogChains.{leads_front, leads_same, reach_on, re
 use Rattle.djq_reach.proofs.CatalogChains.{asked_by, grows_by, none_led, texts_on, unread_step}
 use Rattle.djq_reach.proofs.PlacedQueries.{reached_front, below_some, reader_there, same_then}
 use Rattle.djq_reach.proofs.RowChanges.{delta_as, delta_none, deltas_join, came_grows, came_stays}
-use Rattle.djq_reach.proofs.Logs.{all_none}
+use Rattle.djq_reach.proofs.RowChanges.{early_delta, early_part, late_delta, late_part, parts_long}
+use Rattle.djq_reach.proofs.Logs.{all_none, none_changed}
 
 -- ---- A group that was refused, and those in front of it given back.
 
@@ -203,20 +204,25 @@ showable_same l m texts u same s = record {
       (shown texts m.numbered t.head u)) same.tree s.stands);
 }
 
-not_lost : (a b : Bool) → (a ≡ true → b ≡ true) → b ≡ false → a ≡ false
-not_lost false b h e = refl
-not_lost true b h e = absurd (false≢true (sym e ∙ h refl))
+pub not_lost : (old new : Log) → (old.lost ≡ true → new ≡ old) → new.lost ≡ false → old.lost ≡ false
+not_lost old new stays whole = by old.lost refl
+  where
+    by : (b : Bool) → old.lost ≡ b → b ≡ false
+    by false e = refl
+    by true e = absurd (false≢true (sym whole ∙ ap (λ (l : Log). l.lost) (stays e) ∙ e))
 
 -- nothing came
 pub tells_none : (readers : List (List ℕ)) (groups : List Group) (gs : List (Option Live)) (l : Live) (log : Log)
-    → log.lines ≡ []
+    → IsEmpty log
     → LogTellsOver (λ c d (w : ⊤). GroupsLead readers (take 0 groups) gs c d) l log
-tells_none readers groups gs l log none = record {
+tells_none readers groups gs l log empty = let none = empty.lines in record {
   tells = λ e c d w kept leads.
       subst (λ (ks : List Line). IsDeltaOf l c d (map (change_of d.texts l) ks)) (sym none)
       (subst (λ (x : Catalog). IsDeltaOf l c x []) (sym (none_led c d groups leads.comes))
       (delta_none (IsAnswer c.relations l.query) (IsAnswer c.relations l.query) (λ t a. a) (λ t a. a)));
   shown = λ e c d w kept leads. all_none (λ k. IsShowable d.texts l k.answer) log.lines none;
+  few = λ e. omega (arith, ap length none);
+  counts = λ c d w changes kept leads delta. omega (arith, none_changed log empty);
 }
 
 module _ (readers : List (List ℕ)) (groups : List Group) (gs : List (Option Live)) (k : ℕ) (g : Group)
@@ -231,7 +237,7 @@ module _ (readers : List (List ℕ)) (groups : List Group) (gs : List (Option Li
     tells_read l m old new t x h = record {
       tells = λ e c d w kept leads.
           let s = step_of readers groups gs k g c d low is leads in
-          let unlost = not_lost old.lost new.lost h.stays e in
+          let unlost = not_lost old new h.stays e in
           let came = (comes_so readers groups gs k g low is places cells are rows c d s).came in
           let texts : d.texts ≡ s.middle.texts = texts_on s.middle d g.relation.at g.rows s.rows s.comes in
           let asked = asked_by c s.middle (take k groups) l.query l.numbered s.front.comes kept.over.asked in
@@ -257,7 +263,7 @@ module _ (readers : List (List ℕ)) (groups : List Group) (gs : List (Option Li
           subst (λ (xs : List Change). IsDeltaOf l c d xs) shape both;
       shown = λ e c d w kept leads.
           let s = step_of readers groups gs k g c d low is leads in
-          let unlost = not_lost old.lost new.lost h.stays e in
+          let unlost = not_lost old new h.stays e in
           let came = (comes_so readers groups gs k g low is places cells are rows c d s).came in
           let texts : d.texts ≡ s.middle.texts = texts_on s.middle d g.relation.at g.rows s.rows s.comes in
           let first : All (λ j. IsShowable d.texts l j.answer) old.lines =
@@ -268,6 +274,24 @@ module _ (readers : List (List ℕ)) (groups : List Group) (gs : List (Option Li
           (more j y less) in
           subst (λ (ks : List Line). All (λ j. IsShowable d.texts l j.answer) ks) (sym (h.behind e))
           (All-append (λ j. IsShowable d.texts l j.answer) old.lines h.lines first second);
+      few = h.few x.few;
+      counts = λ c d w changes kept leads delta.
+          let s = step_of readers groups gs k g c d low is leads in
+          let came = (comes_so readers groups gs k g low is places cells are rows c d s).came in
+          let asked = asked_by c s.middle (take k groups) l.query l.numbered s.front.comes kept.over.asked in
+          let A = IsAnswer c.relations l.query in
+          let B = IsAnswer s.middle.relations l.query in
+          let C = IsAnswer d.relations l.query in
+          let up = grows_by c s.middle (take k groups) l.query l.numbered s.front.comes kept.over.asked in
+          let more = came_grows s.middle d g.relation.at cells s.rows l.query l.numbered asked came in
+          let decided = answers_are_decided s.middle.relations (a_query l.query) in
+          let first = early_delta A B C up more decided changes delta in
+          let second : IsDeltaOf m s.middle d (late_part B decided changes) =
+          subst (λ (q : Query). IsDelta (IsAnswer s.middle.relations q) (IsAnswer d.relations q) (late_part B decided changes))
+          (sym (t.same).query) (late_delta A B C up more decided changes delta) in
+          omega (arith, x.counts c s.middle tt (early_part B decided changes) kept s.front first,
+          h.counts s.middle d s.rows (late_part B decided changes) (t.follows c s.middle kept s.front) came second,
+          parts_long B decided changes);
     }
 
     -- a group of another relation
@@ -294,6 +318,18 @@ module _ (readers : List (List ℕ)) (groups : List Group) (gs : List (Option Li
           let texts : d.texts ≡ s.middle.texts = texts_on s.middle d g.relation.at g.rows s.rows s.comes in
           subst (λ (ts : List Bytes). All (λ j. IsShowable ts l j.answer) log.lines) (sym texts)
           (x.shown e c s.middle tt kept s.front);
+      few = x.few;
+      counts = λ c d w changes kept leads delta.
+          let s = step_of readers groups gs k g c d low is leads in
+          let asked = asked_by c s.middle (take k groups) l.query l.numbered s.front.comes kept.over.asked in
+          x.counts c s.middle tt changes kept s.front
+          (delta_as (IsAnswer c.relations l.query) (IsAnswer c.relations l.query) (IsAnswer d.relations l.query)
+          (IsAnswer s.middle.relations l.query)
+          (λ t a. a) (λ t a. a)
+          (came_stays s.middle d g.relation.at g.rows s.rows l.query l.numbered asked s.comes.came
+          (unread_step readers groups gs k g low is places cells are rows c d s i l there out))
+          (came_grows s.middle d g.relation.at g.rows s.rows l.query l.numbered asked s.comes.came)
+          changes delta);
     }
 
     pub tends_on : (ws : List ℕ) (now : List (Option Live)) (first old new : List Log)

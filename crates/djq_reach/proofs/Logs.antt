@@ -2,7 +2,7 @@
 use Rattle.std.proofs.Common.{ℕ, List, [], ◌∷◌, ◌++◌, ◌+◌, ◌≡◌, ◌≢◌, ◌<◌, inl, inr, Bool, true, false, refl, sym, ap}
 use Rattle.std.proofs.Common.{◌∙◌, subst, length, get_or, set, take, arith, length-set, ◌*◌, ◌≤◌, mul-le-mul_left}
 use Rattle.std.specs.Prelude.{◌==◌, ◌||◌, ◌&&◌, Option, None, Some, IsSomeAnd, cond, map, nat_lt, All, Result, Ok, Err}
-use Rattle.std.specs.Prelude.{OnOk, OnErr, filter, sum_by}
+use Rattle.std.specs.Prelude.{OnOk, OnErr, filter, sum_by, if◌then◌else◌}
 use Rattle.std.proofs.lemmas.Bool.{eqb-true, eq-eqb, false≢true}
 use Rattle.std.proofs.lemmas.List.{get_or-set_same, get_or-set_other, take_more, get_or_default}
 use Rattle.std.proofs.lemmas.List.Sums.{sum_by-cons, sum_by-append, sum_by-take-le, sum_by_more}
@@ -11,8 +11,8 @@ use Rattle.djq_model.specs.declared.query.Query.{Query}
 use Rattle.djq_model.specs.Data.{Tuple}
 use Rattle.djq_protocol.specs.Hypergraph.{edges_of, head_of}
 use Rattle.djq_database.specs.Catalog.{Catalog}
-use Rattle.djq_enumeration.specs.declared.log.Line.{Line}
-use Rattle.djq_enumeration.specs.Log.{Log}
+use Rattle.djq_protocol.specs.declared.limits.TheConstants.{DELTA_LINES}
+use Rattle.djq_enumeration.specs.Log.{Line, Log, least_changes}
 use Rattle.djq_query.specs.Numbered.{Numbered}
 use Rattle.djq_answer_laws.proofs.Lists.{or_false}
 use Rattle.djq_leaves.proofs.Costs.{all_grown}
@@ -30,6 +30,11 @@ use Rattle.djq_reach.proofs.PlacedQueries.{reader_there, reader_front}
 
 -- ---- one log
 
+-- an empty log says nothing
+pub none_changed : (log : Log) → IsEmpty log → least_changes log ≡ 0
+none_changed log e =
+    ap (λ (b : Bool). if b then (if log.large then DELTA_LINES + 1 else 0) else log.pushed) e.kept ∙ e.pushed
+
 pub tells_where : {R : Type 0} (Changed : Catalog → Catalog → R → Type 0) (b : Bool) (l : Live) (old mid new : Log)
     → Readies b old mid → LogsWhere b Changed l mid new → TellsWhere b Changed l old new
 tells_where Changed true l old mid new r h = record {
@@ -37,6 +42,8 @@ tells_where Changed true l old mid new r h = record {
       (sym (h.behind e ∙ ap (λ (xs : List Line). xs ++ h.lines) r.lines)) (h.tells e c d row k ch);
   shown = λ e c d row k ch. subst (λ (ls : List Line). All (λ x. IsShowable d.texts l x.answer) ls)
       (sym (h.behind e ∙ ap (λ (xs : List Line). xs ++ h.lines) r.lines)) (h.shown e c d row k ch);
+  few = h.few (λ e. omega (arith, ap length r.lines));
+  counts = λ c d row changes k ch delta. omega (arith, h.counts c d row changes k ch delta, none_changed mid r);
 }
 tells_where Changed false l old mid new r h = h ∙ r
 

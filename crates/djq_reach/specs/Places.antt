@@ -34,7 +34,7 @@ watched_at watchers i = nat_lt 0 (watchers_at watchers i)
 
 -- a log in place of that of no place
 abbrev pub no_log : Log
-no_log = record { lines = []; lost = true }
+no_log = record { lines = []; pushed = 0; lost = true; large = false; capacity = 0 }
 
 -- the log in a place
 abbrev pub log_at : List Log → ℕ → Log

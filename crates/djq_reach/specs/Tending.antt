@@ -7,7 +7,8 @@ use Rattle.djq_store_spec.specs.Delta.{Change}
 use Rattle.djq_hypergraph.specs.Flat.{IsFlat}
 use Rattle.djq_protocol.specs.Hypergraph.{edges_of, head_of}
 use Rattle.djq_propagate.specs.Updates.{HasAtMost}
-use Rattle.djq_enumeration.specs.Log.{Log}
+use Rattle.djq_protocol.specs.declared.limits.TheConstants.{DELTA_LINES}
+use Rattle.djq_enumeration.specs.Log.{Log, least_changes}
 use Rattle.djq_database.specs.Catalog.{Catalog}
 use Rattle.djq_live_query.specs.Live.{Live, IsKept, IsShowable}
 use Rattle.djq_live_query.specs.Updating.{change_of, CountsFlat, CountsUpdate, IsDeltaOf, IsEmpty}
@@ -15,13 +16,17 @@ use Rattle.djq_live_query.specs.Updating.{atoms_over, delta_bound, flat_bound, u
 use Rattle.djq_reach.specs.Places.{place_at, is_reader, log_at, watched_at}
 use Rattle.djq_reach.specs.Reaching.{AllAt}
 
--- Unless it is lost, a log has how the answers of a query changed.
+-- Unless it is lost, a log tells how the answers of a query changed, in no more lines than it may have. Lost or not, no
+-- more answers changed by what it says than did.
 pub record LogTellsOver {R : Type 0} (Changed : Catalog → Catalog → R → Type 0) (l : Live) (log : Log) :
     Type 0 where
   pub tells : log.lost ≡ false → (c d : Catalog) (what : R) → IsKept c l → Changed c d what
       → IsDeltaOf l c d (map (change_of d.texts l) log.lines)
   pub shown : log.lost ≡ false → (c d : Catalog) (what : R) → IsKept c l → Changed c d what
       → All (λ k. IsShowable d.texts l k.answer) log.lines
+  pub few : log.lost ≡ false → length log.lines ≤ DELTA_LINES
+  pub counts : (c d : Catalog) (what : R) (changes : List Change) → IsKept c l → Changed c d what
+      → IsDeltaOf l c d changes → least_changes log ≤ length changes
 
 -- A log is cleared, if a new delta is wanted.
 abbrev pub Readies : Bool → Log → Log → Type 0

@@ -12,7 +12,7 @@ use Rattle.djq_io.specs.Source.{SourceReading, SourceGives, GivesPiece, FindsEnd
 use Rattle.djq_io.proofs.Streams.{gives_none, gives_piece, gives_end, gains_none}
 use Rattle.djq_model.specs.Data.{Bytes}
 use Rattle.djq_protocol.specs.declared.answer.EndCause.{EndCause}
-use Rattle.djq_protocol.specs.declared.answer.EndCause.TheVariants.{Input, Quit, Stop, Long, Slow, Memory}
+use Rattle.djq_protocol.specs.declared.answer.EndCause.TheVariants.{Input, Quit, Stop, Long, Slow, Large, Memory}
 use Rattle.djq_protocol.specs.declared.limits.TheConstants.{SESSIONS}
 use Rattle.djq_machine.specs.declared.machine.OpenRefusal.{OpenRefusal}
 use Rattle.djq_machine.specs.declared.machine.OpenRefusal.TheVariants.{Full, NoMem}
@@ -307,6 +307,8 @@ served_as (Ended Long) came before now old mid new running input h some reads wr
     (ended_by (λ c. IsCutOff c) new Long h.0 h.1 tt, reads, writes)
 served_as (Ended Slow) came before now old mid new running input h some reads writes =
     (ended_by (λ c. IsCutOff c) new Slow h.0 h.1 tt, reads, writes)
+served_as (Ended Large) came before now old mid new running input h some reads writes =
+    (ended_by (λ c. IsCutOff c) new Large h.0 h.1 tt, reads, writes)
 served_as (Ended Memory) came before now old mid new running input h some reads writes =
     (ended_by (λ c. c ≡ Memory) new Memory h.0 h.1 refl, reads, writes)
 served_as ServedWriteFault came before now old mid new running input h some reads writes = (
@@ -368,6 +370,7 @@ served_failed (Ended Quit) = refl
 served_failed (Ended Stop) = refl
 served_failed (Ended Long) = refl
 served_failed (Ended Slow) = refl
+served_failed (Ended Large) = refl
 served_failed (Ended Memory) = refl
 served_failed ServedWriteFault = refl
 

@@ -4,7 +4,7 @@ use Rattle.djq_io.specs.Faults.{Counted}
 use Rattle.djq_io.specs.Source.{SourceReading}
 use Rattle.djq_model.specs.Data.{Bytes}
 use Rattle.djq_protocol.specs.declared.answer.EndCause.{EndCause}
-use Rattle.djq_protocol.specs.declared.answer.EndCause.TheVariants.{Input, Quit, Stop, Long, Slow, Memory}
+use Rattle.djq_protocol.specs.declared.answer.EndCause.TheVariants.{Input, Quit, Stop, Long, Slow, Large, Memory}
 use Rattle.djq_machine.specs.State.{State, session_of}
 use Rattle.djq_machine.specs.Step.{is_dry}
 use Rattle.djq_machine.specs.Run.{pending_of, all_fed}
@@ -37,6 +37,7 @@ IsWellEnded reading st _ = ⊥
 abbrev pub IsCutOff : EndCause → Type 0
 IsCutOff Long = Unit {0}
 IsCutOff Slow = Unit {0}
+IsCutOff Large = Unit {0}
 IsCutOff _ = ⊥
 
 -- All that was queued was written, and the session has an end cause of this kind.

@@ -3,7 +3,7 @@ use Rattle.std.specs.Prelude.{ℕ, List, [], ◌∷◌, ◌≡◌, ◌<◌, ◌�
 use Rattle.djq_io.specs.Faults.{Counted}
 use Rattle.djq_io.specs.declared.sink.Write.{Write}
 use Rattle.djq_model.specs.Data.{Bytes}
-use Rattle.djq_protocol.specs.declared.answer.EndCause.TheVariants.{Input, Quit, Stop, Long, Slow, Memory}
+use Rattle.djq_protocol.specs.declared.answer.EndCause.TheVariants.{Input, Quit, Stop, Long, Slow, Large, Memory}
 use Rattle.djq_machine.specs.State.{State}
 use Rattle.djq_machine.specs.Run.{pending_of, all_fed}
 use Rattle.djq_machine.specs.Call.{IsOpen, Counts, cause_of, held_of, state_ids}
@@ -75,6 +75,7 @@ status_of (Ended Quit) = Some Done
 status_of (Ended Stop) = Some Done
 status_of (Ended Long) = Some SessionEnded
 status_of (Ended Slow) = Some SessionEnded
+status_of (Ended Large) = Some SessionEnded
 status_of (Ended Memory) = Some NoMemory
 status_of WriteFault = Some StatusWriteFault
 

@@ -35,7 +35,7 @@ impl Served {
         match self {
             Served::AwaitsInput => None,
             Served::Ended(EndCause::Input | EndCause::Quit | EndCause::Stop) => Some(Status::Done),
-            Served::Ended(EndCause::Long | EndCause::Slow) => Some(Status::SessionEnded),
+            Served::Ended(EndCause::Long | EndCause::Slow | EndCause::Large) => Some(Status::SessionEnded),
             Served::Ended(EndCause::Memory) => Some(Status::NoMemory),
             Served::WriteFault => Some(Status::WriteFault),
         }

@@ -322,7 +322,7 @@ keeps_closed old s c e new (Some k) h = keeps_nothing s _ 0 e h.0
 keeps_told : (old : State) (s : ℕ) (lines : List Bytes) (e : Effect) (new : State) → TellsLines old s lines e new
     → KeepsLines e.kept
 keeps_told old s lines e new (inl h) = keeps_nothing s _ 0 e h.0
-keeps_told old s lines e new (inr h) = keeps_nothing s _ 0 e h.4.0
+keeps_told old s lines e new (inr h) = keeps_nothing s _ 0 e h.0
 
 keeps_explained : (old : State) (s : ℕ) (e : Effect) (new : State) (o : Option Listed)
     → MatchOption o (RefusedStep old s NoQuery e new) (λ k. ExplainStepOf old s k e new) → KeepsLines e.kept

@@ -1,23 +1,23 @@
 -- A session that watches a query gets its delta, or ends.
 use Rattle.std.specs.Prelude.{ℕ, List, [], ◌∷◌, ◌==◌, ◌≡◌, ◌⊎◌, ◌&&◌, Bool, true, false, cond, Option, None, Some}
 use Rattle.std.specs.Prelude.{IsSome, IsSomeAnd, MatchOption, option_map, find, map, Contains, ◌<◌, ◌+◌, ◌++◌, length}
-use Rattle.std.specs.Prelude.{is_some}
+use Rattle.std.specs.Prelude.{is_some, not, All}
 use Rattle.std.specs.List.{list_any}
 use Rattle.std.proofs.Common.{refl, sym, ap, ◌∙◌, subst, inl, inr}
-use Rattle.std.proofs.lemmas.Bool.{eqb-true, and_from}
-use Rattle.std.proofs.lemmas.List.Elements.{All-contains, Contains-append_left, Contains-append_right, All-weaker}
+use Rattle.std.proofs.lemmas.Bool.{eqb-true, eq-eqb, false≢true, and_from}
+use Rattle.std.proofs.lemmas.List.Elements.{All-head, All-tail, All-contains, Contains-append_left, Contains-append_right, All-weaker}
 use Rattle.djq_model.specs.declared.relation.Relation.{Relation}
 use Rattle.djq_model.specs.Data.{Bytes, bytes_eq, Tuple}
 use Rattle.djq_model.specs.Listed.{Listed, listed_name, AnswersOf, listed_of}
 use Rattle.djq_model.specs.Known.{all_learned}
 use Rattle.djq_protocol.specs.declared.answer.EndCause.{EndCause}
-use Rattle.djq_protocol.specs.declared.answer.EndCause.TheVariants.{Slow, Memory, Input}
+use Rattle.djq_protocol.specs.declared.answer.EndCause.TheVariants.{Slow, Large, Memory, Input}
 use Rattle.djq_protocol.specs.declared.answer.Sign.{Sign}
 use Rattle.djq_protocol.specs.declared.answer.Sign.TheVariants.{Came, Went}
 use Rattle.djq_protocol.specs.declared.command.Command.{Command}
 use Rattle.djq_protocol.specs.declared.command.Command.TheVariants.{Add, Del, Done}
 use Rattle.djq_protocol.specs.declared.limits.TheConstants.{SESSIONS}
-use Rattle.djq_protocol.specs.Reply.{text_of, end_memory}
+use Rattle.djq_protocol.specs.Reply.{text_of, end_slow, end_memory}
 use Rattle.djq_protocol.specs.Grammar.{Reading, says_command, reading_of}
 use Rattle.djq_store_spec.specs.Held.{HeldTransaction}
 use Rattle.djq_store_spec.specs.Store.{Store}
@@ -31,8 +31,8 @@ use Rattle.djq_machine.specs.Effect.{Effect, nothing, EndsWith, queue_all, queue
 use Rattle.djq_machine.specs.Outdating.{outdated_cursor, changed}
 use Rattle.djq_machine.specs.Run.{Walk, to_session}
 use Rattle.djq_machine.specs.Call.{IsOpen, cause_of, cause_in}
-use Rattle.djq_machine.specs.Watch.{is_watching, affected, Telling, says_more, ends_more, watching, watcher_of}
-use Rattle.djq_machine.specs.Watch.{TellsWatcher, TellsSession, TellsDelta, ChangeStep}
+use Rattle.djq_machine.specs.Watch.{is_watching, affected, awaits, is_behind, is_slow_one, too_slow, Telling, says_more, ends_more}
+use Rattle.djq_machine.specs.Watch.{TellsWatcher, TellsSession, TellsDelta, ChangeStep, ends_slow, watching}
 use Rattle.djq_machine.specs.LineStep.{LineOutcome, long, blank, slow, no_room, run, ReadStep, FrontStep, behind_line}
 use Rattle.djq_machine.specs.Step.{Event, opened, fed, stepped, took, ended, closed, FedStep, TookStep, EndedStep, Acts}
 use Rattle.djq_machine.specs.Step.{with_relations, Step}
@@ -44,7 +44,8 @@ use Rattle.djq_run_laws.specs.Form.{registers, drops_query, in_use, RowsChanged,
 use Rattle.djq_run_laws.specs.Form.{FormDoes}
 use Rattle.djq_run_laws.specs.Watched.{IsWatcher, batch_in, line_outdater, event_changes}
 use Rattle.djq_run_laws.proofs.Lists.{and_some, gaining, session_changed, session_other, queued_all, stepped_cause}
-use Rattle.djq_run_laws.proofs.Lists.{beginning, session_keeps, delta_keeps, last_keeps, change_keeps, found_there}
+use Rattle.djq_run_laws.proofs.Lists.{beginning, session_keeps, slow_keeps, slow_open, still_open, delta_keeps, last_keeps}
+use Rattle.djq_run_laws.proofs.Lists.{change_keeps, found_there}
 use Rattle.djq_run_laws.proofs.Lists.{found_passes, any_there, mapped_from}
 use Rattle.djq_run_laws.proofs.Batches.{closing, begun, closing_id, closing_watches, rows_do}
 use Rattle.djq_run_laws.proofs.Forms.{turned_one, command_does, Reads, turned_down, carried_out, line_reads}
@@ -81,7 +82,7 @@ some_of None h = absurd cc
 some_of (Some x) h = (x, refl)
 
 -- a session that ends is over, and stays so
-ended_over : (st : State) (t : ℕ) (cause : EndCause) → IsOpen st t → IsOver (with_session st t (ended_by cause)) t
+pub ended_over : (st : State) (t : ℕ) (cause : EndCause) → IsOpen st t → IsOver (with_session st t (ended_by cause)) t
 ended_over st t cause there h =
     let f = some_of (session_of st t) there in
     let e : cause_of (with_session st t (ended_by cause)) t
@@ -173,32 +174,30 @@ module _ (q : Listed) (s : ℕ) (part : Bytes) where
   has_ends m t text cause may there (inl c) = inl (Contains-append_left m.queued ((t, text) ∷ []) (s, part) c)
   has_ends m t text cause may there (inr over) = inr (over_stays m.state t cause s (t == s) refl there over)
 
-  watcher_has : (d : Delta) (n : ℕ) (pending : Bytes) (m new : Telling)
+  watcher_has : (d : Delta) (n : ℕ) (m new : Telling)
       → text_of (delta_lines (listed_name d.query) d.changes n) ≡ part → IsOpen m.state s
-      → TellsWatcher d n s pending m new → Has new
-  watcher_has d n pending m new is there (inl h) = inr
-      (subst (λ (k : Telling). IsOver k.state s) (sym h.1) (ended_over m.state s Slow there))
-  watcher_has d n pending m new is there (inr (inl h)) =
+      → TellsWatcher d n s m new → Has new
+  watcher_has d n m new is there (inl h) =
       let text = text_of (delta_lines (listed_name d.query) d.changes n) in
       inl (subst (λ (k : Telling). Contains k.queued (s, part)) (sym h.1)
       (Contains-append_right m.queued ((s, text) ∷ []) (s, part)
       (first_there (s, text) [] (s, part) (ap (λ (bytes : Bytes). (s, bytes)) is))))
-  watcher_has d n pending m new is there (inr (inr h)) = inr
-      (subst (λ (k : Telling). IsOver k.state s) (sym h.4) (ended_over m.state s Memory there))
+  watcher_has d n m new is there (inr (inl h)) = inr
+      (subst (λ (k : Telling). IsOver k.state s) (sym h.1) (ended_over m.state s Large there))
+  watcher_has d n m new is there (inr (inr h)) = inr
+      (subst (λ (k : Telling). IsOver k.state s) (sym h) (ended_over m.state s Memory there))
 
   session_has : (d : Delta) (n : ℕ) → d.query ≡ q → text_of (delta_lines (listed_name d.query) d.changes n) ≡ part
       → (m new : Telling) → TellsSession d n m s new → Waits m → Has new
   session_has d n same is m new h (inr over) = session_keeps Has has_says has_ends d n m s new
-      (watcher_of m (listed_name d.query) s) refl h (inr over)
+      (watching (listed_name d.query) (session_of m.state s)) refl h (inr over)
   session_has d n same is m new h (inl w) =
       let f = some_there (session_of m.state s) (λ x. is_watching (listed_name q) x ≡ true) w in
-      let now = gaining (to_session s m.queued) f.0 in
-      let watcher : watcher_of m (listed_name d.query) s ≡ Some now =
-      ap (λ o. watching (listed_name d.query) o)
-      (queued_all m.state m.queued s ∙ ap (λ o. option_map (gaining (to_session s m.queued)) o) f.1)
-      ∙ ap (λ (b : Bool). cond b (Some now) None) (ap (λ (p : Listed). is_watching (listed_name p) f.0) same ∙ f.2) in
-      watcher_has d n now.pending m new is (rw f.1 refl)
-      (subst (λ (o : Option Session). MatchOption o (new ≡ m) (λ x. TellsWatcher d n s x.pending m new)) watcher h)
+      let watcher : watching (listed_name d.query) (session_of m.state s) ≡ Some f.0 =
+      ap (λ o. watching (listed_name d.query) o) f.1
+      ∙ ap (λ (b : Bool). cond b (Some f.0) None) (ap (λ (p : Listed). is_watching (listed_name p) f.0) same ∙ f.2) in
+      watcher_has d n m new is (rw f.1 refl)
+      (subst (λ (o : Option Session). MatchOption o (new ≡ m) (λ x. TellsWatcher d n s m new)) watcher h)
 
   watcher_listed : (m : Telling) → Watches (listed_name q) (session_of m.state s) → Contains (state_ids m.state) s
   watcher_listed m w =
@@ -215,8 +214,8 @@ module _ (q : Listed) (s : ℕ) (part : Bytes) where
   delta_has d n same is m new h (inl w) =
       walk_meets (TellsSession d n) Waits Has s
       (λ from t to k p. session_keeps Waits waits_says waits_ends d n from t to
-      (watcher_of from (listed_name d.query) t) refl k p)
-      (λ from t to k p. session_keeps Has has_says has_ends d n from t to (watcher_of from (listed_name d.query) t) refl
+      (watching (listed_name d.query) (session_of from.state t)) refl k p)
+      (λ from t to k p. session_keeps Has has_says has_ends d n from t to (watching (listed_name d.query) (session_of from.state t)) refl
       k p)
       (λ from to k p. session_has d n same is from to k p) m (state_ids m.state) new h (watcher_listed m w) (inl w)
 
@@ -229,8 +228,80 @@ module _ (q : Listed) (s : ℕ) (part : Bytes) where
       (walk_meets (TellsDelta store.seq) Waits Has d
       (λ from k to m p. delta_keeps Waits waits_says waits_ends store.seq from k to m p)
       (λ from k to m p. delta_keeps Has has_says has_ends store.seq from k to m p)
-      (λ from to m p. delta_has d store.seq same is from to m p) (beginning old (accepted change) store) h.deltas h.told
-      h.tells c (inl (watches_changed (listed_name q) old change store s w)))
+      (λ from to m p. delta_has d store.seq same is from to m p)
+      (ends_slow (beginning old (accepted change) store) (too_slow old change)) h.deltas h.told h.tells c
+      (slow_keeps Waits waits_says waits_ends (too_slow old change) (beginning old (accepted change) store)
+      (slow_open old (accepted change) store) (inl (watches_changed (listed_name q) old change store s w))))
+
+-- A session ends first if it is too slow.
+module _ (s : ℕ) where
+  abbrev Over : Telling → Type 0
+  Over m = IsOver m.state s
+
+  over_says : (m : Telling) (t : ℕ) (text : Bytes) → IsOpen m.state t → Over m → Over (says_more t text m)
+  over_says m t text there over = over
+
+  over_ends : (m : Telling) (t : ℕ) (text : Bytes) (cause : EndCause) → EndsByRun cause → IsOpen m.state t → Over m
+      → Over (ends_more t text cause m)
+  over_ends m t text cause may there over = over_stays m.state t cause s (t == s) refl there over
+
+  slow_over : (ss : List ℕ) (m : Telling) → All (λ t. IsOpen m.state t) ss → Contains ss s → Over (ends_slow m ss)
+  slow_over [] m all c = absurd (nothing_there s c)
+  slow_over (t ∷ ss) m all c = by (t == s) refl (λ k. slow_over ss more rest k)
+    where
+      more : Telling
+      more = ends_more t end_slow Slow m
+
+      rest : All (λ i. IsOpen more.state i) ss
+      rest = still_open m t ss (All-tail (λ i. IsOpen m.state i) t ss all)
+
+      first : IsOpen m.state t
+      first = All-head (λ i. IsOpen m.state i) t ss all
+
+      by : (b : Bool) → (t == s) ≡ b → (Contains ss s → Over (ends_slow more ss)) → Over (ends_slow more ss)
+      by true e later = slow_keeps Over over_says over_ends ss more rest
+          (subst (λ (i : ℕ). IsOver more.state i) (eqb-true t s e) (ended_over m.state t Slow first))
+      by false e later = elim (first_or_later t ss s c) [
+        | inl here ↦ absurd (false≢true (sym e ∙ eq-eqb t s here))
+        | inr there ↦ later there
+      ]
+
+  change_ends : (old : State) (t : ℕ) (change : RowsChange) (store : Store) (reply : Bytes) (e : Effect) (new : State)
+      (h : ChangeStep old t (accepted change) store reply e new) → Contains (too_slow old change) s → Over h.last
+  change_ends old t change store reply e new h c =
+      last_keeps Over over_says over_ends old t (accepted change) store reply e new h
+      (walk_keeps (TellsDelta store.seq) Over
+      (λ from d to m p. delta_keeps Over over_says over_ends store.seq from d to m p)
+      (ends_slow (beginning old (accepted change) store) (too_slow old change)) h.deltas h.told h.tells
+      (slow_over (too_slow old change) (beginning old (accepted change) store) (slow_open old (accepted change) store) c))
+
+-- A session that watches a query and goes on behind an accepted change that outdates it wasn't too slow.
+pub watcher_in_time : (q : Listed) (s : ℕ) (old : State) (t : ℕ) (change : RowsChange) (store : Store) (reply : Bytes)
+    (e : Effect) (new : State)
+    → ChangeStep old t (accepted change) store reply e new → is_outdated change q ≡ true
+    → listed_of old.store.queries (listed_name q) ≡ Some q → (x : Session) → session_of old s ≡ Some x
+    → is_watching (listed_name q) x ≡ true → cause_of new s ≡ None → is_behind x ≡ false
+watcher_in_time q s old t change store reply e new h reading registered x is watches running = by (is_behind x) refl
+  where
+    there : Contains old.store.queries q
+    there = found_there (λ (p : Listed). bytes_eq (listed_name p) (listed_name q)) old.store.queries q registered
+
+    reads : list_any (λ p. is_outdated change p && is_watching (listed_name p) x) old.store.queries ≡ true
+    reads = any_there (λ p. is_outdated change p && is_watching (listed_name p) x) old.store.queries q there
+        (and_from (is_outdated change q) (is_watching (listed_name q) x) reading watches)
+
+    listed : Contains (state_ids old) s
+    listed = watcher_listed q s [] (record { state = old; queued = [] }) (rw is watches)
+
+    by : (b : Bool) → is_behind x ≡ b → b ≡ false
+    by false e = refl
+    by true behind =
+        let slow : is_slow_one old change (session_of old s) ≡ true = ap (λ o. is_slow_one old change o) is
+        ∙ and_from (is_behind x) (list_any (λ p. is_outdated change p && is_watching (listed_name p) x)
+        old.store.queries) behind reads in
+        let over = change_ends s old t change store reply e new h
+        (kept_there (λ i. is_slow_one old change (session_of old i)) (state_ids old) s slow listed) in
+        absurd (over (ap (λ (st : State). cause_of st s) (sym h.state) ∙ running))
 
 -- How an accepted change that outdates a query changed its answers is told a session that watches it, where that
 -- hasn't ended behind the change.
@@ -247,15 +318,16 @@ pub change_is_told : (q : Listed) (s : ℕ) (old : State) (t : ℕ) (change : Ro
     ≡ None
     → IsTheDelta q s old.store.relations change.after store.seq e.queued
 change_is_told q s old t change store reply e new h reading registered w running =
-    let f = some_there (session_of old s) (λ x. is_watching (listed_name q) x ≡ true) w in
-    let watched : list_any (is_watching (listed_name q)) old.sessions
-    ≡ true = any_there (is_watching (listed_name q)) old.sessions f.0
-    (found_there (λ (x : Session). x.id == s) old.sessions f.0 f.1) f.2 in
+    let in_time : is_behind f.0 ≡ false = watcher_in_time q s old t change store reply e new h reading registered f.0 f.1 f.2 running in
+    let awaited : awaits (listed_name q) f.0 ≡ true =
+    and_from (is_watching (listed_name q) f.0) (not (is_behind f.0)) f.2 (ap not in_time) in
+    let watched : list_any (awaits (listed_name q)) old.sessions ≡ true =
+    any_there (awaits (listed_name q)) old.sessions f.0
+    (found_there (λ (x : Session). x.id == s) old.sessions f.0 f.1) awaited in
     let among : Contains (affected old change) q =
-    kept_there (λ (p : Listed). is_outdated change p && list_any (is_watching (listed_name p)) old.sessions)
+    kept_there (λ (p : Listed). is_outdated change p && list_any (awaits (listed_name p)) old.sessions)
     old.store.queries q
-    (and_from (is_outdated change q) (list_any (is_watching (listed_name q)) old.sessions) reading watched)
-    (found_there (λ (p : Listed). bytes_eq (listed_name p) (listed_name q)) old.store.queries q registered) in
+    (and_from (is_outdated change q) (list_any (awaits (listed_name q)) old.sessions) reading watched) there in
     let d = mapped_from (λ (k : Delta). k.query) h.deltas q
     (subst (λ (qs : List Listed). Contains qs q) (sym h.listed.of_queries) among) in
     let part = text_of (delta_lines (listed_name q) (d.0).changes store.seq) in
@@ -270,9 +342,15 @@ change_is_told q s old t change store reply e new h reading registered w running
       told = queued part last;
     }
   where
+    f : (x : Session) × (session_of old s ≡ Some x) × (is_watching (listed_name q) x ≡ true)
+    f = some_there (session_of old s) (λ x. is_watching (listed_name q) x ≡ true) w
+
     queued : (part : Bytes) → Contains h.last.queued (s, part) ⊎ IsOver h.last.state s → Contains e.queued (s, part)
     queued part (inl c) = subst (λ (qs : List (ℕ × Bytes)). Contains qs (s, part)) (sym h.queued) c
     queued part (inr over) = absurd (over (ap (λ (st : State). cause_of st s) (sym h.state) ∙ running))
+
+    there : Contains old.store.queries q
+    there = found_there (λ (p : Listed). bytes_eq (listed_name p) (listed_name q)) old.store.queries q registered
 
 -- ---- What a step tells a session that watches a query: how its answers changed, where it changes the rows of a
 -- relation that the query reads.

@@ -1,26 +1,26 @@
 -- Nothing is queued to a session that has ended, or isn't open.
 use Rattle.std.specs.Prelude.{ℕ, List, [], ◌∷◌, ◌==◌, ◌≡◌, ◌<◌, ◌++◌, ◌⊎◌, Bool, true, false, not, cond, filter, length}
-use Rattle.std.specs.Prelude.{Option, None, Some, IsSome, IfSome, IsSomeAnd, MatchOption, option_map, find, map, All}
+use Rattle.std.specs.Prelude.{◌&&◌, ◌||◌, ⊤, Option, None, Some, IsSome, IfSome, IsSomeAnd, MatchOption, option_map, find, map, All}
 use Rattle.std.specs.List.{list_any}
 use Rattle.std.proofs.Common.{refl, sym, ap, ap₂, ◌∙◌, subst, inl, inr, arith}
-use Rattle.std.proofs.lemmas.Bool.{eqb-true}
+use Rattle.std.proofs.lemmas.Bool.{eqb-true, false≢true}
 use Rattle.std.proofs.lemmas.Grind.{flat_map-append}
 use Rattle.std.proofs.lemmas.List.Elements.{All-nil, All-cons, All-head, All-tail, All-contains, All-weaker}
 use Rattle.djq_model.specs.Data.{Bytes, bytes_eq}
-use Rattle.djq_model.specs.Listed.{listed_name}
+use Rattle.djq_model.specs.Listed.{Listed, listed_name}
 use Rattle.djq_protocol.specs.declared.answer.EndCause.{EndCause}
-use Rattle.djq_protocol.specs.declared.answer.EndCause.TheVariants.{Input, Memory}
+use Rattle.djq_protocol.specs.declared.answer.EndCause.TheVariants.{Input, Slow, Memory}
 use Rattle.djq_protocol.specs.declared.limits.TheConstants.{SESSIONS}
 use Rattle.djq_protocol.specs.Grammar.{reading_of}
-use Rattle.djq_protocol.specs.Reply.{refusal_line, end_memory}
+use Rattle.djq_protocol.specs.Reply.{refusal_line, end_slow, end_memory}
 use Rattle.djq_store_spec.specs.Store.{Store}
-use Rattle.djq_store_spec.specs.Changes.{RowsChange, RowsOutcome, is_made, tried}
+use Rattle.djq_store_spec.specs.Changes.{RowsChange, RowsOutcome, accepted, out_of_memory as none_left, unchanged, is_made, tried, is_outdated}
 use Rattle.djq_store_spec.specs.DeltaCost.{Delta}
-use Rattle.djq_answer_laws.proofs.Lists.{some_there}
+use Rattle.djq_answer_laws.proofs.Lists.{kept_hold, some_there}
 use Rattle.djq_machine.specs.State.{State, Session, fresh, session_of, with_session, ended_by, state_ids}
 use Rattle.djq_machine.specs.Outdating.{outdated_cursor, changed}
-use Rattle.djq_machine.specs.Watch.{Telling, says_more, ends_more, watching, watcher_of, TellsWatcher, TellsSession}
-use Rattle.djq_machine.specs.Watch.{TellsDelta, ChangeStep}
+use Rattle.djq_machine.specs.Watch.{Telling, says_more, ends_more, watching, TellsWatcher, TellsSession}
+use Rattle.djq_machine.specs.Watch.{TellsDelta, ChangeStep, ends_first, ends_slow, is_behind, is_slow_one, is_watching}
 use Rattle.djq_machine.specs.Effect.{Effect, nothing, says, says_any, lost_line, EndsWith}
 use Rattle.djq_machine.specs.LineStep.{LineOutcome, long, blank, slow, no_room, run, behind_line, FrontStep, ReadStep}
 use Rattle.djq_machine.specs.Step.{Event, opened, fed, stepped, took, ended, closed, is_dry, FedStep, TookStep}
@@ -116,21 +116,56 @@ module _ (s : ℕ) where
         h.deaf;
   }
 
-  unwatching : (q bytes : Bytes) (o : Option Session) → Deaf o → watching q (option_map (gaining bytes) o) ≡ None
-  unwatching q bytes None h = refl
-  unwatching q bytes (Some x) h =
-      ap (λ (ws : List Bytes). cond (list_any (λ w. bytes_eq w q) ws) (Some (gaining bytes x)) None) h
+  unwatching : (q : Bytes) (o : Option Session) → Deaf o → watching q o ≡ None
+  unwatching q None h = refl
+  unwatching q (Some x) h =
+      ap (λ (ws : List Bytes). cond (list_any (λ w. bytes_eq w q) ws) (Some x) None) h
 
-  no_watcher : (m : Telling) (q : Bytes) → IsQuiet m → watcher_of m q s ≡ None
-  no_watcher m q h =
-      ap (λ o. watching q o) (queued_all m.state m.queued s)
-      ∙ unwatching q (to_session s m.queued) (session_of m.state s) h.deaf
+  watcher_quiet : (d : Delta) (n t : ℕ) (m new : Telling) → (t == s) ≡ false
+      → TellsWatcher d n t m new → IsQuiet m → IsQuiet new
+  watcher_quiet d n t m new apart (inl h) k = subst IsQuiet (sym h.1) (still_says m t _ apart k)
+  watcher_quiet d n t m new apart (inr (inl h)) k = subst IsQuiet (sym h.1) (still_ends m t _ _ apart k)
+  watcher_quiet d n t m new apart (inr (inr h)) k = subst IsQuiet (sym h) (still_ends m t _ _ apart k)
 
-  watcher_quiet : (d : Delta) (n t : ℕ) (pending : Bytes) (m new : Telling) → (t == s) ≡ false
-      → TellsWatcher d n t pending m new → IsQuiet m → IsQuiet new
-  watcher_quiet d n t pending m new apart (inl h) k = subst IsQuiet (sym h.1) (still_ends m t _ _ apart k)
-  watcher_quiet d n t pending m new apart (inr (inl h)) k = subst IsQuiet (sym h.1) (still_says m t _ apart k)
-  watcher_quiet d n t pending m new apart (inr (inr h)) k = subst IsQuiet (sym h.4) (still_ends m t _ _ apart k)
+  -- sessions that are too slow end, and this isn't one of them
+  slow_quiet : (ss : List ℕ) (m : Telling) → All (λ t. (t == s) ≡ false) ss → IsQuiet m → IsQuiet (ends_slow m ss)
+  slow_quiet [] m apart k = k
+  slow_quiet (t ∷ ss) m apart k = slow_quiet ss (ends_more t end_slow Slow m)
+      (All-tail (λ i. (i == s) ≡ false) t ss apart)
+      (still_ends m t end_slow Slow (All-head (λ i. (i == s) ≡ false) t ss apart) k)
+
+  in_time : (old : State) (change : RowsChange) (o : Option Session) → Deaf o → is_slow_one old change o ≡ false
+  in_time old change None h = refl
+  in_time old change (Some x) h = by (is_behind x)
+    where
+      none : (qs : List Listed) → list_any (λ q. is_outdated change q && is_watching (listed_name q) x) qs ≡ false
+      none [] = refl
+      none (q ∷ qs) = ap (λ (ws : List Bytes). (is_outdated change q && list_any (λ w. bytes_eq w (listed_name q)) ws)
+          || list_any (λ p. is_outdated change p && is_watching (listed_name p) x) qs) h
+          ∙ by_reads (is_outdated change q) (none qs)
+        where
+          by_reads : (b : Bool) → list_any (λ p. is_outdated change p && is_watching (listed_name p) x) qs ≡ false
+              → ((b && false) || list_any (λ p. is_outdated change p && is_watching (listed_name p) x) qs) ≡ false
+          by_reads true e = e
+          by_reads false e = e
+
+      by : (b : Bool) → (b && list_any (λ q. is_outdated change q && is_watching (listed_name q) x) old.store.queries)
+          ≡ false
+      by true = none old.store.queries
+      by false = refl
+
+  slow_apart : (old : State) (outcome : RowsOutcome) → Deaf (session_of old s)
+      → All (λ t. (t == s) ≡ false) (ends_first old outcome)
+  slow_apart old (accepted change) deaf = kept_hold (λ t. ⊤) (λ t. (t == s) ≡ false)
+      (λ t. is_slow_one old change (session_of old t)) (state_ids old) (λ t late k. by t (t == s) refl late)
+      (λ i d low. tt)
+    where
+      by : (t : ℕ) (b : Bool) → (t == s) ≡ b → is_slow_one old change (session_of old t) ≡ true → b ≡ false
+      by t true e late = absurd (false≢true (sym (in_time old change (session_of old s) deaf)
+          ∙ ap (λ i. is_slow_one old change (session_of old i)) (sym (eqb-true t s e)) ∙ late))
+      by t false e late = refl
+  slow_apart old (none_left change) deaf = All-nil (λ t. (t == s) ≡ false)
+  slow_apart old unchanged deaf = All-nil (λ t. (t == s) ≡ false)
 
   session_quiet : (d : Delta) (n : ℕ) (m : Telling) (t : ℕ) (new : Telling) → TellsSession d n m t new → IsQuiet m
       → IsQuiet new
@@ -140,19 +175,19 @@ module _ (s : ℕ) where
       name = listed_name d.query
 
       Tells : Option Session → Type 0
-      Tells o = MatchOption o (new ≡ m) (λ x. TellsWatcher d n t x.pending m new)
+      Tells o = MatchOption o (new ≡ m) (λ x. TellsWatcher d n t m new)
 
       by_watcher : (o : Option Session) → (t == s) ≡ false → Tells o → IsQuiet new
       by_watcher None apart is = subst IsQuiet (sym is) k
-      by_watcher (Some x) apart is = watcher_quiet d n t x.pending m new apart is k
+      by_watcher (Some x) apart is = watcher_quiet d n t m new apart is k
 
       by_id : (b : Bool) → (t == s) ≡ b → IsQuiet new
       by_id true same =
-          let none : watcher_of m name t ≡ None = ap (λ i. watcher_of m name i) (eqb-true t s same)
-          ∙ no_watcher m name k in
+          let none : watching name (session_of m.state t) ≡ None = ap (λ i. watching name (session_of m.state i))
+          (eqb-true t s same) ∙ unwatching name (session_of m.state s) k.deaf in
           let is : new ≡ m = subst (λ (o : Option Session). Tells o) none h in
           subst IsQuiet (sym is) k
-      by_id false apart = by_watcher (watcher_of m name t) apart h
+      by_id false apart = by_watcher (watching name (session_of m.state t)) apart h
 
   delta_quiet : (n : ℕ) (m : Telling) (d : Delta) (new : Telling) → TellsDelta n m d new → IsQuiet m → IsQuiet new
   delta_quiet n m d new h k =
@@ -190,8 +225,9 @@ module _ (s : ℕ) where
       let first : Telling = record { state = changed old (tried outcome) store; queued = [] } in
       let begins : IsQuiet first = record { none = refl; deaf = deaf_changed old (tried outcome) store deaf } in
       let told : IsQuiet h.told =
-      walk_keeps (TellsDelta store.seq) IsQuiet (λ from d to one q. delta_quiet store.seq from d to one q) first
-      (cond (is_made outcome) h.deltas []) h.told h.tells begins in
+      walk_keeps (TellsDelta store.seq) IsQuiet (λ from d to one q. delta_quiet store.seq from d to one q)
+      (ends_slow first (ends_first old outcome)) (cond (is_made outcome) h.deltas []) h.told h.tells
+      (slow_quiet (ends_first old outcome) first (slow_apart old outcome deaf) begins) in
       let f = some_there (session_of h.told.state t) (λ x. MatchOption x.cause
       ((h.last ≡ says_more t reply h.told) ⊎
       ((list_any (λ part. part.0 == t) h.told.queued ≡ true) × (h.last ≡ ends_more t end_memory Memory h.told)))

@@ -291,10 +291,7 @@ refused_replied old s r e new h = (says_alone s (refusal_line r) e h.0, is_whole
 lines_replied : (old : State) (s : ℕ) (lines : List Bytes) (e : Effect) (new : State) → TellsLines old s lines e new
     → SaysAlone s e × Replied s old new
 lines_replied old s lines e new (inl h) = (says_alone s (text_of lines) e h.0, is_whole h.1)
-lines_replied old s lines e new (inr (told, lacking, rest, parts, ends)) = (
-  says_alone s (text_of told ++ end_memory) e ends.0,
-  is_cut ends.1,
-)
+lines_replied old s lines e new (inr ends) = (says_alone s end_memory e ends.0, is_cut ends.1)
 
 explain_does : (old : State) (s : ℕ) (o : Option Listed) (e : Effect) (new : State)
     → MatchOption o (RefusedStep old s NoQuery e new) (λ q. ExplainStepOf old s q e new)

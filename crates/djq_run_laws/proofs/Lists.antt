@@ -1,7 +1,7 @@
 -- Lists after a change of an element, and bytes that are queued behind others.
 use Rattle.std.specs.Prelude.{List, [], ◌∷◌, ◌≡◌, ◌≤◌, Bool, true, false, cond, Some, find, All, map, length, ◌⊎◌, ◌||◌}
 use Rattle.std.specs.Prelude.{Contains, Option, IsSomeAnd, option_map, ◌≢◌, ◌++◌, None, AllPairs, ℕ, ◌==◌, IsSome}
-use Rattle.std.specs.Prelude.{MatchOption, filter}
+use Rattle.std.specs.Prelude.{MatchOption, filter, ⊤}
 use Rattle.std.proofs.Common.{refl, ap, ◌∙◌, subst, arith, sym, inl, inr, append_assoc, append-nil}
 use Rattle.std.proofs.lemmas.List.Elements.{All-nil, All-cons, All-head, All-tail}
 use Rattle.std.proofs.lemmas.Option.{same_Some}
@@ -9,29 +9,29 @@ use Rattle.std.specs.List.{list_any}
 use Rattle.std.proofs.lemmas.List.{map-append}
 use Rattle.std.proofs.lemmas.List.Kept.{AllPairs-cons}
 use Rattle.std.proofs.lemmas.List.Quantifiers.{all_pairs_push}
-use Rattle.std.proofs.lemmas.Bool.{eqb-true}
+use Rattle.std.proofs.lemmas.Bool.{eqb-true, false≢true}
 use Rattle.djq_model.specs.Data.{change_first, drop_first, Bytes, Tuple, bytes_eq, tuple_eq, has_row, without_row}
 use Rattle.djq_model.specs.Answer.{AreDifferent}
 use Rattle.djq_model.specs.Equality.{bytes_eq-decides, tuple_eq-decides}
 use Rattle.djq_model.specs.Known.{knows, learned, all_learned}
 use Rattle.djq_model.specs.Listed.{listed_name}
 use Rattle.djq_protocol.specs.declared.answer.EndCause.{EndCause}
-use Rattle.djq_protocol.specs.declared.answer.EndCause.TheVariants.{Slow, Memory}
-use Rattle.djq_protocol.specs.Reply.{end_slow, end_memory}
+use Rattle.djq_protocol.specs.declared.answer.EndCause.TheVariants.{Slow, Large, Memory}
+use Rattle.djq_protocol.specs.Reply.{end_slow, end_large, end_memory}
 use Rattle.djq_store_spec.specs.Store.{Store}
-use Rattle.djq_store_spec.specs.Changes.{RowsOutcome, is_made, tried}
+use Rattle.djq_store_spec.specs.Changes.{RowsChange, RowsOutcome, accepted, out_of_memory, unchanged, is_made, tried}
 use Rattle.djq_store_spec.specs.DeltaCost.{Delta}
 use Rattle.djq_answer_laws.proofs.Lists.{nothing_there, first_or_later, first_there, later_there, pairs_head}
-use Rattle.djq_answer_laws.proofs.Lists.{pairs_tail}
+use Rattle.djq_answer_laws.proofs.Lists.{kept_hold, pairs_tail}
 pub use Rattle.djq_answer_laws.proofs.Lists.{some_there}
-use Rattle.djq_machine.specs.State.{State, Session, session_of, with_session, state_ids, Cursor, cursor_of}
+use Rattle.djq_machine.specs.State.{State, Session, session_of, with_session, ended_by, state_ids, Cursor, cursor_of}
 use Rattle.djq_machine.specs.Effect.{Effect, queue, queue_all}
 use Rattle.djq_machine.specs.Step.{Event, Step}
 use Rattle.djq_machine.specs.Run.{to_session, pending_of, pending_in}
 use Rattle.djq_machine.specs.Call.{IsOpen, cause_of, held_of, cause_in, held_in}
-use Rattle.djq_machine.specs.Outdating.{changed}
-use Rattle.djq_machine.specs.Watch.{Telling, says_more, ends_more, watching, watcher_of, TellsWatcher, TellsSession}
-use Rattle.djq_machine.specs.Watch.{TellsDelta, ChangeStep}
+use Rattle.djq_machine.specs.Outdating.{changed, outdated_cursor}
+use Rattle.djq_machine.specs.Watch.{Telling, says_more, ends_more, watching, TellsWatcher, TellsSession}
+use Rattle.djq_machine.specs.Watch.{TellsDelta, ChangeStep, ends_first, ends_slow, is_slow_one}
 use Rattle.djq_machine.proofs.Relations.{walk_keeps}
 use Rattle.djq_run_laws.specs.Sound.{AreApart}
 use Rattle.djq_run_laws.specs.Moved.{EndsByRun}
@@ -410,46 +410,98 @@ stepped_pending old event e new h t p = ap pending_in (stepped old event e new h
 
 -- ---- What each part of a change keeps, the whole change keeps.
 
+pub find_mapped : {A : Type 0} (p : A → Bool) (f : A → A) → ((x : A) → p (f x) ≡ p x) → (xs : List A)
+    → find p (map f xs) ≡ option_map f (find p xs)
+find_mapped p f keeps [] = refl
+find_mapped p f keeps (x ∷ xs) = by (p x) (keeps x) (find_mapped p f keeps xs)
+  where
+    by : (b : Bool) → p (f x) ≡ b → find p (map f xs) ≡ option_map f (find p xs)
+        → cond (p (f x)) (Some (f x)) (find p (map f xs)) ≡ option_map f (cond b (Some x) (find p xs))
+    by true e rest = rw e refl
+    by false e rest = rw e rest
+
 -- A session that watches is open.
 watching_some : (q : Bytes) (o : Option Session) (x : Session) → watching q o ≡ Some x → IsSome o
 watching_some q None x e = absurd cc
 watching_some q (Some y) x e = refl
 
-before_gaining : (bytes : Bytes) (o : Option Session) → IsSome (option_map (gaining bytes) o) → IsSome o
-before_gaining bytes None h = h
-before_gaining bytes (Some x) h = refl
-
-pub watcher_open : (m : Telling) (q : Bytes) (s : ℕ) (x : Session) → watcher_of m q s ≡ Some x → IsOpen m.state s
-watcher_open m q s x e =
-    before_gaining (to_session s m.queued) (session_of m.state s)
-    (subst (λ (o : Option Session). IsSome o) (queued_all m.state m.queued s)
-    (watching_some q (session_of (queue_all m.state m.queued) s) x e))
-
 -- the beginning of a change
 abbrev pub beginning : State → RowsOutcome → Store → Telling
 beginning old outcome store = record { state = changed old (tried outcome) store; queued = [] }
+
+-- An open session stays so as one ends, and as cursors become stale.
+ended_open : (st : State) (s t : ℕ) (cause : EndCause) → IsOpen st t → IsOpen (with_session st s (ended_by cause)) t
+ended_open st s t cause there = by (s == t) refl
+  where
+    mapped : (o : Option Session) → IsSome o → IsSome (option_map (ended_by cause) o)
+    mapped None h = h
+    mapped (Some x) h = refl
+
+    by : (b : Bool) → (s == t) ≡ b → IsOpen (with_session st s (ended_by cause)) t
+    by true e = subst (λ (i : ℕ). IsOpen (with_session st s (ended_by cause)) i) (eqb-true s t e)
+        (subst (λ (o : Option Session). IsSome o) (sym (session_changed st s (ended_by cause) (λ x. refl)))
+        (mapped (session_of st s) (subst (λ (i : ℕ). IsOpen st i) (sym (eqb-true s t e)) there)))
+    by false e = subst (λ (o : Option Session). IsSome o) (sym (session_other st s t (ended_by cause) (λ x. refl) e)) there
+
+changed_open : (old : State) (o : Option RowsChange) (store : Store) (s : ℕ) → IsOpen old s → IsOpen (changed old o store) s
+changed_open old None store s there = there
+changed_open old (Some change) store s there =
+    let f = λ (x : Session). record x
+    { cursors = map (outdated_cursor old.store.queries change.outdater store.seq) x.cursors } in
+    subst (λ (o : Option Session). IsSome o) (sym (find_mapped (λ (x : Session). x.id == s) f (λ x. refl) old.sessions))
+    (mapped f (session_of old s) there)
+  where
+    mapped : (f : Session → Session) (o : Option Session) → IsSome o → IsSome (option_map f o)
+    mapped f None h = h
+    mapped f (Some x) h = refl
+
+-- those that are too slow are open
+pub slow_open : (old : State) (outcome : RowsOutcome) (store : Store)
+    → All (λ s. IsOpen (changed old (tried outcome) store) s) (ends_first old outcome)
+slow_open old (accepted change) store = kept_hold (λ s. ⊤) (λ s. IsOpen (changed old (Some change) store) s)
+    (λ s. is_slow_one old change (session_of old s)) (state_ids old)
+    (λ s slow t. changed_open old (Some change) store s (there (session_of old s) slow))
+    (λ i d low. tt)
+  where
+    there : (o : Option Session) → is_slow_one old change o ≡ true → IsSome o
+    there None e = absurd (false≢true e)
+    there (Some x) e = refl
+slow_open old (out_of_memory change) store = All-nil (λ s. IsOpen (changed old (Some change) store) s)
+slow_open old unchanged store = All-nil (λ s. IsOpen (changed old None store) s)
+
+-- sessions that are open stay so as one of them ends
+pub still_open : (m : Telling) (s : ℕ) (ss : List ℕ) → All (λ t. IsOpen m.state t) ss
+    → All (λ t. IsOpen (with_session m.state s (ended_by Slow)) t) ss
+still_open m s ss all i d low = ended_open m.state s _ Slow (all i d low)
 
 module _ (P : Telling → Type 0)
     (says : (m : Telling) (s : ℕ) (text : Bytes) → IsOpen m.state s → P m → P (says_more s text m))
     (ends : (m : Telling) (s : ℕ) (text : Bytes) (cause : EndCause) → EndsByRun cause → IsOpen m.state s → P m
     → P (ends_more s text cause m)) where
-  watcher_keeps : (d : Delta) (n s : ℕ) (pending : Bytes) (m new : Telling) → IsOpen m.state s
-      → TellsWatcher d n s pending m new → P m → P new
-  watcher_keeps d n s pending m new there (inl h) p = subst P (sym h.1) (ends m s end_slow Slow tt there p)
-  watcher_keeps d n s pending m new there (inr (inl h)) p = subst P (sym h.1) (says m s _ there p)
-  watcher_keeps d n s pending m new there (inr (inr h)) p = subst P (sym h.4) (ends m s _ Memory tt there p)
+  watcher_keeps : (d : Delta) (n s : ℕ) (m new : Telling) → IsOpen m.state s
+      → TellsWatcher d n s m new → P m → P new
+  watcher_keeps d n s m new there (inl h) p = subst P (sym h.1) (says m s _ there p)
+  watcher_keeps d n s m new there (inr (inl h)) p = subst P (sym h.1) (ends m s end_large Large tt there p)
+  watcher_keeps d n s m new there (inr (inr h)) p = subst P (sym h) (ends m s end_memory Memory tt there p)
 
   pub session_keeps : (d : Delta) (n : ℕ) (m : Telling) (s : ℕ) (new : Telling) (o : Option Session)
-      → watcher_of m (listed_name d.query) s ≡ o
-      → MatchOption o (new ≡ m) (λ x. TellsWatcher d n s x.pending m new) → P m → P new
+      → watching (listed_name d.query) (session_of m.state s) ≡ o
+      → MatchOption o (new ≡ m) (λ x. TellsWatcher d n s m new) → P m → P new
   session_keeps d n m s new None e h p = subst P (sym h) p
-  session_keeps d n m s new (Some x) e h p = watcher_keeps d n s x.pending m new
-      (watcher_open m (listed_name d.query) s x e) h p
+  session_keeps d n m s new (Some x) e h p = watcher_keeps d n s m new
+      (watching_some (listed_name d.query) (session_of m.state s) x e) h p
+
+  -- those that are too slow end
+  pub slow_keeps : (ss : List ℕ) (m : Telling) → All (λ s. IsOpen m.state s) ss → P m → P (ends_slow m ss)
+  slow_keeps [] m all p = p
+  slow_keeps (s ∷ ss) m all p = slow_keeps ss (ends_more s end_slow Slow m)
+      (still_open m s ss (All-tail (λ t. IsOpen m.state t) s ss all))
+      (ends m s end_slow Slow tt (All-head (λ t. IsOpen m.state t) s ss all) p)
 
   pub delta_keeps : (n : ℕ) (m : Telling) (d : Delta) (new : Telling) → TellsDelta n m d new → P m → P new
   delta_keeps n m d new h p =
       walk_keeps (TellsSession d n) P
-      (λ from s to k q. session_keeps d n from s to (watcher_of from (listed_name d.query) s) refl k q) m
+      (λ from s to k q. session_keeps d n from s to (watching (listed_name d.query) (session_of from.state s)) refl k q) m
       (state_ids m.state) new h p
 
   reply_keeps : (s : ℕ) (reply : Bytes) (m new : Telling) (c : Option EndCause) → IsOpen m.state s
@@ -476,19 +528,10 @@ module _ (P : Telling → Type 0)
   change_keeps old s outcome store reply e new h p =
       last_keeps old s outcome store reply e new h
       (walk_keeps (TellsDelta store.seq) P (λ from d to k q. delta_keeps store.seq from d to k q)
-      (beginning old outcome store) (cond (is_made outcome) h.deltas []) h.told h.tells p)
+      (ends_slow (beginning old outcome store) (ends_first old outcome)) (cond (is_made outcome) h.deltas []) h.told h.tells
+      (slow_keeps (ends_first old outcome) (beginning old outcome store) (slow_open old outcome store) p))
 
 -- ---- What is found in lists by a test.
-
-pub find_mapped : {A : Type 0} (p : A → Bool) (f : A → A) → ((x : A) → p (f x) ≡ p x) → (xs : List A)
-    → find p (map f xs) ≡ option_map f (find p xs)
-find_mapped p f keeps [] = refl
-find_mapped p f keeps (x ∷ xs) = by (p x) (keeps x) (find_mapped p f keeps xs)
-  where
-    by : (b : Bool) → p (f x) ≡ b → find p (map f xs) ≡ option_map f (find p xs)
-        → cond (p (f x)) (Some (f x)) (find p (map f xs)) ≡ option_map f (cond b (Some x) (find p xs))
-    by true e rest = rw e refl
-    by false e rest = rw e rest
 
 pub find_front : {A : Type 0} (p : A → Bool) (xs : List A) (y : A) → p y ≡ false → find p (xs ++ y ∷ []) ≡ find p xs
 find_front p [] y e = rw e refl

@@ -2,7 +2,7 @@
 use Rattle.std.specs.Prelude.{ℕ, ◌==◌, ◌≡◌, ◌++◌, true, false, Option, None, Some, IfSome}
 use Rattle.djq_model.specs.Data.{Bytes}
 use Rattle.djq_protocol.specs.declared.answer.EndCause.{EndCause}
-use Rattle.djq_protocol.specs.declared.answer.EndCause.TheVariants.{Input, Quit, Stop, Long, Slow, Memory}
+use Rattle.djq_protocol.specs.declared.answer.EndCause.TheVariants.{Input, Quit, Stop, Long, Slow, Large, Memory}
 use Rattle.djq_protocol.specs.Line.{a_line, front_of}
 use Rattle.djq_protocol.specs.Reply.{end_memory}
 use Rattle.djq_store_spec.specs.Held.{HeldTransaction}
@@ -63,6 +63,7 @@ EndsByRun Quit = Unit {0}
 EndsByRun Stop = Unit {0}
 EndsByRun Memory = Unit {0}
 EndsByRun Slow = Unit {0}
+EndsByRun Large = Unit {0}
 EndsByRun _ = ⊥
 
 -- The end cause of a session whose front has this outcome.

@@ -13,7 +13,7 @@ use Rattle.djq_model.specs.Data.{Bytes}
 use Rattle.djq_model.specs.Answer.{IsAnswer}
 use Rattle.djq_model.specs.Listed.{Listed, a_query, a_union, AnswersOf}
 use Rattle.djq_protocol.specs.declared.limits.TheConstants.{QUERIES}
-use Rattle.djq_enumeration.specs.declared.log.Line.{Line}
+use Rattle.djq_enumeration.specs.Log.{Line}
 use Rattle.djq_store_spec.specs.Stale.{reads}
 use Rattle.djq_store_spec.specs.Registering.{atoms_of}
 use Rattle.djq_store_spec.specs.Changes.{RowsChange, is_outdated}

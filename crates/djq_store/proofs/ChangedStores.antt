@@ -12,7 +12,7 @@ use Rattle.djq_model.specs.Data.{Bytes}
 use Rattle.djq_model.specs.Listed.{Listed, a_query, a_union, listed_name, listed_of, AnswersOf}
 use Rattle.djq_cursors.specs.declared.progress.Progress.TheVariants.{Open, Stale}
 use Rattle.djq_protocol.specs.declared.limits.TheConstants.{QUERIES}
-use Rattle.djq_enumeration.specs.declared.log.Line.{Line}
+use Rattle.djq_enumeration.specs.Log.{Line}
 use Rattle.djq_enumeration.specs.Log.{Log}
 use Rattle.djq_store_spec.specs.Stale.{listed_reads, outdated}
 use Rattle.djq_store_spec.specs.Changes.{RowsChange, is_outdated}

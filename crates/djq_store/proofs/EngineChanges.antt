@@ -11,7 +11,7 @@ use Rattle.djq_protocol.specs.declared.answer.Refusal.{Refusal}
 use Rattle.djq_protocol.specs.declared.answer.Refusal.TheVariants.{NoQuery}
 use Rattle.djq_protocol.specs.Conditions.{first_refusal, OutOfMemoryWhere}
 use Rattle.djq_reduct.specs.Answers.{IsAnswerOf}
-use Rattle.djq_enumeration.specs.declared.log.Line.{Line}
+use Rattle.djq_enumeration.specs.Log.{Line}
 use Rattle.djq_store_spec.specs.Delta.{Change}
 use Rattle.djq_store_spec.specs.Store.{Store, Position, open_at, stale}
 use Rattle.djq_store_spec.specs.Registering.{answer_steps}

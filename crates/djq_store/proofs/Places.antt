@@ -2,7 +2,7 @@
 use Rattle.std.proofs.Common.{ℕ, List, [], ◌∷◌, ◌≡◌, Bool, true, false, refl, sym, ap, ◌∙◌, subst, zero, suc, ◌+◌, ◌<◌}
 use Rattle.std.proofs.Common.{◌≤◌, ◌⊎◌, inl, inr, ap₂, length, get_or, set, arith, ◌++◌, ◌-◌}
 use Rattle.std.specs.Prelude.{◌==◌, ◌||◌, None, Some, is_some, cond, find, filter, map, All, Option, count_by, ◌&&◌}
-use Rattle.std.specs.Prelude.{IsSome, IsSomeAnd, option_map, nat_lt, position, not}
+use Rattle.std.specs.Prelude.{unwrap_or, IsSome, IsSomeAnd, option_map, nat_lt, position, not}
 use Rattle.std.proofs.lemmas.Bool.{eqb-true, cases_lt, lt-ltb, le-ltb, false≢true}
 use Rattle.std.proofs.lemmas.List.Elements.{All-head, All-tail}
 use Rattle.std.proofs.lemmas.List.{get_or-set_same, get_or_past}
@@ -19,7 +19,7 @@ use Rattle.djq_reach.specs.Places.{is_reader}
 use Rattle.djq_reach.proofs.PlacedQueries.{place_below}
 use Rattle.djq_united.specs.United.{union_of}
 use Rattle.djq_engine.specs.declared.cursor.QueryId.{QueryId}
-use Rattle.djq_engine.specs.Kept.{Kept, Registered, AtPlace, registered_at, registered_of, told_at}
+use Rattle.djq_engine.specs.Kept.{Kept, Registered, AtPlace, registered_at, registered_of, is_told_large, told_at}
 use Rattle.djq_engine.specs.Places.{id_at, query_in}
 use Rattle.djq_engine.specs.Laws.{IsEngine}
 use Rattle.djq_engine.proofs.QueryPlaces.{here, behind, reader_filter, find_mapped, first_of_position, none_of_position}
@@ -29,7 +29,7 @@ use Rattle.djq_engine.proofs.Logs.{map_as}
 use Rattle.djq_gains.proofs.DeltaLines.{twice_mapped}
 use Rattle.djq_store.specs.declared.joined.Joined.{Joined}
 use Rattle.djq_store.specs.Places.{vacant, in_places, by_place, joined_at, listed_in, listed_at, registered_as}
-use Rattle.djq_store.specs.Places.{told_of_union, store_seen}
+use Rattle.djq_store.specs.Places.{told_of_union, large_of_union, store_seen}
 use Rattle.djq_store.specs.Whole.{IsListed, query_places}
 use Rattle.djq_store.specs.Finding.{union_is_named}
 
@@ -560,6 +560,21 @@ module _ (e : Kept) (b : IsEngine e) (us : List (Option Joined)) (order sessions
       ap (λ i. get_or (store_seen e us order sessions affected).told i None) is
       ∙ places_high e.told (map (told_of_union (e.store).texts e.places) us) k (omega arith)
       ∙ mapped_at (told_of_union (e.store).texts e.places) us k refl
+
+  -- whether that was lost because there were too many
+  pub large_low : (id : QueryId) → id.at < QUERIES
+      → is_told_large (store_seen e us order sessions affected) id ≡ is_told_large e id
+  large_low id low = let sized = b.sized in let few = b.few in
+      ap (λ (o : Option Bool). unwrap_or o false) (places_low e.large (map large_of_union us) id.at (omega arith) low)
+
+  pub large_high : (id : QueryId) (k : ℕ) → id.at ≡ QUERIES + k
+      → is_told_large (store_seen e us order sessions affected) id
+      ≡ unwrap_or (large_of_union (joined_at us k)) false
+  large_high id k is = let sized = b.sized in let few = b.few in
+      ap (λ (o : Option Bool). unwrap_or o false)
+      (ap (λ i. get_or (store_seen e us order sessions affected).large i None) is
+      ∙ places_high e.large (map large_of_union us) k (omega arith)
+      ∙ mapped_at large_of_union us k refl)
 
 -- ---- A union is found by its name in its slot.
 

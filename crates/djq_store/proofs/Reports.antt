@@ -15,7 +15,7 @@ use Rattle.djq_model.specs.Data.{Tuple, Bytes}
 use Rattle.djq_model.specs.Listed.{a_query, AnswersOf}
 use Rattle.djq_protocol.specs.declared.answer.Sign.{Sign}
 use Rattle.djq_protocol.specs.declared.limits.TheConstants.{QUERIES}
-use Rattle.djq_enumeration.specs.declared.log.Line.{Line}
+use Rattle.djq_enumeration.specs.Log.{Line}
 use Rattle.djq_enumeration.specs.Log.{Log}
 use Rattle.djq_store_spec.specs.Delta.{Change, IsDelta}
 use Rattle.djq_store_spec.specs.Stale.{reads}

@@ -23,7 +23,7 @@ use Rattle.djq_engine.proofs.QueryPlaces.{here, behind, map_members}
 use Rattle.djq_store.specs.declared.joined.Joined.{Joined}
 use Rattle.djq_store.specs.Counting.{HasWatchers, with_watchers_at}
 use Rattle.djq_store.specs.Places.{joined_at, listed_in, listed_at, union_watchers, sessions_at, registered_as}
-use Rattle.djq_store.specs.Places.{union_cursors_in, union_cursors_from, told_of_union, lender_in, in_places}
+use Rattle.djq_store.specs.Places.{union_cursors_in, union_cursors_from, told_of_union, large_of_union, lender_in, in_places}
 use Rattle.djq_store.specs.Places.{cursors_in, store_seen}
 use Rattle.djq_store.specs.Whole.{IsListed, IsCounted, IsShownByFirst, wants}
 use Rattle.djq_store.proofs.UnionSlots.{set_all}
@@ -340,6 +340,10 @@ module _ (e : Kept) (us : List (Option Joined)) (order sessions affected : List 
   told_same = map_each (told_of_union (e.store).texts e.places) (told_of_union (e.store).texts e.places) us heard_in
       (length-set us k (Some heard)) (set_reads (told_of_union (e.store).texts e.places) us k j heard there refl)
 
+  large_same : map large_of_union heard_in ≡ map large_of_union us
+  large_same = map_each large_of_union large_of_union us heard_in (length-set us k (Some heard))
+      (set_reads large_of_union us k j heard there refl)
+
   lenders_same : map (lender_in e.places) heard_in ≡ map (lender_in e.places) us
   lenders_same = map_each (lender_in e.places) (lender_in e.places) us heard_in (length-set us k (Some heard))
       (set_reads (lender_in e.places) us k j heard there refl)
@@ -368,22 +372,27 @@ module _ (e : Kept) (us : List (Option Joined)) (order sessions affected : List 
       ap₂ (λ (qs : List Listed) (hs : List HeldCursor). made qs hs (map (registered_as e.places heard_in sessions)
       order)
       (in_places e.told (map (told_of_union (e.store).texts e.places) heard_in))
+      (in_places e.large (map large_of_union heard_in))
       (in_places e.places (map (lender_in e.places) heard_in)))
       (queries_same order) (ap (λ hs. e.cursors ++ hs) (held_same QUERIES us k there))
       ∙ ap₂ (λ (rs : List Registered) (told : List (Option (List Change))). made (map (listed_at e.places us) order)
-      (cursors_in e us) rs told (in_places e.places (map (lender_in e.places) heard_in)))
+      (cursors_in e us) rs told (in_places e.large (map large_of_union heard_in))
+      (in_places e.places (map (lender_in e.places) heard_in)))
       (registered_with f is order w.once among) (ap (in_places e.told) told_same)
-      ∙ ap (λ (ps : List (Option Live)). made (map (listed_at e.places us) order) (cursors_in e us)
+      ∙ ap₂ (λ (large : List (Option Bool)) (ps : List (Option Live)). made (map (listed_at e.places us) order) (cursors_in e us)
       (with_watchers (id_at (QUERIES + k)) f (map (registered_as e.places us sessions) order))
-      (in_places e.told (map (told_of_union (e.store).texts e.places) us)) ps) (ap (in_places e.places) lenders_same)
+      (in_places e.told (map (told_of_union (e.store).texts e.places) us)) large ps)
+      (ap (in_places e.large) large_same) (ap (in_places e.places) lenders_same)
     where
-      made : List Listed → List HeldCursor → List Registered → List (Option (List Change)) → List (Option Live) → Kept
-      made qs hs rs told ps = record {
+      made : List Listed → List HeldCursor → List Registered → List (Option (List Change)) → List (Option Bool)
+          → List (Option Live) → Kept
+      made qs hs rs told large ps = record {
         store = record e.store { queries = qs };
         cursors = hs;
         registered = rs;
         affected = map id_at affected;
         told = told;
+        large = large;
         places = ps;
       }
 

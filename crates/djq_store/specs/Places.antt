@@ -9,7 +9,7 @@ use Rattle.djq_live_query.specs.Live.{Live}
 use Rattle.djq_live_query.specs.Member.{query_at}
 use Rattle.djq_engine.specs.declared.cursor.CursorId.{CursorId}
 use Rattle.djq_engine.specs.Kept.{HeldCursor, Registered, Kept}
-use Rattle.djq_engine.specs.Places.{no_query, query_in, id_at, told_of}
+use Rattle.djq_engine.specs.Places.{no_query, query_in, id_at, told_of, was_too_large}
 use Rattle.djq_united.specs.Slots.{UnionProgress, slot_at}
 use Rattle.djq_united.specs.United.{United, members_in, first_of_members, union_of, union_position}
 use Rattle.djq_store.specs.declared.joined.Joined.{Joined}
@@ -95,6 +95,11 @@ abbrev pub told_of_union : List Bytes → List (Option Live) → Option Joined �
 told_of_union texts gs None = None
 told_of_union texts gs (Some j) = told_of texts (first_member gs j.union) j.log
 
+-- whether it was lost because there were too many lines
+abbrev pub large_of_union : Option Joined → Option Bool
+large_of_union None = None
+large_of_union (Some j) = Some (was_too_large j.log)
+
 -- by whom an answer of the union in a slot is lent
 abbrev pub lender_in : List (Option Live) → Option Joined → Option Live
 lender_in gs None = None
@@ -113,6 +118,7 @@ store_seen e us order sessions affected = record {
   registered = map (registered_as e.places us sessions) order;
   affected = map id_at affected;
   told = in_places e.told (map (told_of_union (e.store).texts e.places) us);
+  large = in_places e.large (map large_of_union us);
   places = in_places e.places (map (lender_in e.places) us);
 }
 

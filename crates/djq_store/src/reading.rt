@@ -167,7 +167,7 @@ impl Store {
     }
 
     /// Lends an answer that an open cursor gave, as long as no row changes.
-    pub fn answer<'a>(&'a self, id: CursorId, answer: &'a Answer) -> LentAnswer<'a>
+    pub fn answer<'a>(&'a self, id: CursorId, answer: &'a [u64]) -> LentAnswer<'a>
         requires { IsShown self.now id answer.now }
         ensures { AnswerIs self.now id answer.now result }
     {

@@ -1,12 +1,11 @@
 //! What the last change affected, and how the answers of queries and unions changed.
-ghost use Rattle.std.specs.Prelude.{◌≡◌, ◌<◌, None, Some, IsSomeAnd, if◌then◌else◌, option_map, length, slice_get};
-ghost use Rattle.djq_engine.specs.Kept.{IsRegistered, told_at};
+ghost use Rattle.std.specs.Prelude.{◌≡◌, ◌<◌, None, Some, false, IsSomeAnd, if◌then◌else◌, option_map, length, slice_get};
+ghost use Rattle.djq_engine.specs.Kept.{IsRegistered, is_told_large, told_at};
 
 use crate::finding::joined_in;
 use crate::joined::Joined;
 use crate::store::Store;
 use djq_engine::{CursorId, LentAnswer, QueryId, sign_of};
-use djq_enumeration::Line;
 use djq_protocol::Sign;
 use djq_protocol::limits::QUERIES;
 
@@ -17,15 +16,25 @@ fn told_len(joined: &Joined) -> Option<usize>
     if joined.log.lost() {
         return None;
     }
-    Some(joined.log.lines().len())
+    Some(joined.log.len())
+}
+
+/// Whether it was lost because there were too many.
+fn told_large(joined: &Joined) -> bool
+    ensures { result ≡ (if joined.now.log.lost then joined.now.log.large else false) }
+{
+    if joined.log.lost() {
+        return joined.log.is_large();
+    }
+    false
 }
 
 /// One of them.
-fn told_line(joined: &Joined, nth: usize) -> &Line
+fn told_line(joined: &Joined, nth: usize) -> (bool, &[u64])
     requires { nth < length joined.now.log.lines }
-    ensures { slice_get joined.now.log.lines nth ≡ Some result.now }
+    ensures { slice_get joined.now.log.lines nth ≡ Some (record { came = result.0; answer = result.1.now }) }
 {
-    &joined.log.lines()[nth]
+    joined.log.line(nth)
 }
 
 impl Store {
@@ -60,7 +69,19 @@ impl Store {
         told_len(joined_in(self.parts.unions.as_slice(), id.at - QUERIES))
     }
 
-    /// One of them: whether it was added or removed, and the answer, lent.
+    /// Whether that was lost because too many answers came or went.
+    pub fn delta_is_large(&self, id: QueryId) -> bool
+        requires { IsRegistered self.now id }
+        ensures { result ≡ is_told_large self.now id }
+    {
+        self.parts.engine.laws();
+        if id.at < QUERIES {
+            return self.parts.engine.delta_is_large(id);
+        }
+        told_large(joined_in(self.parts.unions.as_slice(), id.at - QUERIES))
+    }
+
+    /// One of them: whether it came or went, and the answer, lent.
     pub fn delta_line(&self, id: QueryId, nth: usize) -> (Sign, LentAnswer<'_>)
         requires registered { IsRegistered self.now id }
         requires within { IsSomeAnd (told_at self.now id) (λ changes. nth < length changes) }
@@ -72,7 +93,7 @@ impl Store {
             return self.parts.engine.delta_line(id, nth);
         }
         let joined = joined_in(self.parts.unions.as_slice(), id.at - QUERIES);
-        let line = told_line(joined, nth);
+        let (came, answer) = told_line(joined, nth);
         let first = QueryId {
             at: joined.union.members()[0],
         };
@@ -81,8 +102,8 @@ impl Store {
             cursor: 0,
         };
         (
-            sign_of(line.came),
-            self.parts.engine.answer(shown, &line.answer),
+            sign_of(came),
+            self.parts.engine.answer(shown, answer),
         )
     }
 }

@@ -15,7 +15,7 @@ returns-then-sign-came c =
     let lines : List SignedLine = c.args.delta.now.lines in
     let got : SignedLine = signed c.line-sign.result.0 c.line-sign.result.1.now in
     let want : SignedLine = signed c.args.came c.args.cells.now in
-    let at : get_or lines c.args.index want ≡ got = get_or_default lines c.args.index want got c.requires ∙ c.line-sign.ensures.line in
+    let at : get_or lines c.args.index want ≡ got = get_or_default lines c.args.index want got c.requires ∙ c.line-sign.ensures in
     let sign : c.line-sign.result.0 ≡ c.args.came = (booleans_Decides c.line-sign.result.0 c.args.came).0 c.if-sign-came.true in
     let same : Decides (bytes_eq c.line-sign.result.1.now c.args.cells.now) (c.line-sign.result.1.now ≡ c.args.cells.now) =
     bytes_eq-Decides c.line-sign.result.1.now c.args.cells.now in (

@@ -10,6 +10,6 @@ use Rattle.djq_delta.proofs.settle.sort_by_cells.Goals as goal
 -- the closure compares by the cells, and its captures stay as they are
 pub returns-clause-sorted : goal.returns-clause-sorted
 returns-clause-sorted c =
-    let key = λ (p : Place). take c.args.width (drop p.at c.args.cells.now) in
+    let key = λ (p : Place). take p.len (drop p.at c.args.cells.now) in
     c.sort_unstable_by.ensures.sorted (λ x y. is_lt (slice_cmp nat_cmp (key x) (key y))) (ranks_by nat_list_cmp_total key)
     (always_returns_same _ _ _ (λ a r q k. search rules))

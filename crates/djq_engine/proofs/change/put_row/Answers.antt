@@ -6,9 +6,8 @@ use Rattle.djq_model.specs.Data.{with_row}
 use Rattle.djq_database.specs.Catalog.{no_relation, relation_at, counted_at}
 use Rattle.djq_database.specs.Changes.{given_cells}
 use Rattle.djq_live_query.specs.Live.{Live}
-use Rattle.djq_live_query.specs.Updating.{change_of}
 use Rattle.djq_reach.specs.Places.{is_reader, log_at, place_at, readers_at, watched_at}
-use Rattle.djq_engine.specs.Changing.{CountsRows, IsDeltaWith}
+use Rattle.djq_engine.specs.Changing.{CountsRows, TellsWith}
 use Rattle.djq_engine.proofs.Logs.{shown_more}
 use Rattle.djq_engine.proofs.Catalogs.{sound_texts}
 use Rattle.djq_leaves.proofs.Fills.{fits_long}
@@ -137,9 +136,9 @@ returns-clause-tells g c =
     if_came c.put_cells.result
     (λ tells. subst (λ (rs : List Relation). (i : ℕ) (l : Live)
     → is_reader (readers_at old.readers.items c.args.id.at) i ≡ true → watched_at old.watchers.items i ≡ true
-    → place_at old.queries.items i ≡ Some l → (log_at c.put_cells.new.parts.logs.items i).lost ≡ false
-    → IsDeltaWith c.args.id.at (with_row (counted_at rs c.args.id.at) c.args.row.now) rs l
-    (map (change_of c.put_cells.new.parts.catalog.texts l) (log_at c.put_cells.new.parts.logs.items i).lines))
+    → place_at old.queries.items i ≡ Some l
+    → TellsWith c.args.id.at (with_row (counted_at rs c.args.id.at) c.args.row.now) rs
+    c.put_cells.new.parts.catalog.texts l (log_at c.put_cells.new.parts.logs.items i))
     c.intern_cells.ensures.relations
     (tells c.args.row.now
     (same_stand old.catalog c.intern_cells.new.self c.args.id.at c.as_slice.result.now c.args.row.now

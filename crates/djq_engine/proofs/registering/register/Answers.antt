@@ -74,7 +74,13 @@ returns-in-Ok-join_readers-clause-ok c =
       empty = subst (λ (x : Log). IsEmpty x)
           (sym (get_or-set_same ls at c.clear.new.self no_log
           (omega (arith, c.in-Ok.ensures.place, c.in-Ok.ensures.logged))))
-          (record { lines = c.clear.ensures.lines; kept = c.clear.ensures.kept });
+          (record {
+            lines = c.clear.ensures.lines;
+            pushed = c.clear.ensures.pushed;
+            kept = c.clear.ensures.kept;
+            small = c.clear.ensures.small;
+            capacity = c.clear.ensures.capacity;
+          });
       logs = logs_cleared c.args.parts.now.queries.items c.args.parts.now.logs.items ls at c.clear.new.self
           (sym (c.in-Ok.ensures.same at) ∙ c.in-Ok.ensures.vacant) c.in-Ok.ensures.logs;
       affected = c.reserve.ensures.items;

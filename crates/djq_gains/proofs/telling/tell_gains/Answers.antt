@@ -3,7 +3,7 @@ use Rattle.std.proofs.Common.{◌≡◌, List, Option, All, length, sum_by, sym,
 use Rattle.std.specs.Prelude.{Contains, slice_get}
 use Rattle.std.proofs.lemmas.List.Elements.{All-contains}
 use Rattle.djq_store_spec.specs.Registering.{atoms_of}
-use Rattle.djq_enumeration.specs.declared.log.Line.{Line}
+use Rattle.djq_enumeration.specs.Log.{Line}
 use Rattle.djq_live_query.specs.Live.{Live, IsKeptSomewhere}
 use Rattle.djq_live_query.specs.Member.{queries_at}
 use Rattle.djq_gains.specs.Gains.{TellUnion, members_at, count_in}

@@ -1,4 +1,6 @@
 -- Leaves from the index on hold what they held, so their tuples are new; a refused leaf keeps all tables.
+use Rattle.std.proofs.Common.{rules}
+use Rattle.djq_leaves.proofs.LeafUpdates.{lists_none}
 use Rattle.std.proofs.Common.{true, ◌+◌, ◌<◌, length, ℕ, refl, sym, subst, ◌∙◌}
 use Rattle.djq_leaves.specs.Batching.{batch_tuples, GainsTuples}
 use Rattle.djq_leaves.specs.Stepping.{atoms_below}
@@ -174,3 +176,15 @@ returns-clause-gained g c =
     below_at (λ us old new. GainsTuples us old new) c.args.relation c.args.atoms.now
     (batch_tuples c.args.rows.now c.args.batch.now) c.leaves.leaf (length c.args.atoms.now) c.args.reducts.now
     c.leaves.reducts c.leaves.auto.leaf-end c.leaves-test.false c.leaves.invariant.changed
+
+pub leaves-init : goal.leaves-init
+leaves-init g c = record {
+  changed = search rules;
+  more = search rules;
+  listed = lists_none c.args.wanted true c.args.reducts.now (length c.args.reducts.now.tree.head)
+      0 c.args.log.now c.args.steps.now.listing;
+  grows = search rules;
+  updates = search rules;
+  flat = search rules;
+  rows = search rules;
+}

@@ -1,4 +1,6 @@
 -- Leaves from the index on still have their tuples, and what goes with each stands in the log behind the last.
+use Rattle.std.proofs.Common.{rules}
+use Rattle.djq_leaves.proofs.LeafUpdates.{lists_none}
 use Rattle.std.proofs.Common.{false, ◌+◌, ◌<◌, length, ℕ, sym, subst, ◌∙◌}
 use Rattle.djq_tree.specs.Tree.{Tree}
 use Rattle.djq_leaves.specs.Changes.{LosesAll}
@@ -113,3 +115,13 @@ returns-clause-lost g c =
     below_at (λ p old new. LosesAll p c.args.rows.now old new) c.args.relation c.args.atoms.now c.args.patterns.now
     c.leaves.leaf (length c.args.atoms.now) c.args.reducts.now c.leaves.reducts c.leaves.auto.leaf-end
     c.leaves-test.false c.leaves.invariant.changed
+
+pub leaves-init : goal.leaves-init
+leaves-init g c = record {
+  changed = search rules;
+  more = search rules;
+  listed = lists_none c.args.wanted false c.args.reducts.now (length c.args.reducts.now.tree.head)
+      0 c.args.log.now c.args.steps.now.listing;
+  updates = search rules;
+  rows = search rules;
+}

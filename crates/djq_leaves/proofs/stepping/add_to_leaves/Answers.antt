@@ -1,4 +1,6 @@
 -- Leaves from the index on hold what they held, so they lack the tuple and have room; a refusal keeps all.
+use Rattle.std.proofs.Common.{rules}
+use Rattle.djq_leaves.proofs.LeafUpdates.{lists_none}
 use Rattle.std.proofs.Common.{true, ◌+◌, ◌<◌, length, ℕ, [], ◌∷◌, sym, subst, ◌∙◌}
 use Rattle.djq_leaves.specs.Changes.{GainsTuple}
 use Rattle.djq_leaves.specs.Stepping.{LacksCells, atoms_below}
@@ -188,3 +190,14 @@ returns-clause-gained g c =
     below_at (λ p old new. GainsTuple p c.args.cells.now old new) c.args.relation c.args.atoms.now
     c.args.patterns.now c.leaves.leaf (length c.args.atoms.now) c.args.reducts.now c.leaves.reducts
     c.leaves.auto.leaf-end c.leaves-test.false c.leaves.invariant.changed
+
+pub leaves-init : goal.leaves-init
+leaves-init g c = record {
+  changed = search rules;
+  more = search rules;
+  listed = lists_none c.args.wanted true c.args.reducts.now (length c.args.reducts.now.tree.head)
+      0 c.args.log.now c.args.steps.now.listing;
+  grows = search rules;
+  updates = search rules;
+  rows = search rules;
+}

@@ -1,5 +1,7 @@
 -- Each answer told leaves fewer to tell; the log tells what the cursor has told, at its end all that changed.
-use Rattle.std.proofs.Common.{sym, subst, ◌∙◌, List, ℕ, length, []}
+use Rattle.std.proofs.lemmas.Bool.{false≢true}
+use Rattle.djq_enumeration.specs.Log.{Log}
+use Rattle.std.proofs.Common.{ap, sym, subst, ◌∙◌, List, ℕ, length, []}
 use Rattle.std.specs.Prelude.{◌∷◌}
 use Rattle.djq_store_spec.specs.Registering.{most_steps}
 use Rattle.djq_enumeration.specs.Listing.{ListsTuples, AreSome}
@@ -14,7 +16,7 @@ pub answers-smaller : goal.answers-smaller
 answers-smaller g c = told_fewer c.args.reducts.now c.args.leaf
     (told_so_far c.args.reducts.now c.answers.cursor) (told_so_far c.args.reducts.now c.step.new.self)
     (c.step.new.self.cursor).answer c.laws.ensures.sound c.requires.leaf c.requires.marks
-    c.answers-test.ensures.one
+    c.if-step.ensures.one
     (subst (λ (a : ℕ). AreSome (IsChanged c.args.reducts.now a) (told_so_far c.args.reducts.now
     c.step.new.self))
     c.answers.invariant.leaf c.step.ensures.answers)
@@ -23,31 +25,21 @@ pub answers-preserved : goal.answers-preserved
 answers-preserved g c = record {
   leaf = c.step.ensures.leaf ∙ c.answers.invariant.leaf;
   fits = c.step.ensures.fits;
+  some = subst (λ (a : ℕ). AreSome (IsChanged c.args.reducts.now a) (told_so_far c.args.reducts.now
+      c.step.new.self)) c.answers.invariant.leaf c.step.ensures.answers;
   tells = subst (λ (us : List (List ℕ)). LogTellsOf c.args.came us c.args.log.now c.push.new.self)
-      (sym c.answers-test.ensures.one)
+      (sym c.if-step.ensures.one)
       (tells_both c.args.came (told_so_far c.args.reducts.now c.answers.cursor)
       ((c.step.new.self.cursor).answer ∷ []) c.args.log.now c.answers.log c.push.new.self
       c.answers.invariant.tells
-      (tells_one c.args.came (c.step.new.self.cursor).answer c.answers.log c.push.new.self c.push.ensures.kept
-      c.push.ensures.lost));
+      (tells_one c.args.came (c.step.new.self.cursor).answer c.answers.log c.push.new.self
+      (sym c.lost.ensures.lost ∙ c.answers-test.true) c.push.ensures.kept
+      c.push.ensures.counted c.push.ensures.large c.push.ensures.room));
+  rests = λ lost. absurd (false≢true (sym (sym c.lost.ensures.lost ∙ c.answers-test.true)
+      ∙ ap (λ (l : Log). l.lost) (c.answers.invariant.tells.stays lost).0 ∙ lost));
   counted = counts_more c.args.listing.now c.answers.listing c.step.new.listing
       (told_so_far c.args.reducts.now c.answers.cursor) (told_so_far c.args.reducts.now c.step.new.self)
       (c.step.new.self.cursor).answer (most_steps (length c.args.reducts.now.tree.head))
-      c.answers-test.ensures.one c.answers.invariant.counted c.step.ensures.counted;
+      c.if-step.ensures.one c.answers.invariant.counted c.step.ensures.counted;
 }
 
-pub returns : goal.returns
-returns g c = λ small sound without. record {
-  answers = told_so_far c.args.reducts.now c.answers.cursor;
-  listing = listing_as (IsChanged c.args.reducts.now c.args.leaf)
-      (IsGained c.args.reducts.now small) (told_so_far c.args.reducts.now c.answers.cursor)
-      (c.changes_are.ensures small sound without)
-      (subst (λ (a : ℕ). ListsTuples (IsChanged c.args.reducts.now a)
-      (told_so_far c.args.reducts.now c.answers.cursor)) c.answers.invariant.leaf
-      (c.step.ensures.end.0 c.answers-test.false));
-  tells = c.answers.invariant.tells;
-  counted = counts_one c.args.listing.now c.answers.listing c.step.new.listing
-      (length (told_so_far c.args.reducts.now c.answers.cursor))
-      (most_steps (length c.args.reducts.now.tree.head))
-      c.answers.invariant.counted c.step.ensures.counted;
-}

@@ -1,5 +1,7 @@
-use Rattle.std.proofs.Common.{◌≡◌, ◌+◌, ◌-◌, ◌*◌, ◌≤◌, length}
+use Rattle.std.proofs.Common.{◌≡◌, ◌+◌, ◌-◌, ◌*◌, ◌≤◌, length, true}
 use Rattle.djq_store_spec.specs.Registering.{most_steps}
+use Rattle.djq_enumeration.specs.Changed.{IsChanged}
+use Rattle.djq_enumeration.specs.Listing.{AreSome}
 use Rattle.djq_enumeration.specs.Walk.{all_given}
 use Rattle.djq_enumeration.specs.Told.{changed_at, root_marked, told_so_far, DeltaFits}
 use Rattle.djq_leaves.specs.Stepping.{LogTellsOf}
@@ -9,7 +11,9 @@ abbrev pub invariant-answers : goal.invariant-answers
 invariant-answers g l = record {
   leaf : l.cursor.leaf ≡ l.leaf;
   fits : DeltaFits l.reducts l.cursor;
+  some : AreSome (IsChanged l.reducts l.leaf) (told_so_far l.reducts l.cursor);
   tells : LogTellsOf l.came (told_so_far l.reducts l.cursor) l.fn.log l.log;
+  rests : l.fn.log.lost ≡ true → l.listing ≡ l.fn.listing;
   counted : l.listing ≤ l.fn.listing
       + length (told_so_far l.reducts l.cursor) * most_steps (length l.reducts.tree.head);
 }

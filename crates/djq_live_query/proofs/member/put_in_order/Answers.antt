@@ -9,20 +9,18 @@ use Rattle.djq_live_query.proofs.member.put_in_order.Goals as goal
 pub loop-variable-init : goal.loop-variable-init
 loop-variable-init c = c.clear.ensures
 
-pub offset_bounds-as_slice-column : goal.offset_bounds-as_slice-column
-offset_bounds-as_slice-column c =
+pub offset_bounds-answer-column : goal.offset_bounds-answer-column
+offset_bounds-answer-column c =
     let inside = in_answer c.args.reducts.now.tree.head c.args.head.now c.args.answer.now
     c.loop-variable.variable-index c.requires.wide c.requires.within c.loop-variable-test.true in
-    let long = ap (λ (l : List ℕ). length l) c.as_slice.ensures in
     let is = c.column.ensures in
-    let below : c.column.result < length c.as_slice.result.now = omega arith in
+    let below : c.column.result < length c.args.answer.now = omega arith in
     search rules
 
-pub bounds-as_slice-column : goal.bounds-as_slice-column
-bounds-as_slice-column c =
+pub bounds-answer-column : goal.bounds-answer-column
+bounds-answer-column c =
     let inside = in_answer c.args.reducts.now.tree.head c.args.head.now c.args.answer.now
     c.loop-variable.variable-index c.requires.wide c.requires.within c.loop-variable-test.true in
-    let long = ap (λ (l : List ℕ). length l) c.as_slice.ensures in
     let is = c.column.ensures in
     omega arith
 
@@ -39,7 +37,7 @@ pub loop-variable-preserved : goal.loop-variable-preserved
 loop-variable-preserved c =
     c.push.ensures
     ∙ ap₂ (λ (cells : List ℕ) (cell : ℕ). cells ++ cell ∷ []) c.loop-variable.invariant
-    (ap₂ (λ (cells : List ℕ) (at : ℕ). slice_index cells at) c.as_slice.ensures c.column.ensures)
+    (ap (λ (at : ℕ). slice_index c.args.answer.now at) c.column.ensures)
     ∙ ordered_more (cell_of_variable c.args.reducts.now.tree.head c.args.answer.now) c.args.head.now
     c.loop-variable.variable-index c.loop-variable-test.true
 

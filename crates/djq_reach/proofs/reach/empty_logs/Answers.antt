@@ -17,4 +17,10 @@ loop-nth-preserved c =
     empties_next c.args.places.now c.loop-nth.nth 0 (slice_index_or c.args.places.now c.loop-nth.nth 0)
     c.args.logs.now.items c.loop-nth.logs.items c.clear.new.self
     c.loop-nth-test.true refl (omega (arith, there, c.loop-nth.invariant.long)) c.loop-nth.invariant
-    (record { lines = c.clear.ensures.lines; kept = c.clear.ensures.kept })
+    (record {
+      lines = c.clear.ensures.lines;
+      pushed = c.clear.ensures.pushed;
+      kept = c.clear.ensures.kept;
+      small = c.clear.ensures.small;
+      capacity = c.clear.ensures.capacity;
+    })

@@ -23,8 +23,8 @@ index-requires c =
     let t = query_kept_there p c.self.invariant.0 c.args.id registered in
     omega (arith, below_queries p c.self.invariant.0 c.args.id t, c.self.invariant.1.logged)
 
-pub line_at-line-requires : goal.line_at-line-requires
-line_at-line-requires c =
+pub line-came-requires : goal.line-came-requires
+line-came-requires c =
     let p = c.self.inside.parts in
     let registered = subst (λ (k : Kept). IsRegistered k c.args.id) (sym c.self.view_is) c.requires.registered in
     let within = subst (λ (k : Kept). IsSomeAnd (told_at k c.args.id) (λ changes. c.args.nth < length changes))
@@ -75,8 +75,8 @@ put_in_head-requires-clause-wide c =
     (arith, below_queries p c.self.invariant.0 c.args.id k, c.self.invariant.1.logged) in
     let is = log_read p.logs.items c.args.id.at c.index.result.now low c.index.ensures in
     let l = line_there p c.self.invariant.0 c.args.id k c.args.nth within in
-    (all_got (λ x. IsShowable p.catalog.texts c.in-Some.live x.answer) _ c.args.nth c.line_at-line.result.now
-    (ap (λ (x : Log). slice_get x.lines c.args.nth) (sym is) ∙ c.line_at-line.ensures)
+    (all_got (λ x. IsShowable p.catalog.texts c.in-Some.live x.answer) _ c.args.nth (record { came = c.line-came.result.0; answer = c.line-came.result.1.now })
+    (ap (λ (x : Log). slice_get x.lines c.args.nth) (sym is) ∙ c.line-came.ensures)
     (c.self.invariant.1.shown c.args.id.at c.in-Some.live there l.0)).wide
 
 pub returns : goal.returns
@@ -93,16 +93,16 @@ returns c =
     (arith, below_queries p c.self.invariant.0 c.args.id k, c.self.invariant.1.logged) in
     let is = log_read p.logs.items c.args.id.at c.index.result.now low c.index.ensures in
     let l = line_there p c.self.invariant.0 c.args.id k c.args.nth within in
-    let got = ap (λ (x : Log). slice_get x.lines c.args.nth) (sym is) ∙ c.line_at-line.ensures in
-    let shown = all_got (λ x. IsShowable p.catalog.texts c.in-Some.live x.answer) _ c.args.nth c.line_at-line.result.now
+    let got = ap (λ (x : Log). slice_get x.lines c.args.nth) (sym is) ∙ c.line-came.ensures in
+    let shown = all_got (λ x. IsShowable p.catalog.texts c.in-Some.live x.answer) _ c.args.nth (record { came = c.line-came.result.0; answer = c.line-came.result.1.now })
     got
     (c.self.invariant.1.shown c.args.id.at c.in-Some.live there l.0) in
     rw (← c.self.view_is) (subst (λ (o : Option Live). IsSomeAnd o (λ m. IsSomeAnd (told_at (kept_in p) c.args.id)
-    (λ changes. IsSomeAnd (slice_get changes c.args.nth) (λ x. (sign_of c.line_at-line.result.now.came ≡ x.sign)
+    (λ changes. IsSomeAnd (slice_get changes c.args.nth) (λ x. (sign_of c.line-came.result.0 ≡ x.sign)
     × StandFor p.catalog.texts (head_types m) c.put_in_head.new.cells x.answer)))) (sym there)
-    (line_is p c.self.invariant.0 c.args.id t c.args.nth c.line_at-line.result.now _ l.0 got (
+    (line_is p c.self.invariant.0 c.args.id t c.args.nth (record { came = c.line-came.result.0; answer = c.line-came.result.1.now }) _ l.0 got (
       refl,
       subst (λ (cells : List ℕ). StandFor p.catalog.texts (head_types c.in-Some.live) cells
-          (values_of p.catalog.texts c.in-Some.live c.line_at-line.result.now.answer)) (sym c.put_in_head.ensures)
-          (showable_cells_stand p.catalog.texts c.in-Some.live c.line_at-line.result.now.answer shown),
+          (values_of p.catalog.texts c.in-Some.live c.line-came.result.1.now)) (sym c.put_in_head.ensures)
+          (showable_cells_stand p.catalog.texts c.in-Some.live c.line-came.result.1.now shown),
     )))

@@ -1,6 +1,5 @@
 -- By the invariant a registered query has a place and a log; what is told of it are the lines of that log.
-use Rattle.std.proofs.Common.{◌<◌, ◌∙◌, ap, arith, length, sym, List, subst}
-use Rattle.djq_enumeration.specs.declared.log.Line.{Line}
+use Rattle.std.proofs.Common.{◌<◌, ◌∙◌, ap, arith, length, sym, subst}
 use Rattle.djq_enumeration.specs.Log.{Log}
 use Rattle.djq_engine.proofs.RegisteredQueries.{below_queries, long_lines, long_lost, query_kept_there}
 use Rattle.djq_reach.proofs.Logs.{log_read}
@@ -33,6 +32,6 @@ returns c =
     let low : c.args.id.at < length p.logs.items = omega
     (arith, below_queries p c.self.invariant.0 c.args.id t, c.self.invariant.1.logged) in
     let is = log_read p.logs.items c.args.id.at c.index-log.result.now low c.index-log.ensures in
-    rw (← c.self.view_is) (long_lines p c.self.invariant.0 c.args.id t (length c.lines.result.now)
-    (ap (λ (xs : List Line). length xs) c.lines.ensures ∙ ap (λ (x : Log). length x.lines) is)
+    rw (← c.self.view_is) (long_lines p c.self.invariant.0 c.args.id t c.len.result
+    (c.len.ensures ∙ ap (λ (x : Log). length x.lines) is)
     (ap (λ (x : Log). x.lost) (sym is) ∙ sym c.if-lost.ensures.lost))

@@ -18,8 +18,8 @@ index-requires c =
     let t = query_kept_there p c.self.invariant.0 c.args.id registered in
     omega (arith, below_queries p c.self.invariant.0 c.args.id t, c.self.invariant.1.logged)
 
-pub line_at-line-requires : goal.line_at-line-requires
-line_at-line-requires c =
+pub line-came-requires : goal.line-came-requires
+line-came-requires c =
     let p = c.self.inside.parts in
     let registered = subst (λ (k : Kept). IsRegistered k c.args.id) (sym c.self.view_is) c.requires.registered in
     let within = subst (λ (k : Kept). IsSomeAnd (told_at k c.args.id) (λ changes. c.args.nth < length changes))
@@ -76,8 +76,8 @@ new-requires-clause-showable c =
     (arith, below_queries p c.self.invariant.0 c.args.id k, c.self.invariant.1.logged) in
     let is = log_read p.logs.items c.args.id.at c.index.result.now low c.index.ensures in
     let l = line_there p c.self.invariant.0 c.args.id k c.args.nth within in
-    all_got (λ x. IsShowable p.catalog.texts c.in-Some.live x.answer) _ c.args.nth c.line_at-line.result.now
-    (ap (λ (x : Log). slice_get x.lines c.args.nth) (sym is) ∙ c.line_at-line.ensures)
+    all_got (λ x. IsShowable p.catalog.texts c.in-Some.live x.answer) _ c.args.nth (record { came = c.line-came.result.0; answer = c.line-came.result.1.now })
+    (ap (λ (x : Log). slice_get x.lines c.args.nth) (sym is) ∙ c.line-came.ensures)
     (c.self.invariant.1.shown c.args.id.at c.in-Some.live t.is l.0)
 
 pub returns : goal.returns
@@ -96,6 +96,6 @@ returns c =
     (arith, below_queries p c.self.invariant.0 c.args.id k, c.self.invariant.1.logged) in
     let is = log_read p.logs.items c.args.id.at c.index.result.now low c.index.ensures in
     let l = line_there p c.self.invariant.0 c.args.id k c.args.nth within in
-    rw (← c.self.view_is) (line_is p c.self.invariant.0 c.args.id t c.args.nth c.line_at-line.result.now _ l.0
-    (ap (λ (x : Log). slice_get x.lines c.args.nth) (sym is) ∙ c.line_at-line.ensures)
+    rw (← c.self.view_is) (line_is p c.self.invariant.0 c.args.id t c.args.nth (record { came = c.line-came.result.0; answer = c.line-came.result.1.now }) _ l.0
+    (ap (λ (x : Log). slice_get x.lines c.args.nth) (sym is) ∙ c.line-came.ensures)
     (c.sign_of.ensures, c.new.ensures))

@@ -78,7 +78,7 @@ returns-then-done-atoms-clause-log g c =
     (length c.atoms-atoms.result.now) c.self.inside.reducts c.add_to_leaves-done.new.reducts
     (let e = c.if-done-atoms.true in omega arith) (let e = c.if-done-atoms.true in omega arith)
     c.add_to_leaves-done.ensures.gained)
-    c.add_to_leaves-done.ensures.listed)
+    c.add_to_leaves-done.ensures.listed c.laws.ensures)
 
 pub returns-then-done-atoms-clause-counted : goal.returns-then-done-atoms-clause-counted
 returns-then-done-atoms-clause-counted g c =

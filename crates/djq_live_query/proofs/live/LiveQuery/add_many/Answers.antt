@@ -92,7 +92,7 @@ returns-then-done-atoms-clause-log g c =
     c.args.log.now c.add_all_to_leaves-done.new.log c.args.steps.now.listing
     c.add_all_to_leaves-done.new.steps.listing c.self.view_is c.atoms-atoms.ensures
     c.as_slice-patterns.ensures.value c.add_all_to_leaves-done.ensures.more all
-    c.add_all_to_leaves-done.ensures.listed
+    c.add_all_to_leaves-done.ensures.listed c.laws.ensures
 
 pub returns-then-done-atoms-clause-counted : goal.returns-then-done-atoms-clause-counted
 returns-then-done-atoms-clause-counted g c =

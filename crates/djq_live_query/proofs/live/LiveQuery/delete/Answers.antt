@@ -61,7 +61,7 @@ returns-clause-log g c =
     (length c.self.inside.reducts.tree.head) _ c.args.log.now c.delete_from_leaves.new.log
     c.args.steps.now.listing c.delete_from_leaves.new.steps.listing c.self.view_is
     c.atoms-atoms.ensures c.as_slice-patterns.ensures.value c.delete_from_leaves.ensures.fewer
-    c.delete_from_leaves.ensures.lost c.delete_from_leaves.ensures.listed)
+    c.delete_from_leaves.ensures.lost c.delete_from_leaves.ensures.listed c.laws.ensures)
 
 pub returns-clause-counted : goal.returns-clause-counted
 returns-clause-counted g c =

@@ -1,5 +1,5 @@
 -- Different answers of the tree have different cells in the head's order, so both listings end together.
-use Rattle.std.proofs.Common.{sym, arith}
+use Rattle.std.proofs.Common.{◌∙◌, ap, length, sym, arith}
 use Rattle.djq_live_query.proofs.Catalogs.{live_of}
 use Rattle.djq_live_query.proofs.HeadAnswers.{fits_outside, some_given, step_answer, end_same, kept_narrow}
 use Rattle.djq_live_query.proofs.member.LiveQueryListing.advance.Goals as goal
@@ -24,7 +24,8 @@ returns-then-not-step-clause-counted g c =
 pub put_in_order-requires-clause-wide : goal.put_in_order-requires-clause-wide
 put_in_order-requires-clause-wide g c =
     let l = live_of c.self.inside in
-    (step_answer l c.args.state.now c.step.new.self c.if-not-step.ensures.one
+    ap length c.as_slice.ensures
+    ∙ (step_answer l c.args.state.now c.step.new.self c.if-not-step.ensures.one
     c.step.ensures.answers).wide
 
 pub returns-clause-answers : goal.returns-clause-answers

@@ -2,6 +2,7 @@
 use Rattle.std.proofs.Common.{◌≡◌, ◌<◌, ◌-◌, ℕ, List, get_or, length, sym, subst}
 use Rattle.std.specs.Prelude.{Option, Some, IsSomeAnd, slice_get, ⊤}
 use Rattle.djq_store_spec.specs.Delta.{Change}
+use Rattle.djq_enumeration.specs.Log.{Line}
 use Rattle.djq_live_query.specs.Live.{IsShowable, values_of}
 use Rattle.djq_engine.specs.Kept.{Kept, AtPlace, IsRegistered, told_at}
 use Rattle.djq_engine.specs.Places.{id_at}
@@ -51,8 +52,8 @@ joined_in-joined-requires c =
     (subst (λ (k : Kept). IsRegistered k c.args.id) (sym c.self.view_is) c.requires.registered)
     c.if-id-lt-QUERIES.false)
 
-pub told_line-line-requires : goal.told_line-line-requires
-told_line-line-requires c =
+pub told_line-came-requires : goal.told_line-came-requires
+told_line-came-requires c =
     let p = c.self.inside.parts in
     let j = c.joined_in-joined.result.now in
     let found = subst (λ (us : List (Option Joined)). joined_at us (c.args.id.at - 256) ≡ Some j)
@@ -68,14 +69,14 @@ answer-requires c =
     let j = c.joined_in-joined.result.now in
     let found = subst (λ (us : List (Option Joined)). joined_at us (c.args.id.at - 256) ≡ Some j)
     c.as_slice.ensures.value c.joined_in-joined.ensures in
-    let line = c.told_line-line.result.now in
+    let line : Line = record { came = c.told_line-came.result.0; answer = c.told_line-came.result.1.now } in
     subst (λ (ks : List ℕ). AtPlace p.engine (id_at (get_or ks 0 0))
     (λ l. IsShowable (p.engine.store).texts l line.answer))
     (sym c.members.ensures)
     (line_shown p.engine c.laws.ensures p.unions.items p.order.items p.sessions.items p.affected.items
     c.self.invariant.listed c.args.id c.if-id-lt-QUERIES.false j found c.args.nth
     (subst (λ (k : Kept). IsSomeAnd (told_at k c.args.id) (λ changes. c.args.nth < length changes)) (sym c.self.view_is)
-    c.requires.within) line c.told_line-line.ensures)
+    c.requires.within) line c.told_line-came.ensures)
 
 pub returns : goal.returns
 returns c =
@@ -83,12 +84,12 @@ returns c =
     let j = c.joined_in-joined.result.now in
     let found = subst (λ (us : List (Option Joined)). joined_at us (c.args.id.at - 256) ≡ Some j)
     c.as_slice.ensures.value c.joined_in-joined.ensures in
-    let line = c.told_line-line.result.now in
+    let line : Line = record { came = c.told_line-came.result.0; answer = c.told_line-came.result.1.now } in
     subst (λ (k : Kept). IsSomeAnd (told_at k c.args.id) (λ changes. IsSomeAnd (slice_get changes c.args.nth)
     (λ d. (c.sign_of.result ≡ d.sign) × (c.answer.result ≡ d.answer)))) c.self.view_is
     (line_told p.engine c.laws.ensures p.unions.items p.order.items p.sessions.items p.affected.items
     c.self.invariant.listed c.args.id c.if-id-lt-QUERIES.false j found c.args.nth
     (subst (λ (k : Kept). IsSomeAnd (told_at k c.args.id) (λ changes. c.args.nth < length changes)) (sym c.self.view_is)
-    c.requires.within) line c.told_line-line.ensures c.sign_of.result c.answer.result c.sign_of.ensures
+    c.requires.within) line c.told_line-came.ensures c.sign_of.result c.answer.result c.sign_of.ensures
     (subst (λ (ks : List ℕ). AtPlace p.engine (id_at (get_or ks 0 0))
     (λ l. c.answer.result ≡ values_of (p.engine.store).texts l line.answer)) c.members.ensures c.answer.ensures))
