@@ -246,7 +246,8 @@ def test_a_pipeline_that_watches_reads_meanwhile(program):
                 many.add("r", text, number)
                 due = max(due, client._protocol.due)
         assert due < 2010
-        assert client.snapshot("q") == {(text, number) for number in range(count)}
+        # page by page: a snapshot asks for more at once than a session that reads late may leave pending
+        assert set(client.answers("q")) == {(text, number) for number in range(count)}
 
 
 def test_a_pipeline_raises(program):
