@@ -1,4 +1,4 @@
--- How a change is told to the sessions that watch, and answered.
+-- How a change is published to the sessions that watch, and answered.
 use Rattle.std.specs.Prelude.{ℕ, List, [], ◌∷◌, ◌==◌, ◌≡◌, ◌++◌, ◌⊎◌, Bool, true, false, None}
 use Rattle.std.specs.Prelude.{Some, IsSome, MatchOption, if◌then◌else◌, All, filter, length, map, ⊤}
 use Rattle.std.specs.List.{list_any}

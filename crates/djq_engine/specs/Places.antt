@@ -107,7 +107,7 @@ told_from texts (g ∷ gs) (log ∷ logs) = told_of texts g log ∷ told_from te
 abbrev pub was_too_large : Log → Bool
 was_too_large log = if log.lost then log.large else false
 
--- What the engine keeps for watching: the readers of each relation, how many sessions watch the
+-- What the engine stores for watching: the readers of each relation, how many sessions watch the
 -- query in each place, its log, and the places that the last accepted change affected.
 pub record Watches : Type 0 where
   pub readers : List (List ℕ)

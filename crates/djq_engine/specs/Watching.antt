@@ -40,7 +40,7 @@ pub record LogBounds (k : Kept) (r : Registered) (d : Delta) : Type 0 where
   pub few : IsSome (told_at k r.id) → is_large d ≡ false
   pub many : is_told_large k r.id ≡ true → is_large d ≡ true
 
--- The logs of queries tell deltas, one by one.
+-- The logs of queries have deltas, one by one.
 abbrev pub LogsTell : Kept → List Registered → List Delta → Type 0
 LogsTell k [] [] = ⊤
 LogsTell k (r ∷ rs) (d ∷ ds) = LogTells k r d × LogsTell k rs ds
@@ -94,7 +94,7 @@ pub record EngineTellsChange (old : Kept) (outcome : RowsOutcome) (new : Kept) (
         (λ change. LogsTell new (affected_of old.registered change) deltas)
     pub bounds : IfAccepted outcome
         (λ change. LogsBound new (affected_of old.registered change) deltas)
-    -- where memory was refused, the logs of the queries that it would outdate tell of nothing
+    -- if memory was refused, the logs of the queries that it would outdate are empty
     pub discards : IfOutOfMemory outcome (λ change. (id : QueryId)
         → IsSomeAnd (registered_at old.registered id) (λ r. is_outdated change r.query ≡ true)
         → told_at new id ≡ Some [])

@@ -113,7 +113,7 @@ fn digits(live: &LiveQuery, catalog: &Catalog, answer: &[u64]) -> i64
         .wrapping_add(third)
 }
 
-/// The digits of the answer of a line, behind a one where it went.
+/// The digits of the answer of a line, after a one if it was removed.
 fn line_digits(live: &LiveQuery, catalog: &Catalog, came: bool, answer: &[u64]) -> i64
     requires kept { IsKeptSomewhere live.now }
     requires showable { IsShowable catalog.now.texts live.now answer.now }

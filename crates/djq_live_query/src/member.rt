@@ -71,7 +71,7 @@ fn same_columns(
 }
 
 impl LiveQuery {
-    /// Writes an answer of the tree, or one that went, as cells in the head's order.
+    /// Writes an answer of the tree, or one that was removed, as cells in the head's order.
     pub fn put_in_head(&self, answer: &[u64], cells: &mut Cells)
         requires kept { IsKeptSomewhere self.now }
         requires wide { length answer.now ≡ length self.now.reducts.tree.head }

@@ -1,4 +1,4 @@
--- What a change of rows tells the sessions that watch queries.
+-- What is published of a change of rows to the sessions that watch queries.
 use Rattle.std.specs.Prelude.{ℕ, List, [], ◌∷◌, ◌==◌, ◌≡◌, ◌++◌, ◌⊎◌, ◌&&◌, Bool, true, false, not, nat_lt, Option, None}
 use Rattle.std.specs.Prelude.{Some, IsSomeAnd, MatchOption, if◌then◌else◌, length, filter}
 use Rattle.std.specs.List.{list_any}

@@ -81,7 +81,7 @@ impl Store {
         told_large(joined_in(self.parts.unions.as_slice(), id.at - QUERIES))
     }
 
-    /// One of them: whether it came or went, and the answer, lent.
+    /// One of them: whether it was added or removed, and the answer, lent.
     pub fn delta_line(&self, id: QueryId, nth: usize) -> (Sign, LentAnswer<'_>)
         requires registered { IsRegistered self.now id }
         requires within { IsSomeAnd (told_at self.now id) (λ changes. nth < length changes) }

@@ -91,7 +91,7 @@ is_large d = IsIt d.query
 abbrev pub stopped_at : ℕ → ℕ
 stopped_at listed = min listed (DELTA_LINES + 1)
 
--- how many atoms of a query are over a relation of which rows come and others go
+-- how many atoms of a query are over a relation of which rows are inserted and others deleted
 abbrev pub atoms_both : Option Halves → Query → ℕ
 atoms_both None q = 0
 atoms_both (Some h) q = length (filter (λ a. h.both a.relation) q.atoms)
