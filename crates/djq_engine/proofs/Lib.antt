@@ -20,3 +20,4 @@ pub mod ChangedRows
 pub mod CountedLines
 pub mod TransactionCosts
 pub mod DoneTransactions
+pub mod RestoredRows

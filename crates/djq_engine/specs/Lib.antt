@@ -16,3 +16,4 @@ pub mod Lending
 pub mod Laws
 pub mod Cursors
 pub mod Sizes
+pub mod Restoring

@@ -42,7 +42,7 @@ pub fn relation_for_row(
 }
 
 /// Whether a row that suits a relation is there. An unknown text is in none.
-fn is_there<L: Ledger>(
+pub fn is_there<L: Ledger>(
     catalog: &Catalog,
     id: RelationId,
     row: &[Value],

@@ -70,6 +70,7 @@ mod parts;
 mod places;
 mod reading;
 mod registering;
+mod restoring;
 mod rows;
 mod sizes;
 mod transaction;
