@@ -21,3 +21,4 @@ pub mod VacatedPlaces
 pub mod Drops
 pub mod DroppedUnions
 pub mod UnionRegistrations
+pub mod Restored

@@ -39,6 +39,7 @@ mod leaving;
 mod parts;
 mod reading;
 mod registering;
+mod restoring;
 mod settling;
 mod store;
 mod telling;
