@@ -19,6 +19,7 @@ use std::alloc::Global;
 use std::marker::Model;
 
 mod load;
+mod restore;
 
 /// The join machine: a store, and the open sessions. Contracts see its state, the lines of the open
 /// commit, whether there is room for what one step more logs, and what the batch of the loaded lines holds.
