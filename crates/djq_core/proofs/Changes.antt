@@ -24,9 +24,9 @@ use Rattle.djq_protocol.specs.declared.answer.AddOutcome.TheVariants.{First, Mor
 use Rattle.djq_protocol.specs.declared.answer.DeleteOutcome.{DeleteOutcome}
 use Rattle.djq_protocol.specs.declared.answer.DeleteOutcome.TheVariants.{Last, Left, Absent}
 use Rattle.djq_protocol.specs.declared.limits.TheConstants.{PENDING_BYTES}
-use Rattle.djq_protocol.specs.declared.answer.EndCause.TheVariants.{Slow, Memory}
+use Rattle.djq_protocol.specs.declared.answer.EndCause.TheVariants.{Large, Memory}
 use Rattle.djq_protocol.specs.Grammar.{Reading, reading_of}
-use Rattle.djq_protocol.specs.Reply.{add_reply, delete_reply, done_reply, end_slow, end_memory}
+use Rattle.djq_protocol.specs.Reply.{add_reply, delete_reply, done_reply, end_large, end_memory}
 use Rattle.djq_store_spec.specs.Held.{HeldTransaction, log_lines}
 use Rattle.djq_store_spec.specs.Transaction.{lines_outcome}
 use Rattle.djq_store_spec.specs.Changes.{RowsChange, RowsOutcome, accepted, out_of_memory, unchanged, row_in, row_out}
@@ -47,7 +47,7 @@ use Rattle.djq_engine.specs.declared.cursor.CursorId.{CursorId}
 use Rattle.djq_engine.specs.declared.cursor.QueryId.{QueryId}
 use Rattle.djq_engine.specs.Kept.{Kept, HeldCursor, Registered, held_at, outdated_held, Outdates, registered_at}
 use Rattle.djq_engine.specs.Kept.{is_watched, readers_of, affected_of, IsRegistered}
-use Rattle.djq_engine.specs.Watching.{LogsTell, queries_affected}
+use Rattle.djq_engine.specs.Watching.{LogsTell, LogsBound, queries_affected}
 use Rattle.djq_commands.specs.declared.open.OpenSession.{OpenSession}
 use Rattle.djq_commands.specs.declared.change.Outcome.{Outcome}
 use Rattle.djq_commands.specs.declared.change.Outcome.TheVariants.{Added, Deleted, Done}
@@ -223,6 +223,7 @@ affected_logs old new (accepted change) was now c e =
       queries = ((c.tells).listed).of_queries
           ∙ ap (λ (qs : List Registered). map (λ (r : Registered). r.query) qs) (sym same);
       logs = subst (λ (qs : List Registered). LogsTell new qs (c.tells).deltas) (sym same) (c.tells).logs;
+      bounds = subst (λ (qs : List Registered). LogsBound new qs (c.tells).deltas) (sym same) (c.tells).bounds;
     }
 affected_logs old new (out_of_memory change) was now c e = absurd (cc (e))
 affected_logs old new unchanged was now c e = absurd (cc (e))
@@ -560,58 +561,50 @@ registered_left change old new before after was now c held = registered_by c.com
 
 -- ---- What a watching session hears of a delta.
 
--- too much was pending
-pub hears_slow : (whole : Bool) (text : Bytes) (old : Kept) (before : Talk) (new : Kept) (after : Talk)
-    → PENDING_BYTES < length before.pending
-    → Performs (λ st s x e st'. EndsWith end_slow Slow st s e st') false old before new after 0 0
-    → Performs (λ st s x e st'. HearsDelta whole text st s x e st') false old before new after 0 0
-hears_slow whole text old before new after many p = record {
+-- it ends since the delta is large
+pub hears_large : (whole large : Bool) (text : Bytes) (old : Kept) (before : Talk) (new : Kept) (after : Talk)
+    → large ≡ true → Performs (λ st s x e st'. EndsWith end_large Large st s e st') false old before new after 0 0
+    → Performs (λ st s x e st'. HearsDelta whole large text st s x e st') false old before new after 0 0
+hears_large whole large text old before new after is p = record {
   text = p.text;
   cost = p.cost;
   kept = p.kept;
   pending = p.pending;
-  does = λ front back s stopped sound. inl (many, p.does front back s stopped sound);
+  does = λ front back s stopped sound. inr (inl (is, p.does front back s stopped sound));
   sound = p.sound;
   counted = p.counted;
 }
 
 -- it ends out of memory
-pub hears_end : (whole : Bool) (text : Bytes) (old : Kept) (before : Talk) (new : Kept) (after : Talk)
-    → length before.pending ≤ PENDING_BYTES
+pub hears_end : (whole large : Bool) (text : Bytes) (old : Kept) (before : Talk) (new : Kept) (after : Talk)
     → Performs (λ st s x e st'. EndsWith end_memory Memory st s e st') false old before new after 0 0
-    → Performs (λ st s x e st'. HearsDelta whole text st s x e st') false old before new after 0 0
-hears_end whole text old before new after few p = record {
+    → Performs (λ st s x e st'. HearsDelta whole large text st s x e st') false old before new after 0 0
+hears_end whole large text old before new after p = record {
   text = p.text;
   cost = p.cost;
   kept = p.kept;
   pending = p.pending;
-  does = λ front back s stopped sound. inr (inr (few, p.does front back s stopped sound));
+  does = λ front back s stopped sound. inr (inr (p.does front back s stopped sound));
   sound = p.sound;
   counted = p.counted;
 }
 
-pub hears_end_roomy : (whole : Bool) (text : Bytes) (old : Kept) (before mid : Talk) (new : Kept) (after : Talk)
-    → length before.pending ≤ PENDING_BYTES → mid ≡ record before { room = mid.room }
+pub hears_end_roomy : (whole large : Bool) (text : Bytes) (old : Kept) (before mid : Talk) (new : Kept) (after : Talk)
+    → mid ≡ record before { room = mid.room }
     → Performs (λ st s x e st'. EndsWith end_memory Memory st s e st') false old mid new after 0 0
-    → Performs (λ st s x e st'. HearsDelta whole text st s x e st') false old before new after 0 0
-hears_end_roomy whole text old before mid new after few same p =
-    hears_end whole text old before new after few
+    → Performs (λ st s x e st'. HearsDelta whole large text st s x e st') false old before new after 0 0
+hears_end_roomy whole large text old before mid new after same p =
+    hears_end whole large text old before new after
     (with_room (λ st s x e st'. EndsWith end_memory Memory st s e st') false old before mid new after 0 0 same p)
 
 -- it is told
-pub hears_whole : (whole : Bool) (text : Bytes) (k : Kept) (before after : Talk) → length before.pending ≤ PENDING_BYTES
+pub hears_whole : (whole large : Bool) (text : Bytes) (k : Kept) (before after : Talk)
     → whole ≡ true → Replies before after text
-    → Performs (λ st s x e st'. HearsDelta whole text st s x e st') false k before k after 0 0
-hears_whole whole text k before after few v r =
-    replied (λ st s x e st'. HearsDelta whole text st s x e st') k k before after text r (λ id. refl)
+    → Performs (λ st s x e st'. HearsDelta whole large text st s x e st') false k before k after 0 0
+hears_whole whole large text k before after v r =
+    replied (λ st s x e st'. HearsDelta whole large text st s x e st') k k before after text r (λ id. refl)
     (stays_same k.registered k.registered before.watches before.watches refl refl)
-    (λ st s x e f. inr (inl (
-      subst (λ (y : Session). length y.pending ≤ PENDING_BYTES) (sym f) few,
-      v,
-      refl,
-      ap
-          (λ store. record st { store = store }) (sym e),
-    )))
+    (λ st s x e f. inl (v, refl, ap (λ store. record st { store = store }) (sym e)))
 
 -- a session with other room has the same cursors and watches
 pub owns_roomy : (k : Kept) (before mid : Talk) → mid ≡ record before { room = mid.room } → IsOwn k before → IsOwn k mid

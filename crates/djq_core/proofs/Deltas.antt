@@ -2,7 +2,7 @@
 use Rattle.std.proofs.Common.{ℕ, zero, suc, ◌+◌, ◌<◌, ◌≤◌, ◌≡◌, ◌++◌, ◌⊎◌, Bool, true, false, List, [], ◌∷◌, length}
 use Rattle.std.proofs.Common.{map, take, drop, set, get_or, find, cond, Option, None, Some, eqb, refl, sym, ap, ◌∙◌}
 use Rattle.std.proofs.Common.{subst, arith, inl, inr, filter, is_some}
-use Rattle.std.specs.Prelude.{MatchOption, All, Contains, IsSome, IsSomeAnd, slice_get, slice_index_or}
+use Rattle.std.specs.Prelude.{MatchOption, All, Contains, IsSome, IsSomeAnd, slice_get, slice_index_or, unwrap_or}
 use Rattle.std.proofs.lemmas.Bool.{cond-false, cond-true}
 use Rattle.std.proofs.lemmas.List.{drop_all, length-map}
 use Rattle.std.proofs.lemmas.List.Elements.{All-contains, All-head, All-tail}
@@ -10,15 +10,15 @@ use Rattle.djq_model.specs.Data.{Bytes}
 use Rattle.djq_model.specs.Listed.{listed_name, Listed}
 use Rattle.djq_protocol.specs.Reply.{text_of}
 use Rattle.djq_store_spec.specs.Delta.{delta_lines, Change}
-use Rattle.djq_store_spec.specs.DeltaCost.{Delta}
+use Rattle.djq_store_spec.specs.DeltaCost.{Delta, is_large}
 use Rattle.djq_store_spec.specs.Store.{Store}
 use Rattle.djq_answer_laws.proofs.Lists.{first_there, later_there}
 use Rattle.djq_machine.specs.State.{Session, State, state_ids, session_of}
 use Rattle.djq_machine.specs.Walk.{Walk}
 use Rattle.djq_machine.specs.Watch.{Telling, is_watching, watching, watcher_of, TellsWatcher, TellsSession, TellsDelta}
 use Rattle.djq_engine.specs.declared.cursor.QueryId.{QueryId}
-use Rattle.djq_engine.specs.Kept.{Kept, Registered, IsRegistered, is_watched, registered_at, same_query, told_at}
-use Rattle.djq_engine.specs.Watching.{LogTells, LogsTell}
+use Rattle.djq_engine.specs.Kept.{Kept, Registered, IsRegistered, is_watched, registered_at, same_query, is_told_large, told_at}
+use Rattle.djq_engine.specs.Watching.{LogTells, LogsTell, LogBounds, LogsBound}
 use Rattle.djq_store.proofs.WantedQueries.{found_there}
 use Rattle.djq_commands.specs.declared.open.OpenSession.{OpenSession}
 use Rattle.djq_commands.specs.Views.{Talk, session_in, session_seen, state_in}
@@ -33,14 +33,14 @@ use Rattle.djq_commands.proofs.Watchers.{quiet_split}
 use Rattle.djq_commands.proofs.Replies.{is_watched_none}
 use Rattle.djq_core.proofs.Replies.{queued}
 use Rattle.djq_core.proofs.SessionSteps.{cut_at, set_at, ids_seen, apart_of}
-use Rattle.djq_core.proofs.Queues.{bridged, has_part, part_stays, ids_queued}
+use Rattle.djq_core.proofs.Queues.{FitsDelta, bridged, has_part, part_stays, ids_queued}
 
 -- ---- One session after another is told.
 
 -- What stays, step by step.
 
 pub kept_same : (k : Kept) → KeepsTold k k
-kept_same k = record { store = refl; listed = refl; affected = refl; told = refl }
+kept_same k = record { store = refl; listed = refl; affected = refl; told = refl; large = refl }
 
 pub kept_on : (old mid new : Kept) → KeepsTold old mid → KeepsTold mid new → KeepsTold old new
 kept_on old mid new a b = record {
@@ -49,6 +49,7 @@ kept_on old mid new a b = record {
   affected = b.affected ∙ a.affected;
   told = b.told
       ∙ a.told;
+  large = b.large ∙ a.large;
 }
 
 pub goes_on_same : (k : Kept) (xs : List OpenSession) → IsSound k xs → GoesOnTelling k xs k xs
@@ -104,19 +105,19 @@ sees : (d : Delta) (q : Bytes) (b : Bool) (x : Session) → (listed_name d.query
     → is_watching (listed_name d.query) x ≡ b
 sees d q b x e h = ap (λ (n : Bytes). is_among_watches x.watches n) e ∙ h
 
-pub told_reaches : (q : Bytes) (whole : Bool) (text : Bytes) (old : Kept) (before : Talk) (new : Kept) (after : Talk)
+pub told_reaches : (q : Bytes) (whole large : Bool) (text : Bytes) (old : Kept) (before : Talk) (new : Kept) (after : Talk)
     (front : List OpenSession) (s : ℕ) (back : List OpenSession)
-    → Performs (λ st i x e st'. HearsDelta whole text st i x e st') false old before new after 0 0
+    → Performs (λ st i x e st'. HearsDelta whole large text st i x e st') false old before new after 0 0
     → IsSound old (among front s before back) → is_among_watches before.watches q ≡ true
     → (d : Delta) (n : ℕ) → (listed_name d.query) ≡ q
-    → (whole ≡ true → text ≡ text_of (delta_lines (listed_name d.query) d.changes n))
+    → FitsDelta d n whole large text
     → Reaches (λ m m'. TellsSession d n m s m') old (among front s before back) new (among front s after back)
-told_reaches q whole text old before new after front s back p sound w d n same fits stopped start m so =
+told_reaches q whole large text old before new after front s back p sound w d n same fits stopped start m so =
     let x = session_in old.cursors s before in
     let did = p.does front back s stopped sound in
     let b = bridged d n s m (state_in old stopped (among front s before back))
     (state_in new stopped (among front s (unqueued before after) back)) x (to_keep s p.text p.cost p.kept) whole
-    text (sym so.seen)
+    large text (sym so.seen)
     (found old stopped front s before back (parts old front s before back sound)) (sees d q true x same w) fits did in (
       b.telling,
       b.tells,
@@ -140,7 +141,7 @@ untold_reaches q k before front s back sound w d n same stopped start m so =
     ∙ ap (watching (listed_name d.query)) (found k stopped front s before back (parts k front s before back sound))
     ∙ cond-false _ _ _ (sees d q false x same w) in (
       m,
-      subst (λ (o : Option Session). MatchOption o (m ≡ m) (λ y. TellsWatcher d n s y.pending m m)) (sym none) refl,
+      subst (λ (o : Option Session). MatchOption o (m ≡ m) (λ y. TellsWatcher d n s m m)) (sym none) refl,
       so,
     )
 
@@ -155,12 +156,12 @@ watches_fewer before after q (inl e) = subst (λ (ws : List Bytes). times_in ws 
 watches_fewer before after q (inr e) = subst (λ (ws : List Bytes). times_in ws q ≤ times_in before.watches q) (sym e)
     (omega arith)
 
-pub one_goes_on : (whole : Bool) (text : Bytes) (old : Kept) (before : Talk) (new : Kept) (after : Talk)
+pub one_goes_on : (whole large : Bool) (text : Bytes) (old : Kept) (before : Talk) (new : Kept) (after : Talk)
     (front : List OpenSession) (s : ℕ) (back : List OpenSession)
-    → Performs (λ st i x e st'. HearsDelta whole text st i x e st') false old before new after 0 0 → KeepsTold old new
+    → Performs (λ st i x e st'. HearsDelta whole large text st i x e st') false old before new after 0 0 → KeepsTold old new
     → WatchesOn before after → IsSound old (among front s before back)
     → GoesOnTelling old (among front s before back) new (among front s after back)
-one_goes_on whole text old before new after front s back p kept w sound = record {
+one_goes_on whole large text old before new after front s back p kept w sound = record {
   kept = kept;
   sound = p.sound front back s sound;
   ids = ids_stay front s before after back;
@@ -181,16 +182,16 @@ GoesOnFrom d n xs at m m' = (last : Telling)
     → Walk (TellsSession d n) m (map (λ (x : OpenSession). x.id) xs) last
 
 -- So many sessions have been told a delta.
-pub record TellsSoFar (q : Bytes) (whole : Bool) (text : Bytes) (old : Kept) (xs : List OpenSession) (at : ℕ) (k : Kept)
+pub record TellsSoFar (q : Bytes) (whole large : Bool) (text : Bytes) (old : Kept) (xs : List OpenSession) (at : ℕ) (k : Kept)
     (ys : List OpenSession) : Type 0 where
   pub goes_on : GoesOnTelling old xs k ys
   pub reaches : (d : Delta) (n : ℕ) → (listed_name d.query) ≡ q
-      → (whole ≡ true → text ≡ text_of (delta_lines (listed_name d.query) d.changes n))
+      → FitsDelta d n whole large text
       → Reaches (GoesOnFrom d n xs at) old xs k ys
 
-pub telling_starts : (q : Bytes) (whole : Bool) (text : Bytes) (k : Kept) (xs : List OpenSession) → IsSound k xs
-    → TellsSoFar q whole text k xs 0 k xs
-telling_starts q whole text k xs sound = record {
+pub telling_starts : (q : Bytes) (whole large : Bool) (text : Bytes) (k : Kept) (xs : List OpenSession) → IsSound k xs
+    → TellsSoFar q whole large text k xs 0 k xs
+telling_starts q whole large text k xs sound = record {
   goes_on = goes_on_same k xs sound;
   reaches = λ d n same fits stopped start m so. (m, (λ last w. w), so);
 }
@@ -217,14 +218,14 @@ ids_from old k xs ys at e g l h =
     (ap (λ (ns : List ℕ). get_or ns at 0) (sym g.ids) ∙ the_id ys at e l h)
 
 -- one more, which comes to this
-one_more : (q : Bytes) (whole : Bool) (text : Bytes) (old : Kept) (xs : List OpenSession) (at : ℕ) (k new : Kept)
+one_more : (q : Bytes) (whole large : Bool) (text : Bytes) (old : Kept) (xs : List OpenSession) (at : ℕ) (k new : Kept)
     (ys zs : List OpenSession) (e : OpenSession)
-    → TellsSoFar q whole text old xs at k ys → at < length ys → e ≡ get_or ys at e → GoesOnTelling k ys new zs
+    → TellsSoFar q whole large text old xs at k ys → at < length ys → e ≡ get_or ys at e → GoesOnTelling k ys new zs
     → ((d : Delta) (n : ℕ) → (listed_name d.query) ≡ q
-    → (whole ≡ true → text ≡ text_of (delta_lines (listed_name d.query) d.changes n))
+    → FitsDelta d n whole large text
     → Reaches (λ m m'. TellsSession d n m e.id m') k ys new zs)
-    → TellsSoFar q whole text old xs (suc at) new zs
-one_more q whole text old xs at k new ys zs e so l h g step = record {
+    → TellsSoFar q whole large text old xs (suc at) new zs
+one_more q whole large text old xs at k new ys zs e so l h g step = record {
   goes_on = goes_on_on old k new xs ys zs so.goes_on g;
   reaches = λ d n same fits.
       reaches_on (GoesOnFrom d n xs at) (λ m m'. TellsSession d n m e.id m') (GoesOnFrom d n xs (suc at)) old k new xs
@@ -235,52 +236,52 @@ one_more q whole text old xs at k new ys zs e so l h g step = record {
       (so.reaches d n same fits) (step d n same fits);
 }
 
-pub told_one : (q : Bytes) (whole : Bool) (text : Bytes) (old : Kept) (xs : List OpenSession) (at : ℕ) (k new : Kept)
+pub told_one : (q : Bytes) (whole large : Bool) (text : Bytes) (old : Kept) (xs : List OpenSession) (at : ℕ) (k new : Kept)
     (ys : List OpenSession) (e : OpenSession) (d : Talk)
-    → TellsSoFar q whole text old xs at k ys → at < length ys → e ≡ get_or ys at e
+    → TellsSoFar q whole large text old xs at k ys → at < length ys → e ≡ get_or ys at e
     → is_among_watches (e.session).watches q ≡ true
-    → Performs (λ st i x f st'. HearsDelta whole text st i x f st') false k e.session new d 0 0 → KeepsTold k new
+    → Performs (λ st i x f st'. HearsDelta whole large text st i x f st') false k e.session new d 0 0 → KeepsTold k new
     → WatchesOn e.session d
-    → TellsSoFar q whole text old xs (suc at) new (set ys at (record e { session = d }))
-told_one q whole text old xs at k new ys e d so l h w p kept on =
+    → TellsSoFar q whole large text old xs (suc at) new (set ys at (record e { session = d }))
+told_one q whole large text old xs at k new ys e d so l h w p kept on =
     let front = take at ys in
     let back = drop (suc at) ys in
     let cut : ys ≡ among front e.id e.session back = cut_at ys at e l h in
     let put : set ys at (record e { session = d })
     ≡ among front e.id d back = set_at ys at (record e { session = d }) l in
     let sound = subst (IsSound k) cut so.goes_on.sound in
-    one_more q whole text old xs at k new ys (set ys at (record e { session = d })) e so l h
+    one_more q whole large text old xs at k new ys (set ys at (record e { session = d })) e so l h
     (subst (λ (us : List OpenSession). GoesOnTelling k us new (set ys at (record e { session = d }))) (sym cut)
     (subst (λ (us : List OpenSession). GoesOnTelling k (among front e.id e.session back) new us) (sym put)
-    (one_goes_on whole text k e.session new d front e.id back p kept on sound)))
+    (one_goes_on whole large text k e.session new d front e.id back p kept on sound)))
     (λ t n same fits. subst
     (λ (us : List OpenSession). Reaches (λ m m'. TellsSession t n m e.id m') k us new
     (set ys at (record e { session = d }))) (sym cut)
     (subst (λ (us : List OpenSession). Reaches (λ m m'. TellsSession t n m e.id m') k (among front e.id e.session back)
     new us) (sym put)
-    (told_reaches q whole text k e.session new d front e.id back p sound w t n same fits)))
+    (told_reaches q whole large text k e.session new d front e.id back p sound w t n same fits)))
 
-pub untold_one : (q : Bytes) (whole : Bool) (text : Bytes) (old : Kept) (xs : List OpenSession) (at : ℕ) (k : Kept)
+pub untold_one : (q : Bytes) (whole large : Bool) (text : Bytes) (old : Kept) (xs : List OpenSession) (at : ℕ) (k : Kept)
     (ys : List OpenSession) (e : OpenSession)
-    → TellsSoFar q whole text old xs at k ys → at < length ys → e ≡ get_or ys at e
+    → TellsSoFar q whole large text old xs at k ys → at < length ys → e ≡ get_or ys at e
     → is_among_watches (e.session).watches q ≡ false
-    → TellsSoFar q whole text old xs (suc at) k ys
-untold_one q whole text old xs at k ys e so l h w =
+    → TellsSoFar q whole large text old xs (suc at) k ys
+untold_one q whole large text old xs at k ys e so l h w =
     let front = take at ys in
     let back = drop (suc at) ys in
     let cut : ys ≡ among front e.id e.session back = cut_at ys at e l h in
-    one_more q whole text old xs at k k ys ys e so l h (goes_on_same k ys so.goes_on.sound)
+    one_more q whole large text old xs at k k ys ys e so l h (goes_on_same k ys so.goes_on.sound)
     (λ t n same fits. subst (λ (us : List OpenSession). Reaches (λ m m'. TellsSession t n m e.id m') k us k us)
     (sym cut)
     (untold_reaches q k e.session front e.id back (subst (IsSound k) cut so.goes_on.sound) w t n same))
 
 -- all have been told
-pub told_all : (q : Bytes) (whole : Bool) (text : Bytes) (old : Kept) (xs : List OpenSession) (at : ℕ) (k : Kept)
-    (ys : List OpenSession) → TellsSoFar q whole text old xs at k ys → length ys ≤ at
+pub told_all : (q : Bytes) (whole large : Bool) (text : Bytes) (old : Kept) (xs : List OpenSession) (at : ℕ) (k : Kept)
+    (ys : List OpenSession) → TellsSoFar q whole large text old xs at k ys → length ys ≤ at
     → (d : Delta) (n : ℕ) → (listed_name d.query) ≡ q
-    → (whole ≡ true → text ≡ text_of (delta_lines (listed_name d.query) d.changes n))
+    → FitsDelta d n whole large text
     → Reaches (λ m m'. TellsDelta n m d m') old xs k ys
-told_all q whole text old xs at k ys so l d n same fits stopped start m told =
+told_all q whole large text old xs at k ys so l d n same fits stopped start m told =
     let r = so.reaches d n same fits stopped start m told in
     let ns = map (λ (x : OpenSession). x.id) xs in
     let none : drop at ns
@@ -322,9 +323,9 @@ nobody_reaches k xs d n h stopped start m so = (
 )
 
 -- The session of a place.
-pub length_still : (q : Bytes) (whole : Bool) (text : Bytes) (old : Kept) (xs : List OpenSession) (at : ℕ) (k : Kept)
-    (ys : List OpenSession) → TellsSoFar q whole text old xs at k ys → length ys ≡ length xs
-length_still q whole text old xs at k ys so =
+pub length_still : (q : Bytes) (whole large : Bool) (text : Bytes) (old : Kept) (xs : List OpenSession) (at : ℕ) (k : Kept)
+    (ys : List OpenSession) → TellsSoFar q whole large text old xs at k ys → length ys ≡ length xs
+length_still q whole large text old xs at k ys so =
     sym (length-map ys (λ (x : OpenSession). x.id)) ∙ ap length so.goes_on.ids
     ∙ length-map xs (λ (x : OpenSession). x.id)
 
@@ -361,32 +362,44 @@ next_place at = omega arith
 
 -- ---- One affected query after another is told.
 
--- what was printed is the delta, where the log tells it
-pub printed : (k : Kept) (id : QueryId) (q : Bytes) (whole : Bool) (text : Bytes) (d : Delta)
-    → Prints k id q whole [] text → (listed_name d.query) ≡ q
-    → (told_at k id ≡ None) ⊎ (told_at k id ≡ Some d.changes) → whole ≡ true → text
-    ≡ text_of (delta_lines (listed_name d.query) d.changes (k.store).seq)
-printed k id q whole text d p same logs v = by logs
+-- what was printed is the delta, where the log tells it; and what the log says of its size holds
+pub printed : (k : Kept) (id : QueryId) (q : Bytes) (whole large : Bool) (text : Bytes) (d : Delta)
+    → Prints k id q whole [] text → large ≡ is_told_large k id → (listed_name d.query) ≡ q
+    → (told_at k id ≡ None) ⊎ (told_at k id ≡ Some d.changes)
+    → (IsSome (told_at k id) → is_large d ≡ false) → (is_told_large k id ≡ true → is_large d ≡ true)
+    → FitsDelta d (k.store).seq whole large text
+printed k id q whole large text d p says same logs few many = record {
+  lines = λ v. by logs v;
+  small = λ v. few (is_there (told_at k id) refl v);
+  is = λ l. many (sym says ∙ l);
+}
   where
-    by : (told_at k id ≡ None) ⊎ (told_at k id ≡ Some d.changes) → text
+    by : (told_at k id ≡ None) ⊎ (told_at k id ≡ Some d.changes) → whole ≡ true → text
         ≡ text_of (delta_lines (listed_name d.query) d.changes (k.store).seq)
-    by (inl e) = absurd (subst
+    by (inl e) v = absurd (subst
         (λ (o : Option (List Change)). MatchOption o ⊥
         (λ changes. text ≡ text_of (delta_lines q changes (k.store).seq))) e (p v))
-    by (inr e) =
+    by (inr e) v =
         subst (λ (o : Option (List Change)). MatchOption o ⊥
         (λ changes. text ≡ text_of (delta_lines q changes (k.store).seq))) e (p v)
         ∙ ap (λ (n : Bytes). text_of (delta_lines n d.changes (k.store).seq)) (sym same)
 
+    is_there : (o : Option (List Change)) → told_at k id ≡ o → whole ≡ true → IsSome o
+    is_there None e v = absurd (subst
+        (λ (o : Option (List Change)). MatchOption o ⊥
+        (λ changes. text ≡ text_of (delta_lines q changes (k.store).seq))) e (p v))
+    is_there (Some changes) e v = refl
+
 -- A query's delta has been told to all.
-pub query_told : (old k : Kept) (id : QueryId) (q : Bytes) (xs ys : List OpenSession) (whole : Bool) (text : Bytes)
-    (at : ℕ) → Prints old id q whole [] text
-    → TellsSoFar q whole text old xs at k ys → length ys ≤ at → (watchers_in xs q ≡ 0 → ⊥) → TellsQuery old id q xs k ys
-query_told old k id q xs ys whole text at p so l some = record {
+pub query_told : (old k : Kept) (id : QueryId) (q : Bytes) (xs ys : List OpenSession) (whole large : Bool) (text : Bytes)
+    (at : ℕ) → Prints old id q whole [] text → large ≡ is_told_large old id
+    → TellsSoFar q whole large text old xs at k ys → length ys ≤ at → (watchers_in xs q ≡ 0 → ⊥)
+    → TellsQuery old id q xs k ys
+query_told old k id q xs ys whole large text at p says so l some = record {
   goes_on = so.goes_on;
   quiet = λ e. absurd (some e);
-  tells = λ d stopped start m same logs told. told_all q whole text old xs at k ys so l d (old.store).seq same
-      (printed old id q whole text d p same logs) stopped start m told;
+  tells = λ d stopped start m same logs few many told. told_all q whole large text old xs at k ys so l d (old.store).seq
+      same (printed old id q whole large text d p says same logs few many) stopped start m told;
 }
 
 -- nobody watches it
@@ -395,7 +408,7 @@ pub query_untold : (k : Kept) (id : QueryId) (q : Bytes) (xs : List OpenSession)
 query_untold k id q xs sound none = record {
   goes_on = goes_on_same k xs sound;
   quiet = λ e. (refl, refl);
-  tells = λ d stopped start m same logs told. nobody_reaches k xs d (k.store).seq (ap (watchers_in xs) same ∙ none)
+  tells = λ d stopped start m same logs few many told. nobody_reaches k xs d (k.store).seq (ap (watchers_in xs) same ∙ none)
       stopped start m told;
 }
 
@@ -408,6 +421,7 @@ pub record IsLeft (old : Kept) (xs : List OpenSession) (left : List Registered) 
     (ys : List OpenSession) : Type 0 where
   pub rest : List Delta
   pub logs : LogsTell old (filter is_watched left) rest
+  pub bounds : LogsBound old (filter is_watched left) rest
   pub queries : map (λ (d : Delta). d.query) rest ≡ map (λ (r : Registered). r.query) (filter is_watched left)
   pub reaches : Reaches (FromRest (old.store).seq rest deltas) old xs k ys
 
@@ -416,6 +430,7 @@ pub all_left : (old : Kept) (xs : List OpenSession) (readers : List Registered) 
 all_left old xs readers deltas a = record {
   rest = deltas;
   logs = a.logs;
+  bounds = a.bounds;
   queries = a.queries;
   reaches = λ stopped start m so. (m, (λ last w. w), so);
 }
@@ -429,6 +444,7 @@ passes old xs r left deltas k ys h a =
     record {
       rest = a.rest;
       logs = subst (λ (rs : List Registered). LogsTell old rs a.rest) same a.logs;
+      bounds = subst (λ (rs : List Registered). LogsBound old rs a.rest) same a.bounds;
       queries = subst (λ (rs : List Registered). map (λ (d : Delta). d.query) a.rest
           ≡ map (λ (x : Registered). x.query) rs) same a.queries;
       reaches = a.reaches;
@@ -441,30 +457,33 @@ first_query q qs p ps e = (cc (e), cc (e))
 pub tells_next : (old : Kept) (xs : List OpenSession) (r : Registered) (left : List Registered) (deltas : List Delta)
     (k new : Kept) (ys zs : List OpenSession)
     → is_watched r ≡ true → IsLeft old xs (r ∷ left) deltas k ys
-    → ((d : Delta) → d.query ≡ r.query → LogTells old r d
+    → ((d : Delta) → d.query ≡ r.query → LogTells old r d → LogBounds old r d
     → Reaches (λ m m'. TellsDelta (old.store).seq m d m') k ys new zs) → IsLeft old xs left deltas new zs
 tells_next old xs r left deltas k new ys zs h a next = by a.rest
     (subst (λ (rs : List Registered). LogsTell old rs a.rest) same a.logs)
+    (subst (λ (rs : List Registered). LogsBound old rs a.rest) same a.bounds)
     (subst (λ (rs : List Registered). map (λ (d : Delta). d.query) a.rest ≡ map (λ (x : Registered). x.query) rs) same
     a.queries) a.reaches
   where
     same : filter is_watched (r ∷ left) ≡ r ∷ filter is_watched left
     same = cond-true _ _ _ h
 
-    by : (rest : List Delta) → LogsTell old (r ∷ filter is_watched left) rest → map (λ (d : Delta). d.query) rest
+    by : (rest : List Delta) → LogsTell old (r ∷ filter is_watched left) rest
+        → LogsBound old (r ∷ filter is_watched left) rest → map (λ (d : Delta). d.query) rest
         ≡ map (λ (x : Registered). x.query) (r ∷ filter is_watched left)
         → Reaches (FromRest (old.store).seq rest deltas) old xs k ys → IsLeft old xs left deltas new zs
-    by [] logs queries reaches = absurd logs
-    by (d ∷ rest) (log, logs) queries reaches =
+    by [] logs bounds queries reaches = absurd logs
+    by (d ∷ rest) (log, logs) (bound, bounds) queries reaches =
         let q = first_query d.query (map (λ (x : Delta). x.query) rest) r.query
         (map (λ (x : Registered). x.query) (filter is_watched left)) queries in
         record {
           rest = rest;
           logs = logs;
+          bounds = bounds;
           queries = q.1;
           reaches = reaches_on (FromRest (old.store).seq (d ∷ rest) deltas) (λ m m'. TellsDelta (old.store).seq m d m')
               (FromRest (old.store).seq rest deltas) old k new xs ys zs
-              (λ x m c before now last w. before last (c, now, w)) reaches (next d q.0 log);
+              (λ x m c before now last w. before last (c, now, w)) reaches (next d q.0 log bound);
         }
 
 -- none is left
@@ -607,6 +626,18 @@ told_then old k r d id kept same log =
     (sym (ap (λ (i : QueryId). told_at k i) same
     ∙ ap (λ (ts : List (Option (List Change))). slice_index_or ts (r.id).at None) kept.told)) log
 
+few_then : (old k : Kept) (r : Registered) (d : Delta) (id : QueryId) → KeepsTold old k → id ≡ r.id → LogBounds old r d
+    → IsSome (told_at k id) → is_large d ≡ false
+few_then old k r d id kept same bound told = bound.few (subst (λ (o : Option (List Change)). IsSome o)
+    (ap (λ (i : QueryId). told_at k i) same
+    ∙ ap (λ (ts : List (Option (List Change))). slice_index_or ts (r.id).at None) kept.told) told)
+
+many_then : (old k : Kept) (r : Registered) (d : Delta) (id : QueryId) → KeepsTold old k → id ≡ r.id → LogBounds old r d
+    → is_told_large k id ≡ true → is_large d ≡ true
+many_then old k r d id kept same bound large = bound.many
+    (sym (ap (λ (i : QueryId). is_told_large k i) same
+    ∙ ap (λ (ts : List (Option Bool)). unwrap_or (slice_index_or ts (r.id).at None) false) kept.large) ∙ large)
+
 -- one more of the affected queries
 pub affected_more : (old k new : Kept) (xs ys zs : List OpenSession) (nth : ℕ) (id : QueryId) → IsSound old xs
     → AffectedSoFar old xs nth k ys → IsRegistered k id
@@ -641,10 +672,11 @@ affected_more old k new xs ys zs nth id sound so there at told =
             → (b : Bool) → is_watched q ≡ b → id ≡ q.id → IsLeft old xs (drop (suc nth) readers) deltas new zs
         by q left known query true w i =
             tells_next old xs q (drop (suc nth) readers) deltas k new ys zs w left
-            (λ d same log. subst (λ (st : Store). Reaches (λ m m'. TellsDelta st.seq m d m') k ys new zs)
+            (λ d same log bound. subst (λ (st : Store). Reaches (λ m m'. TellsDelta st.seq m d m') k ys new zs)
             so.goes_on.kept.store
             (λ stopped start m done. t.tells d stopped start m (ap listed_name (same ∙ sym query))
-            (told_then old k q d id so.goes_on.kept i log) done))
+            (told_then old k q d id so.goes_on.kept i log)
+            (few_then old k q d id so.goes_on.kept i bound) (many_then old k q d id so.goes_on.kept i bound) done))
         by q left known query false w i =
             let none : watchers_in ys (listed_name r.query) ≡ 0
             = none_still (watchers_in ys (listed_name r.query)) (watchers_in xs (listed_name r.query))

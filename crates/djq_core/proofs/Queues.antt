@@ -8,10 +8,10 @@ use Rattle.std.proofs.lemmas.Grind.{get_or_default_zero}
 use Rattle.djq_model.specs.Data.{Bytes, change_first}
 use Rattle.djq_model.specs.Listed.{listed_name}
 use Rattle.djq_protocol.specs.declared.answer.EndCause.{EndCause}
-use Rattle.djq_protocol.specs.declared.answer.EndCause.TheVariants.{Slow, Memory}
-use Rattle.djq_protocol.specs.Reply.{text_of, end_slow, end_memory}
+use Rattle.djq_protocol.specs.declared.answer.EndCause.TheVariants.{Large, Memory}
+use Rattle.djq_protocol.specs.Reply.{text_of, end_large, end_memory}
 use Rattle.djq_store_spec.specs.Delta.{delta_lines}
-use Rattle.djq_store_spec.specs.DeltaCost.{Delta}
+use Rattle.djq_store_spec.specs.DeltaCost.{Delta, is_large}
 use Rattle.djq_machine.specs.State.{Session, State, state_ids, session_of, with_session, ended_by}
 use Rattle.djq_machine.specs.Run.{pending_in}
 use Rattle.djq_machine.specs.Step.{is_dry}
@@ -275,42 +275,49 @@ ended_state m st s text c e =
     ∙ ap (λ (y : State). queue y (s, text)) (end_queued m.state s c m.queued)
     ∙ sym (queue_last (with_session m.state s (ended_by c)) m.queued (s, text))
 
-pub bridged : (d : Delta) (n s : ℕ) (m : Telling) (st mid : State) (x : Session) (eff : Effect) (whole : Bool)
+-- What was printed of a delta, where it is whole, is the delta, which isn't large; and where a log says that it is large,
+-- it is.
+pub record FitsDelta (d : Delta) (n : ℕ) (whole large : Bool) (text : Bytes) : Type 0 where
+  pub lines : whole ≡ true → text ≡ text_of (delta_lines (listed_name d.query) d.changes n)
+  pub small : whole ≡ true → is_large d ≡ false
+  pub is : large ≡ true → is_large d ≡ true
+
+pub bridged : (d : Delta) (n s : ℕ) (m : Telling) (st mid : State) (x : Session) (eff : Effect) (whole large : Bool)
     (text : Bytes)
     → st ≡ queue_all m.state m.queued → session_of st s ≡ Some x → is_watching (listed_name d.query) x ≡ true
-    → (whole ≡ true → text ≡ text_of (delta_lines (listed_name d.query) d.changes n))
-    → HearsDelta whole text st s x eff mid → Bridged d n s m (queue_all mid eff.queued)
-bridged d n s m st mid x eff whole text e f w fits told = by told
+    → FitsDelta d n whole large text
+    → HearsDelta whole large text st s x eff mid → Bridged d n s m (queue_all mid eff.queued)
+bridged d n s m st mid x eff whole large text e f w fits told = by told
   where
-    tells : (t : Telling) → TellsWatcher d n s x.pending m t → TellsSession d n m s t
-    tells t h = subst (λ (o : Option Session). MatchOption o (t ≡ m) (λ y. TellsWatcher d n s y.pending m t))
+    tells : (t : Telling) → TellsWatcher d n s m t → TellsSession d n m s t
+    tells t h = subst (λ (o : Option Session). MatchOption o (t ≡ m) (λ y. TellsWatcher d n s m t))
         (sym (watcher_is d m st s x e f w)) h
 
-    by : HearsDelta whole text st s x eff mid → Bridged d n s m (queue_all mid eff.queued)
-    by (inl (h, (i, j))) = record {
-      telling = ends_more s end_slow Slow m;
-      tells = tells (ends_more s end_slow Slow m) (inl (h, refl));
-      state = ap (λ (g : Effect). queue_all mid g.queued) i ∙ ap (λ (y : State). queue y (s, end_slow)) j
-          ∙ ended_state m st s end_slow Slow e;
-      more = (s, end_slow) ∷ [];
-      grows = refl;
-      told = part_last s m.queued end_slow;
-    }
-    by (inr (inl (h, v, i, j))) =
+    by : HearsDelta whole large text st s x eff mid → Bridged d n s m (queue_all mid eff.queued)
+    by (inl (v, (i, j))) =
         let lines = text_of (delta_lines (listed_name d.query) d.changes n) in
         record {
           telling = says_more s lines m;
-          tells = tells (says_more s lines m) (inr (inl (h, refl)));
+          tells = tells (says_more s lines m) (inl (fits.small v, refl));
           state = ap (λ (g : Effect). queue_all mid g.queued) i ∙ ap (λ (y : State). queue y (s, text)) (j ∙ e)
-              ∙ ap (λ (t : Bytes). queue (queue_all m.state m.queued) (s, t)) (fits v)
+              ∙ ap (λ (t : Bytes). queue (queue_all m.state m.queued) (s, t)) (fits.lines v)
               ∙ sym (queue_last m.state m.queued (s, lines));
           more = (s, lines) ∷ [];
           grows = refl;
           told = part_last s m.queued lines;
         }
-    by (inr (inr (h, (i, j)))) = record {
+    by (inr (inl (l, (i, j)))) = record {
+      telling = ends_more s end_large Large m;
+      tells = tells (ends_more s end_large Large m) (inr (inl (fits.is l, refl)));
+      state = ap (λ (g : Effect). queue_all mid g.queued) i ∙ ap (λ (y : State). queue y (s, end_large)) j
+          ∙ ended_state m st s end_large Large e;
+      more = (s, end_large) ∷ [];
+      grows = refl;
+      told = part_last s m.queued end_large;
+    }
+    by (inr (inr (i, j))) = record {
       telling = ends_more s end_memory Memory m;
-      tells = tells (ends_more s end_memory Memory m) (inr (inr (h, [], d.changes, refl, refl)));
+      tells = tells (ends_more s end_memory Memory m) (inr (inr refl));
       state = ap (λ (g : Effect). queue_all mid g.queued) i ∙ ap (λ (y : State). queue y (s, end_memory)) j
           ∙ ended_state m st s end_memory Memory e;
       more = (s, end_memory) ∷ [];

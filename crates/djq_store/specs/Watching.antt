@@ -4,7 +4,7 @@ use Rattle.djq_store_spec.specs.Changes.{RowsChange, RowsOutcome, tried, is_outd
 use Rattle.djq_store_spec.specs.DeltaCost.{Delta, ListsDeltas, deltas_steps}
 use Rattle.djq_engine.specs.declared.cursor.QueryId.{QueryId}
 use Rattle.djq_engine.specs.Kept.{Kept, Registered, registered_at, affected_of, told_at}
-use Rattle.djq_engine.specs.Watching.{Affects, IfAccepted, IfOutOfMemory, LogsTell, queries_affected}
+use Rattle.djq_engine.specs.Watching.{Affects, IfAccepted, IfOutOfMemory, LogsTell, LogsBound, queries_affected}
 
 -- whether a change that was made or tried outdates it
 abbrev pub is_reached : Option RowsChange → Registered → Bool
@@ -20,6 +20,8 @@ pub record TellsChange (old : Kept) (outcome : RowsOutcome) (new : Kept) (before
     pub affected : Affects outcome old new
     pub logs : IfAccepted outcome
         (λ change. LogsTell new (affected_of old.registered change) deltas)
+    pub bounds : IfAccepted outcome
+        (λ change. LogsBound new (affected_of old.registered change) deltas)
     -- where memory was refused, the logs of what it would outdate tell of nothing
     pub discards : IfOutOfMemory outcome (λ change. (id : QueryId)
         → IsSomeAnd (registered_at old.registered id) (λ r. is_outdated change r.query ≡ true)

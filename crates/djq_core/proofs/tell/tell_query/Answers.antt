@@ -23,24 +23,24 @@ returns-then-watchers-eq0 c = λ r e.
 
 pub loop-at-init : goal.loop-at-init
 loop-at-init c =
-    telling_starts c.query_name-query.result c.print_delta-whole.result c.print_delta-whole.new.text.items
+    telling_starts c.query_name-query.result c.print_delta-whole.result c.delta_is_large-large.result c.print_delta-whole.new.text.items
     c.args.engine.now c.args.sessions.now c.requires.sound
 
 pub get-requires : goal.get-requires
 get-requires c =
-    let n = length_still _ _ _ c.args.engine.now c.args.sessions.now c.loop-at.at c.loop-at.engine
+    let n = length_still _ _ _ _ c.args.engine.now c.args.sessions.now c.loop-at.at c.loop-at.engine
     c.loop-at.sessions c.loop-at.invariant in
     omega (arith, c.loop-at-test.true, c.len-at-end.ensures, n)
 
 pub get_mut-requires : goal.get_mut-requires
 get_mut-requires c =
-    let n = length_still _ _ _ c.args.engine.now c.args.sessions.now c.loop-at.at c.loop-at.engine
+    let n = length_still _ _ _ _ c.args.engine.now c.args.sessions.now c.loop-at.at c.loop-at.engine
     c.loop-at.sessions c.loop-at.invariant in
     omega (arith, c.loop-at-test.true, c.len-at-end.ensures, n)
 
 pub tell_watcher-requires-clause-own : goal.tell_watcher-requires-clause-own
 tell_watcher-requires-clause-own c =
-    let n = length_still _ _ _ c.args.engine.now c.args.sessions.now c.loop-at.at c.loop-at.engine
+    let n = length_still _ _ _ _ c.args.engine.now c.args.sessions.now c.loop-at.at c.loop-at.engine
     c.loop-at.sessions c.loop-at.invariant in
     owned_at c.loop-at.engine c.loop-at.sessions c.loop-at.at (opened_at c.loop-at.sessions c.loop-at.at
     c.get_mut.result.now)
@@ -50,7 +50,7 @@ tell_watcher-requires-clause-own c =
 
 pub tell_watcher-requires-clause-running : goal.tell_watcher-requires-clause-running
 tell_watcher-requires-clause-running c =
-    let n = length_still _ _ _ c.args.engine.now c.args.sessions.now c.loop-at.at c.loop-at.engine
+    let n = length_still _ _ _ _ c.args.engine.now c.args.sessions.now c.loop-at.at c.loop-at.engine
     c.loop-at.sessions c.loop-at.invariant in
     let l : c.loop-at.at < length c.loop-at.sessions = omega (arith, c.loop-at-test.true, c.len-at-end.ensures, n)
     in
@@ -70,22 +70,23 @@ pub loop-at-preserved : goal.loop-at-preserved
 loop-at-preserved c =
     let q = c.query_name-query.result in
     let whole = c.print_delta-whole.result in
+    let large = c.delta_is_large-large.result in
     let text = c.print_delta-whole.new.text.items in
     let old = c.args.engine.now in
     let xs = c.args.sessions.now in
-    let n = length_still q whole text old xs c.loop-at.at c.loop-at.engine c.loop-at.sessions
+    let n = length_still q whole large text old xs c.loop-at.at c.loop-at.engine c.loop-at.sessions
     c.loop-at.invariant in
     let l : c.loop-at.at < length c.loop-at.sessions = omega (arith, c.loop-at-test.true, c.len-at-end.ensures, n)
     in
-    subst (λ (at : ℕ). TellsSoFar q whole text old xs at c.match-watch_near.engine c.match-watch_near.sessions)
+    subst (λ (at : ℕ). TellsSoFar q whole large text old xs at c.match-watch_near.engine c.match-watch_near.sessions)
     (next_place c.loop-at.at)
     (elim c.match-watch_near.branch [
       | in-Some w ↦
-          subst (λ (k : Kept). TellsSoFar q whole text old xs (suc c.loop-at.at) k
+          subst (λ (k : Kept). TellsSoFar q whole large text old xs (suc c.loop-at.at) k
           c.match-watch_near.sessions) (sym w.engine-is)
-          (subst (λ (ys : List OpenSession). TellsSoFar q whole text old xs (suc c.loop-at.at)
+          (subst (λ (ys : List OpenSession). TellsSoFar q whole large text old xs (suc c.loop-at.at)
           w.tell_watcher.new.engine ys) (sym w.sessions-is)
-          (told_one q whole text old xs c.loop-at.at c.loop-at.engine w.tell_watcher.new.engine
+          (told_one q whole large text old xs c.loop-at.at c.loop-at.engine w.tell_watcher.new.engine
           c.loop-at.sessions (opened_at c.loop-at.sessions c.loop-at.at w.get_mut.result.now) w.tell_watcher.new.session
           c.loop-at.invariant l (stands c.loop-at.sessions c.loop-at.at (opened_at c.loop-at.sessions c.loop-at.at
           w.get_mut.result.now) w.get_mut.ensures.value)
@@ -96,16 +97,16 @@ loop-at-preserved c =
           c.get.ensures) (stands c.loop-at.sessions c.loop-at.at (opened_at c.loop-at.sessions c.loop-at.at
           w.get_mut.result.now) w.get_mut.ensures.value))
           ∙ sym c.watch_near.ensures.watched ∙ ap (λ (o : Option ℕ). is_some o) w.in-Some.is)
-          (subst (λ (bs : Bytes). Performs (λ st s x e st'. HearsDelta whole bs st s x e st') false
+          (subst (λ (bs : Bytes). Performs (λ st s x e st'. HearsDelta whole large bs st s x e st') false
           c.loop-at.engine w.get_mut.result.now w.tell_watcher.new.engine
           w.tell_watcher.new.session 0 0) w.as_slice.ensures w.tell_watcher.ensures.performs)
           w.tell_watcher.ensures.kept w.tell_watcher.ensures.watches))
       | in_default w ↦
-          subst (λ (k : Kept). TellsSoFar q whole text old xs (suc c.loop-at.at) k
+          subst (λ (k : Kept). TellsSoFar q whole large text old xs (suc c.loop-at.at) k
           c.match-watch_near.sessions) (sym w.engine-is)
-          (subst (λ (ys : List OpenSession). TellsSoFar q whole text old xs (suc c.loop-at.at) c.loop-at.engine
+          (subst (λ (ys : List OpenSession). TellsSoFar q whole large text old xs (suc c.loop-at.at) c.loop-at.engine
           ys) (sym w.sessions-is)
-          (untold_one q whole text old xs c.loop-at.at c.loop-at.engine c.loop-at.sessions
+          (untold_one q whole large text old xs c.loop-at.at c.loop-at.engine c.loop-at.sessions
           (opened_at c.loop-at.sessions c.loop-at.at c.get.result.now) c.loop-at.invariant l (stands c.loop-at.sessions
           c.loop-at.at (opened_at c.loop-at.sessions c.loop-at.at c.get.result.now) c.get.ensures)
           (sym c.watch_near.ensures.watched ∙ ap (λ (o : Option ℕ). is_some o) w.in_default.is)))
@@ -114,14 +115,16 @@ loop-at-preserved c =
 pub returns : goal.returns
 returns c = λ r e.
     let named = name_of c.args.engine.now c.args.id r c.query_name-query.result e c.query_name-query.ensures in
-    let n = length_still _ _ _ c.args.engine.now c.args.sessions.now c.loop-at.at c.loop-at.engine
+    let n = length_still _ _ _ _ c.args.engine.now c.args.sessions.now c.loop-at.at c.loop-at.engine
     c.loop-at.sessions c.loop-at.invariant in
     subst (λ (p : Bytes). TellsQuery c.args.engine.now c.args.id p c.args.sessions.now c.loop-at.engine
     c.loop-at.sessions) named
     (query_told c.args.engine.now c.loop-at.engine c.args.id c.query_name-query.result c.args.sessions.now
-    c.loop-at.sessions c.print_delta-whole.result c.print_delta-whole.new.text.items c.loop-at.at
+    c.loop-at.sessions c.print_delta-whole.result c.delta_is_large-large.result c.print_delta-whole.new.text.items
+    c.loop-at.at
     (subst (λ (bs : Bytes). Prints c.args.engine.now c.args.id c.query_name-query.result c.print_delta-whole.result bs
     c.print_delta-whole.new.text.items) c.clear.ensures.items c.print_delta-whole.ensures)
+    c.delta_is_large-large.ensures
     c.loop-at.invariant (omega (arith, c.loop-at-test.false, c.len-at-end.ensures, n))
     (λ none. c.if-watchers-eq0.false
     (watchers_of c.args.engine.now c.args.sessions.now c.args.id r c.watchers.result c.requires.sound e

@@ -14,7 +14,7 @@ queue_delta-requires-clause-running c = ap (λ (d : Talk). d.cause) c.enter.ensu
 
 pub returns-clause-performs : goal.returns-clause-performs
 returns-clause-performs c = subst (λ (d : Talk). Performs
-    (λ st s x e st'. HearsDelta c.args.whole c.args.text.now st s x e st') false
+    (λ st s x e st'. HearsDelta c.args.whole c.args.large c.args.text.now st s x e st') false
     c.args.engine.now d c.queue_delta.new.engine c.queue_delta.new.session 0 0) c.enter.ensures
     c.queue_delta.ensures.performs
 
