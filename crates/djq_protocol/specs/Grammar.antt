@@ -6,16 +6,20 @@
 --           | "union" name name name *name
 --           | "open" name name                | "next" name count
 --           | "close" name                    | "has" name *literal
---           | "watch" name                    | "unwatch" name
+--           | "watch" name ["quiet"]          | "unwatch" name
+--           | "follow" name count ["quiet"]   | "show" name
 --           | "explain" name                  | "shape" name
 --           | "batch" | "done" [number]       | "abandon" | "quit" | "stop"
+--           | "copies" name literal *literal  | "end" number
+--           | "relations" | "queries" | "status" | "sessions" | "ping" | "why"
 --     query = name "(" [name *("," name)] ")" "<-" item *("," item)     one atom at least
 --     item  = atom | name sign literal        sign = "<" | "<=" | ">" | ">=" | "=" | "!="
 --     atom  = name "(" [term *("," term)] ")"
 --     term  = name | "_" | literal
 --
--- A literal is an integer or a text; a count is an integer of digits alone, from 1 to 1000, and a
--- number one of any size. Keywords and types may be names too: the place tells them apart. Signs are
+-- A literal is an integer or a text; a count is an integer of digits alone, from 1 to 1000, behind
+-- `follow` to 1000000, and a number one of any size. Keywords, types and `quiet` may be names too: the
+-- place tells them apart. Signs are
 -- taken as long as they can be, so `x<-5` isn't a comparison, and `x < -5` is one. The bytes of a line
 -- are UTF-8.
 use Rattle.std.specs.Prelude.{
@@ -64,7 +68,7 @@ use Rattle.djq_value.specs.Token.{
   tokens,
 }
 use Rattle.djq_value.specs.Literal.{is_name, is_small_value, literal_of, natural_of}
-use Rattle.djq_protocol.specs.declared.limits.TheConstants.{NEXT_COUNT, LAST_COUNT}
+use Rattle.djq_protocol.specs.declared.limits.TheConstants.{NEXT_COUNT, FOLLOW_COUNT, LAST_COUNT, LAST_ID}
 use Rattle.djq_protocol.specs.declared.keyword.Keyword.{Keyword}
 use Rattle.djq_protocol.specs.declared.keyword.Keyword.TheVariants.{
   Rel as RelWord,
@@ -86,6 +90,16 @@ use Rattle.djq_protocol.specs.declared.keyword.Keyword.TheVariants.{
   Abandon as AbandonWord,
   Quit as QuitWord,
   Stop as StopWord,
+  Follow as FollowWord,
+  Relations as RelationsWord,
+  Queries as QueriesWord,
+  Show as ShowWord,
+  Copies as CopiesWord,
+  Status as StatusWord,
+  Sessions as SessionsWord,
+  Ping as PingWord,
+  End as EndWord,
+  Why as WhyWord,
 }
 use Rattle.djq_protocol.specs.declared.command.Command.{Command}
 use Rattle.djq_protocol.specs.declared.command.Command.TheVariants.{
@@ -108,6 +122,16 @@ use Rattle.djq_protocol.specs.declared.command.Command.TheVariants.{
   Abandon,
   Quit,
   Stop,
+  Follow,
+  Relations,
+  Queries,
+  Show,
+  Copies,
+  Status,
+  Sessions,
+  Ping,
+  End,
+  Why,
 }
 
 -- Items: what one token says.
@@ -282,20 +306,50 @@ abbrev pub two_names : List Token → Option (Bytes × Bytes)
 two_names (word m ∷ word n ∷ []) = if is_name m && is_name n then Some (m, n) else None
 two_names _ = None
 
--- a count of answers
-abbrev pub is_count : ℕ → Bool
-is_count k = nat_le 1 k && nat_le k NEXT_COUNT
+-- a count of answers, of which so many may be asked for
+abbrev pub is_count : ℕ → ℕ → Bool
+is_count most k = nat_le 1 k && nat_le k most
 
--- a number, where it is a count of answers
-abbrev pub answer_count : Option ℕ → Option ℕ
-answer_count (Some k) = if is_count k then Some k else None
-answer_count None = None
+-- a number, where it is such a count
+abbrev pub answer_count : ℕ → Option ℕ → Option ℕ
+answer_count most (Some k) = if is_count most k then Some k else None
+answer_count most None = None
 
 -- a name and a count
 abbrev pub name_and_count : List Token → Option (Bytes × ℕ)
 name_and_count (word c ∷ word k ∷ []) =
-    if is_name c then option_map (λ n. (c, n)) (answer_count (natural_of k)) else None
+    if is_name c then option_map (λ n. (c, n)) (answer_count NEXT_COUNT (natural_of k)) else None
 name_and_count _ = None
+
+-- nothing, or the word `quiet`
+abbrev pub quiet_if_any : List Token → Option Bool
+quiet_if_any [] = Some false
+quiet_if_any (word w ∷ []) = if bytes_eq w (codes "quiet") then Some true else None
+quiet_if_any _ = None
+
+-- a name, and whether it is watched quietly
+abbrev pub name_and_quiet : List Token → Option (Bytes × Bool)
+name_and_quiet (word n ∷ ts) =
+    if is_name n then option_map (λ quiet. (n, quiet)) (quiet_if_any ts) else None
+name_and_quiet _ = None
+
+-- two parts, where both are there
+abbrev pub both_of : {A B : Type 0} → Option A → Option B → Option (A × B)
+both_of (Some a) (Some b) = Some (a, b)
+both_of (Some a) None = None
+both_of None b = None
+
+-- a count of answers, and whether they are watched quietly
+abbrev pub count_and_quiet : List Token → Option (ℕ × Bool)
+count_and_quiet (word k ∷ ts) =
+    both_of (answer_count FOLLOW_COUNT (natural_of k)) (quiet_if_any ts)
+count_and_quiet _ = None
+
+-- a name, and these
+abbrev pub name_count_and_quiet : List Token → Option (Bytes × (ℕ × Bool))
+name_count_and_quiet (word n ∷ ts) =
+    if is_name n then option_map (λ p. (n, p)) (count_and_quiet ts) else None
+name_count_and_quiet _ = None
 
 -- nothing
 abbrev pub at_line_end : Command → List Token → Option Command
@@ -312,7 +366,31 @@ number_if_any [] = Some None
 number_if_any (word k ∷ []) = option_map (λ n. Some (number_or_last n)) (natural_of k)
 number_if_any _ = None
 
+-- the id of a session, where each number past the last stands for the last
+abbrev pub id_or_last : ℕ → ℕ
+id_or_last n = if nat_le n LAST_ID then n else LAST_ID
+
+-- one id
+abbrev pub one_id : List Token → Option ℕ
+one_id (word k ∷ []) = option_map id_or_last (natural_of k)
+one_id _ = None
+
 -- Commands.
+
+-- the keyword of a question that a word is, or `follow` or `end`
+abbrev pub question_keyword_of : Bytes → Option Keyword
+question_keyword_of w =
+    if bytes_eq w (codes "follow") then Some FollowWord
+    else (if bytes_eq w (codes "relations") then Some RelationsWord
+    else (if bytes_eq w (codes "queries") then Some QueriesWord
+    else (if bytes_eq w (codes "show") then Some ShowWord
+    else (if bytes_eq w (codes "copies") then Some CopiesWord
+    else (if bytes_eq w (codes "status") then Some StatusWord
+    else (if bytes_eq w (codes "sessions") then Some SessionsWord
+    else (if bytes_eq w (codes "ping") then Some PingWord
+    else (if bytes_eq w (codes "end") then Some EndWord
+    else (if bytes_eq w (codes "why") then Some WhyWord
+    else None)))))))))
 
 -- the keyword that a word is
 abbrev pub keyword_of : Bytes → Option Keyword
@@ -336,7 +414,7 @@ keyword_of w =
     else (if bytes_eq w (codes "abandon") then Some AbandonWord
     else (if bytes_eq w (codes "quit") then Some QuitWord
     else (if bytes_eq w (codes "stop") then Some StopWord
-    else None))))))))))))))))))
+    else question_keyword_of w))))))))))))))))))
 
 -- the command that stands behind a keyword
 abbrev pub command_behind : Keyword → List Token → Option Command
@@ -350,7 +428,7 @@ command_behind OpenWord ts = option_map (λ p. Open p.0 p.1) (two_names ts)
 command_behind NextWord ts = option_map (λ p. Next p.0 p.1) (name_and_count ts)
 command_behind CloseWord ts = option_map (λ c. Close c) (one_name ts)
 command_behind HasWord ts = option_map (λ p. Has p.0 p.1) (named_any literal_of ts)
-command_behind WatchWord ts = option_map (λ q. Watch q) (one_name ts)
+command_behind WatchWord ts = option_map (λ p. Watch p.0 p.1) (name_and_quiet ts)
 command_behind UnwatchWord ts = option_map (λ q. Unwatch q) (one_name ts)
 command_behind ExplainWord ts = option_map (λ q. Explain q) (one_name ts)
 command_behind ShapeWord ts = option_map (λ q. Shape q) (one_name ts)
@@ -359,6 +437,16 @@ command_behind DoneWord ts = option_map (λ n. Done n) (number_if_any ts)
 command_behind AbandonWord ts = at_line_end Abandon ts
 command_behind QuitWord ts = at_line_end Quit ts
 command_behind StopWord ts = at_line_end Stop ts
+command_behind FollowWord ts = option_map (λ p. Follow p.0 p.1.0 p.1.1) (name_count_and_quiet ts)
+command_behind RelationsWord ts = at_line_end Relations ts
+command_behind QueriesWord ts = at_line_end Queries ts
+command_behind ShowWord ts = option_map (λ q. Show q) (one_name ts)
+command_behind CopiesWord ts = option_map (λ p. Copies p.0 p.1) (named_some literal_of ts)
+command_behind StatusWord ts = at_line_end Status ts
+command_behind SessionsWord ts = at_line_end Sessions ts
+command_behind PingWord ts = at_line_end Ping ts
+command_behind EndWord ts = option_map (λ s. End s) (one_id ts)
+command_behind WhyWord ts = at_line_end Why ts
 
 -- the command that a keyword and what stands behind it say; none where there is no keyword
 abbrev pub command_with : Option Keyword → List Token → Option Command
@@ -390,6 +478,7 @@ abbrev pub is_in_range : Command → Bool
 is_in_range (Add n row) = list_all is_small_value row
 is_in_range (Del n row) = list_all is_small_value row
 is_in_range (Has q row) = list_all is_small_value row
+is_in_range (Copies n row) = list_all is_small_value row
 is_in_range (Register q) =
     list_all is_small_atom q.atoms && list_all (λ c. is_small_value c.constant) q.comparisons
 is_in_range _ = true
@@ -400,6 +489,7 @@ takes_memory_to_read (Rel n cs) = true
 takes_memory_to_read (Add n row) = true
 takes_memory_to_read (Del n row) = true
 takes_memory_to_read (Has q row) = true
+takes_memory_to_read (Copies n row) = true
 takes_memory_to_read (Register q) = true
 takes_memory_to_read (Union n qs) = true
 takes_memory_to_read _ = false

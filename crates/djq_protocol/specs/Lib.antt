@@ -1,9 +1,14 @@
 pub mod Line
 pub mod Grammar
 pub mod Reply
+pub mod QuestionReply
+pub mod Why
+pub mod Departure
 pub mod Conditions
 pub mod Columns
 pub mod Variables
+pub mod Places
+pub mod QueryReasons
 pub mod QueryFault
 pub mod Hypergraph
 pub mod Rest

@@ -1,53 +1,26 @@
 -- Why a query can't be asked over relations, whatever their rows are.
-use Rattle.std.specs.Prelude.{
-  List,
-  [],
-  ◌∷◌,
-  ◌++◌,
-  ◌==◌,
-  ◌&&◌,
-  ◌||◌,
-  Bool,
-  true,
-  false,
-  not,
-  nat_lt,
-  Option,
-  is_none,
-  is_some,
-  nat_le,
-  length,
-}
+use Rattle.std.specs.Prelude.{ℕ, List, [], ◌∷◌, ◌++◌, ◌==◌, ◌+◌, ◌||◌, Bool, false, not, nat_lt, Option, is_none, is_some, nat_le}
+use Rattle.std.specs.Prelude.{length}
 use Rattle.std.specs.List.{list_any}
 use Rattle.djq_model.specs.declared.relation.ColumnType.{ColumnType}
-use Rattle.djq_model.specs.declared.relation.ColumnType.TheVariants.{Int as IntColumn, Text as TextColumn}
 use Rattle.djq_model.specs.declared.relation.Relation.{Relation}
 use Rattle.djq_model.specs.declared.query.Query.{Query}
 use Rattle.djq_model.specs.declared.query.Atom.{Atom}
 use Rattle.djq_model.specs.declared.query.Term.{Term}
-use Rattle.djq_model.specs.declared.query.Term.TheVariants.{Variable, Hole, Constant}
-use Rattle.djq_model.specs.declared.query.Operator.{Operator}
-use Rattle.djq_model.specs.declared.query.Operator.TheVariants.{Equal, NotEqual}
-use Rattle.djq_model.specs.declared.query.Comparison.{Comparison}
-use Rattle.djq_model.specs.Data.{bytes_eq, relation_of}
+use Rattle.djq_model.specs.Data.{relation_of}
 use Rattle.djq_model.specs.Listed.{Listed, listed_of}
 use Rattle.djq_value.specs.Literal.{are_different}
-use Rattle.djq_protocol.specs.declared.limits.TheConstants.{ATOMS, VARIABLES, HEAD_VARIABLES, COMPARISONS, QUERIES}
+use Rattle.djq_protocol.specs.declared.limits.TheConstants.{ATOMS, VARIABLES, HEAD_VARIABLES, COMPARISONS}
 use Rattle.djq_protocol.specs.declared.answer.Refusal.{Refusal}
-use Rattle.djq_protocol.specs.declared.answer.Refusal.TheVariants.{
-  Taken,
-  NoRelation,
-  Arity,
-  WrongType,
-  VariableType,
-  Unbound,
-  HeadRepeated,
-  HeadUnbound,
-  Limit,
-}
-use Rattle.djq_protocol.specs.Columns.{columns_of, is_of, same_type}
-use Rattle.djq_protocol.specs.Conditions.{first_refusal}
+use Rattle.djq_protocol.specs.declared.reason.Limited.TheVariants.{Queries}
+use Rattle.djq_protocol.specs.declared.reason.Reason.TheVariants.{Taken, Limit}
+use Rattle.djq_protocol.specs.Columns.{columns_of}
+use Rattle.djq_protocol.specs.Conditions.{Conditions, first_refusal}
+use Rattle.djq_protocol.specs.Why.{passes}
 use Rattle.djq_protocol.specs.Variables.{stands_in, variables_of}
+pub use Rattle.djq_protocol.specs.Places.{is_misfit, is_clash, has_order, is_miscompared}
+use Rattle.djq_protocol.specs.QueryReasons.{unknown_reason, arity_reason, misfit_reason, clash_reason}
+use Rattle.djq_protocol.specs.QueryReasons.{unbound_reason, miscompared_reason, repeated_reason, head_reason, size_reason}
 
 -- whether a term and the type of its column pass a test somewhere among terms and columns
 abbrev pub any_column : (Term → ColumnType → Bool) → List Term → List ColumnType → Bool
@@ -69,20 +42,9 @@ abbrev pub has_wrong_arity : List Relation → Query → Bool
 has_wrong_arity relations q =
     list_any (λ a. not (length a.terms == length (columns_of relations a.relation))) q.atoms
 
--- a constant at a column of another type
-abbrev pub is_misfit : Term → ColumnType → Bool
-is_misfit (Constant v) c = not (is_of c v)
-is_misfit (Variable x) c = false
-is_misfit Hole c = false
-
 -- A constant is of another type than its column.
 abbrev pub has_misfit : List Relation → Query → Bool
 has_misfit relations q = any_place is_misfit relations q.atoms
-
--- one variable at columns of two types
-abbrev pub is_clash : Term → ColumnType → Term → ColumnType → Bool
-is_clash (Variable x) c (Variable y) d = bytes_eq y x && not (same_type d c)
-is_clash _ c _ d = false
 
 -- A variable stands at columns of two types.
 abbrev pub has_clash : List Relation → Query → Bool
@@ -92,21 +54,6 @@ has_clash relations q =
 -- A comparison is of a variable that stands in no atom.
 abbrev pub compares_unbound : Query → Bool
 compares_unbound q = list_any (λ c. not (stands_in q.atoms c.variable)) q.comparisons
-
--- whether an operator has a meaning at columns of this type: texts are equal or not, and no more
-abbrev pub has_order : Operator → ColumnType → Bool
-has_order Equal c = true
-has_order NotEqual c = true
-has_order o IntColumn = true
-has_order o TextColumn = false
-
--- the variable of a comparison at a column of another type than its constant, or at one where its
--- operator has no meaning
-abbrev pub is_miscompared : Comparison → Term → ColumnType → Bool
-is_miscompared c (Variable x) column =
-    bytes_eq x c.variable && not (is_of column c.constant && has_order c.operator column)
-is_miscompared c Hole column = false
-is_miscompared c (Constant v) column = false
 
 -- A comparison doesn't suit its variable's type.
 abbrev pub has_miscompared : List Relation → Query → Bool
@@ -129,27 +76,32 @@ is_too_large q =
     || (nat_lt HEAD_VARIABLES (length q.head) || nat_lt COMPARISONS (length q.comparisons)))
 
 -- what is wrong with a query, in the order in which it is tried
-abbrev pub query_faults : List Relation → Query → List (Bool × Refusal)
+abbrev pub query_faults : List Relation → Query → Conditions
 query_faults relations q =
-    (reads_unknown relations q, NoRelation)
-    ∷ (has_wrong_arity relations q, Arity)
-    ∷ (has_misfit relations q, WrongType)
-    ∷ (has_clash relations q, VariableType)
-    ∷ (compares_unbound q, Unbound)
-    ∷ (has_miscompared relations q, WrongType)
-    ∷ (repeats_head q, HeadRepeated)
-    ∷ (has_unbound_head q, HeadUnbound)
-    ∷ (is_too_large q, Limit)
+    (reads_unknown relations q, unknown_reason relations q)
+    ∷ (has_wrong_arity relations q, arity_reason relations q)
+    ∷ (has_misfit relations q, misfit_reason relations q)
+    ∷ (has_clash relations q, clash_reason relations q)
+    ∷ (compares_unbound q, unbound_reason q)
+    ∷ (has_miscompared relations q, miscompared_reason relations q)
+    ∷ (repeats_head q, repeated_reason q)
+    ∷ (has_unbound_head q, head_reason q)
+    ∷ (is_too_large q, size_reason q)
     ∷ []
 
 -- The first fault of a query; none where it can be asked over these relations.
 abbrev pub query_fault : List Relation → Query → Option Refusal
 query_fault relations q = first_refusal (query_faults relations q)
 
--- Why a query isn't registered beside others: its name is taken, a fault, or the number of queries.
-abbrev pub whole_query_refusal : List Relation → List Listed → Query → Option Refusal
-whole_query_refusal relations queries q = first_refusal (
-    (is_some (listed_of queries q.name), Taken)
+-- Under which conditions a query isn't registered beside others, of which there may be so many: its
+-- name is taken, a fault, or the number of queries.
+abbrev pub query_conditions : ℕ → List Relation → List Listed → Query → Conditions
+query_conditions most relations queries q =
+    (is_some (listed_of queries q.name), Taken q.name)
     ∷ query_faults relations q
-    ++ (nat_le QUERIES (length queries), Limit)
-    ∷ [])
+    ++ (nat_le most (length queries), Limit (passes Queries (length queries + 1) most))
+    ∷ []
+
+-- why it isn't
+abbrev pub whole_query_refusal : ℕ → List Relation → List Listed → Query → Option Refusal
+whole_query_refusal most relations queries q = first_refusal (query_conditions most relations queries q)

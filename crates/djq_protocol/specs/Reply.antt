@@ -40,6 +40,8 @@ use Rattle.djq_protocol.specs.declared.answer.Refusal.TheVariants.{
   Misplaced,
   NoCopy,
   OtherCount,
+  NoSession,
+  NotAllowed,
 }
 use Rattle.djq_protocol.specs.declared.held.LineRefusal.{LineRefusal}
 use Rattle.djq_protocol.specs.declared.held.LineRefusal.TheVariants.{
@@ -55,7 +57,7 @@ use Rattle.djq_protocol.specs.declared.held.DoneRefusal.TheVariants.{
   NoMemory as NoneLeft,
 }
 use Rattle.djq_protocol.specs.declared.answer.EndLine.{EndLine}
-use Rattle.djq_protocol.specs.declared.answer.EndLine.TheVariants.{Long, Slow, Memory, Full}
+use Rattle.djq_protocol.specs.declared.answer.EndLine.TheVariants.{Long, Slow, Memory, Full, Told}
 use Rattle.djq_protocol.specs.declared.answer.Sign.{Sign}
 use Rattle.djq_protocol.specs.declared.answer.Sign.TheVariants.{Came, Went}
 use Rattle.djq_protocol.specs.declared.rest.NamedRest.{NamedRest}
@@ -96,6 +98,8 @@ refusal_line Member = line (codes "err 17 member")
 refusal_line Misplaced = line (codes "err 18 batch")
 refusal_line NoCopy = line (codes "err 19 absent")
 refusal_line OtherCount = line (codes "err 20 held")
+refusal_line NoSession = line (codes "err 21 no session")
+refusal_line NotAllowed = line (codes "err 22 not allowed")
 
 -- the line that ends a session after a line that was too long
 abbrev pub end_long : Bytes
@@ -112,6 +116,10 @@ end_memory = line (codes "end memory")
 -- the line that ends a session where too many are open
 abbrev pub end_full : Bytes
 end_full = line (codes "end full")
+
+-- the line that ends a session which another one said is to end
+abbrev pub end_told : Bytes
+end_told = line (codes "end told")
 
 -- the line that says that input ended within a line
 abbrev pub input_cut : Bytes
@@ -132,6 +140,7 @@ end_line Long = end_long
 end_line Slow = end_slow
 end_line Memory = end_memory
 end_line Full = end_full
+end_line Told = end_told
 
 -- values, each behind a space
 abbrev pub cells_text : Tuple → Bytes

@@ -38,6 +38,10 @@ pub enum Refusal {
     NoCopy,
     /// 20: the number that `done` names isn't that of the held lines.
     OtherCount,
+    /// 21: no other session that is open has the id.
+    NoSession,
+    /// 22: the session's class doesn't allow the command.
+    NotAllowed,
 }
 
 /// What `add` did to a row that suits its relation.
@@ -82,6 +86,8 @@ pub enum EndLine {
     Memory,
     /// Too many sessions are open.
     Full,
+    /// Another session said `end`.
+    Told,
 }
 
 /// Whether a change inserted an answer or deleted one.
@@ -108,4 +114,18 @@ pub enum EndCause {
     Slow,
     /// Out of memory.
     Memory,
+    /// Another session said `end`.
+    Told,
+}
+
+/// By which of the server's addresses a session came, and so what it may do.
+#[derive(Clone, Copy, Debug, PartialEq, Eq)]
+pub enum Class {
+    /// It came by the server's own address. Where there is a control address it neither stops the
+    /// server nor ends another session.
+    Client,
+    /// It came by the address for readers, and changes nothing.
+    Reader,
+    /// It came by the control address.
+    Controller,
 }

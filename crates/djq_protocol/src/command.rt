@@ -67,10 +67,22 @@ pub enum Command {
         /// The tuple.
         row: Row,
     },
-    /// `watch QUERY`: each change of the query's answers is reported to the session.
+    /// `watch QUERY [quiet]`: each change of the query's answers is reported to the session.
     Watch {
         /// The query.
         query: Name,
+        /// Whether only changes are reported by which an answer comes or goes.
+        is_quiet: bool,
+    },
+    /// `follow QUERY COUNT [quiet]`: its answers are sent as a delta from nothing, if there are no
+    /// more than this many, and from then on the session watches it.
+    Follow {
+        /// The query.
+        query: Name,
+        /// The most answers.
+        count: u32,
+        /// As of `watch`.
+        is_quiet: bool,
     },
     /// `unwatch QUERY`: changes are reported to it no more.
     Unwatch {
@@ -101,4 +113,34 @@ pub enum Command {
     Quit,
     /// `stop`: the whole server ends.
     Stop,
+    /// `relations`: the relations, with their columns and how many rows each has.
+    Relations,
+    /// `queries`: what is registered, and how much it is used.
+    Queries,
+    /// `show QUERY`: the line that registered it.
+    Show {
+        /// The query.
+        query: Name,
+    },
+    /// `copies NAME VALUE ..`: how many copies of a row there are.
+    Copies {
+        /// The relation.
+        name: Name,
+        /// The row.
+        row: Row,
+    },
+    /// `status`: how many changes there were, and how near the limits are.
+    Status,
+    /// `sessions`: the open sessions.
+    Sessions,
+    /// `ping`: the number of changes, behind every delta up to it.
+    Ping,
+    /// `end ID`: another session ends.
+    End {
+        /// Its id; at most [`LAST_ID`](crate::limits::LAST_ID), which stands for each larger
+        /// number.
+        session: u64,
+    },
+    /// `why`: the reason for which a line of the session was refused last.
+    Why,
 }

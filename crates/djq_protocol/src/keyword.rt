@@ -39,4 +39,24 @@ pub enum Keyword {
     Quit,
     /// `stop`.
     Stop,
+    /// `follow`.
+    Follow,
+    /// `relations`.
+    Relations,
+    /// `queries`.
+    Queries,
+    /// `show`.
+    Show,
+    /// `copies`.
+    Copies,
+    /// `status`.
+    Status,
+    /// `sessions`.
+    Sessions,
+    /// `ping`.
+    Ping,
+    /// `end`.
+    End,
+    /// `why`.
+    Why,
 }

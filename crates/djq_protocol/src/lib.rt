@@ -23,10 +23,11 @@
 //! case for each form.
 #![tactic(auto)]
 
-pub use answer::{AddOutcome, DeleteOutcome, EndCause, EndLine, Refusal, Shape, Sign};
+pub use answer::{AddOutcome, Class, DeleteOutcome, EndCause, EndLine, Refusal, Shape, Sign};
 pub use command::Command;
 pub use held::{DoneRefusal, LineRefusal, RefusedLine, Verb};
 pub use keyword::Keyword;
+pub use reason::{Column, Digits, Limited, Passed, Reason};
 pub use rest::{NamedRest, QueryOutcome};
 
 mod answer;
@@ -34,4 +35,5 @@ mod command;
 mod held;
 mod keyword;
 pub mod limits;
+mod reason;
 mod rest;

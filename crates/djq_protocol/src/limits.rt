@@ -12,8 +12,11 @@ pub const COLUMNS: usize = 16;
 /// The most relations.
 pub const RELATIONS: usize = 256;
 
-/// The most registered queries and unions.
+/// The most registered queries and unions, where the operator says no other number.
 pub const QUERIES: usize = 256;
+
+/// The most that an operator may say of them. A log is loaded up to this many, whatever was said.
+pub const MOST_QUERIES: usize = 65_536;
 
 /// The most members of a union.
 pub const MEMBERS: usize = 8;
@@ -54,13 +57,26 @@ pub const HELD_BYTES: usize = 16_777_216;
 /// The number that `done` with a larger number stands for. No batch holds as many lines.
 pub const LAST_COUNT: u32 = 4_294_967_295;
 
-/// The most sessions that are open at once.
+/// The most clients and readers that are open at once, where the operator says no other number.
 pub const SESSIONS: usize = 64;
+
+/// The most that an operator may say of them.
+pub const MOST_SESSIONS: usize = 4096;
+
+/// The most controllers that are open at once, beside the clients and readers.
+pub const CONTROLLERS: usize = 4;
+
+/// The id that `end` with a larger number stands for. No session reaches it.
+pub const LAST_ID: u64 = 18_446_744_073_709_551_615;
 
 /// The most answers that one `next` asks for.
 pub const NEXT_COUNT: u32 = 1000;
 
-/// The most bytes that are pending as a command begins.
+/// The most answers that one `follow` asks for.
+pub const FOLLOW_COUNT: u32 = 1_000_000;
+
+/// The most bytes that count as pending as a command begins; and the most that don't, for a delta
+/// to be added to those.
 pub const PENDING_BYTES: usize = 1_048_576;
 
 /// The bytes of room that are reserved for a reply before its command begins.
