@@ -12,15 +12,16 @@ use Rattle.djq_model.specs.Data.{Bytes, Tuple, bytes_eq, relation_of}
 use Rattle.djq_model.specs.Listed.{Listed, a_query, a_union, AnswersOf, listed_of}
 use Rattle.djq_model.specs.Typed.{fits}
 use Rattle.djq_protocol.specs.declared.answer.Refusal.{Refusal}
-use Rattle.djq_protocol.specs.declared.answer.Refusal.TheVariants.{NoQuery, Arity, WrongType}
+use Rattle.djq_protocol.specs.declared.reason.Reason.TheVariants.{NoQuery, Arity, WrongType}
 use Rattle.djq_protocol.specs.declared.answer.Shape.{Shape}
 use Rattle.djq_protocol.specs.declared.answer.Shape.TheVariants.{Flat, Linear, Union}
 use Rattle.djq_protocol.specs.Columns.{types_of}
 use Rattle.djq_protocol.specs.Hypergraph.{edges_of, head_of}
 use Rattle.djq_hypergraph.specs.Flat.{IsFlat}
 use Rattle.djq_store_spec.specs.Store.{Store}
-use Rattle.djq_protocol.specs.Conditions.{first_refusal, Answers, OutOfMemoryWhere}
+use Rattle.djq_protocol.specs.Conditions.{Conditions, first_refusal, Answers, OutOfMemoryWhere}
 use Rattle.djq_store_spec.specs.Registering.{atoms_of}
+use Rattle.djq_store_spec.specs.Rows.{first_misfit}
 
 -- `has`
 
@@ -51,21 +52,25 @@ listed_types relations (Some (a_query q)) = answer_types relations q
 listed_types relations (Some (a_union name [])) = []
 listed_types relations (Some (a_union name (q ∷ qs))) = answer_types relations q
 
--- why a tuple doesn't suit columns of these types
-abbrev pub misfit : List ColumnType → Tuple → Option Refusal
-misfit types t = first_refusal (
-    (not (length t == length types), Arity)
-    ∷ (not (fits types t), WrongType)
-    ∷ [])
+-- the conditions under which a tuple doesn't suit columns of these types, of what has this name
+abbrev pub misfit_conditions : Bytes → List ColumnType → Tuple → Conditions
+misfit_conditions name types t =
+    (not (length t == length types), Arity name (length types) (length t))
+    ∷ (not (fits types t), WrongType name (first_misfit types t))
+    ∷ []
 
--- why it isn't told whether a tuple is an answer
+-- why it doesn't
+abbrev pub misfit : List ColumnType → Tuple → Option Refusal
+misfit types t = first_refusal (misfit_conditions [] types t)
+
+-- the conditions under which it isn't told whether a tuple is an answer
+abbrev pub has_conditions : Store → Bytes → Tuple → Conditions
+has_conditions st name t = (is_none (listed_of st.queries name), NoQuery name)
+    ∷ misfit_conditions name (listed_types st.relations (listed_of st.queries name)) t
+
+-- why it isn't
 abbrev pub has_refusal : Store → Bytes → Tuple → Option Refusal
-has_refusal st name t =
-    let types = listed_types st.relations (listed_of st.queries name) in first_refusal (
-    (is_none (listed_of st.queries name), NoQuery)
-    ∷ (not (length t == length types), Arity)
-    ∷ (not (fits types t), WrongType)
-    ∷ [])
+has_refusal st name t = first_refusal (has_conditions st name t)
 
 -- Something holds or doesn't, as is told.
 abbrev pub Tells : Type 0 → Bool → Type 0
@@ -96,8 +101,15 @@ IsShapeOf (a_query q) Union = ⊥
 IsShapeOf (a_union name qs) Union = ⊤
 IsShapeOf (a_union name qs) _ = ⊥
 
+-- the condition under which a name isn't asked about: nothing is registered under it
+abbrev pub named_conditions : Store → Bytes → Conditions
+named_conditions st name = (is_none (listed_of st.queries name), NoQuery name) ∷ []
+
+abbrev pub named_refusal : Store → Bytes → Option Refusal
+named_refusal st name = first_refusal (named_conditions st name)
+
 -- The shape of what is registered is told. It takes no memory.
 pub record TellsShape (st : Store) (name : Bytes) (result : Result Shape Refusal) : Type 0 where
-  pub answer : Answers (first_refusal ((is_none (listed_of st.queries name), NoQuery) ∷ [])) result
+  pub answer : Answers (named_refusal st name) result
       (λ shape. IsSomeAnd (listed_of st.queries name) (λ q. IsShapeOf q shape))
       (OutOfMemoryWhere ⊥)

@@ -11,6 +11,8 @@ pub mod Held
 pub mod Lines
 pub mod Judging
 pub mod Done
+pub mod DoneReason
 pub mod Transaction
 pub mod Delta
 pub mod DeltaCost
+pub mod Questions

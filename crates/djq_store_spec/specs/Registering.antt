@@ -1,6 +1,6 @@
 -- Registering and dropping a query, and what its answers may cost.
 use Rattle.std.specs.Prelude.{ℕ, List, [], ◌∷◌, ◌≡◌, ◌+◌, ◌*◌, ◌-◌, ◌++◌, ◌≤◌, ◌⊎◌, ◌||◌, Bool, true, Option, is_some}
-use Rattle.std.specs.Prelude.{is_none, Result, OnErr, length, ⊤}
+use Rattle.std.specs.Prelude.{is_none, Result, OnErr, length, nat_lt, reverse, count_by, ⊤}
 use Rattle.std.specs.List.{list_any}
 use Rattle.djq_model.specs.declared.query.Query.{Query}
 use Rattle.djq_model.specs.Data.{Bytes, bytes_eq, drop_first}
@@ -8,24 +8,43 @@ use Rattle.djq_model.specs.Listed.{Listed, a_query, a_union, listed_name, member
 use Rattle.djq_model.specs.Known.{texts_in, all_learned}
 use Rattle.djq_protocol.specs.declared.limits.TheConstants.{TEXTS}
 use Rattle.djq_protocol.specs.declared.answer.Refusal.{Refusal}
-use Rattle.djq_protocol.specs.declared.answer.Refusal.TheVariants.{NoQuery, InUse, NoMemory}
+use Rattle.djq_protocol.specs.declared.answer.Refusal.TheVariants.{NoMemory}
+use Rattle.djq_protocol.specs.declared.reason.Reason.{Reason}
+use Rattle.djq_protocol.specs.declared.reason.Reason.TheVariants.{NoQuery, InUse}
+use Rattle.djq_value.specs.Token.{behind_spaces}
 use Rattle.djq_protocol.specs.declared.rest.QueryOutcome.{QueryOutcome}
 use Rattle.djq_protocol.specs.declared.rest.QueryOutcome.TheVariants.{Registered, Cyclic, NotConnex}
 use Rattle.djq_protocol.specs.Variables.{constants_of}
 use Rattle.djq_protocol.specs.Hypergraph.{edges_of, head_of}
 use Rattle.djq_protocol.specs.Rest.{IsNamedRest}
-use Rattle.djq_protocol.specs.QueryFault.{whole_query_refusal}
+use Rattle.djq_protocol.specs.QueryFault.{query_conditions, whole_query_refusal}
 use Rattle.djq_hypergraph.specs.JoinTree.{IsFreeConnex}
 use Rattle.djq_hypergraph.specs.Refusing.{IsCyclic, IsNotConnex}
 use Rattle.djq_store_spec.specs.Store.{Store}
-use Rattle.djq_protocol.specs.Conditions.{first_refusal, Answers, OutOfMemoryWhere}
+use Rattle.djq_protocol.specs.Conditions.{Conditions, first_reason, first_refusal, Answers, OutOfMemoryWhere}
 use Rattle.djq_store_spec.specs.Relations.{RefusedByTexts}
 
 -- `query`
 
--- why a query isn't registered: its name is taken, it has a fault, or there are too many
-abbrev pub query_refusal : Store → Query → Option Refusal
-query_refusal st q = whole_query_refusal st.relations st.queries q
+-- why a query isn't registered where there may be so many: its name is taken, it has a fault, or there
+-- are too many
+abbrev pub query_refusal : ℕ → Store → Query → Option Refusal
+query_refusal most st q = whole_query_refusal most st.relations st.queries q
+
+-- what that is about; behind these conditions its texts may find no place
+abbrev pub query_reason : ℕ → Store → Query → Option Reason
+query_reason most st q = first_reason (query_conditions most st.relations st.queries q)
+
+-- a line without the spaces at its ends
+abbrev pub trimmed : Bytes → Bytes
+trimmed l = reverse (behind_spaces (reverse (behind_spaces l)))
+
+-- the store in which this is registered behind the others, by a line
+abbrev pub registering : Store → Listed → Bytes → Store
+registering st q l = record st {
+  queries = st.queries ++ q ∷ [];
+  registrations = st.registrations ++ record { name = listed_name q; line = trimmed l } ∷ [];
+}
 
 -- the most lookups and links that one answer takes, and the end too, for as many head variables
 abbrev pub most_steps : ℕ → ℕ
@@ -48,20 +67,17 @@ answer_steps (a_query q) = most_steps (length q.head)
 answer_steps (a_union name qs) =
     length qs * most_steps (width_of qs) + (length qs - 1) * atoms_of qs
 
--- A free-connex query is registered behind the others, and its texts are known. Of another one a
--- rest is told that shows what it lacks, and nothing changes.
-abbrev pub RegistersAs : Store → Query → Store → QueryOutcome → Type 0
-RegistersAs old q new (Registered most) =
+-- A free-connex query is registered behind the others, by its line, and its texts are known. Of another
+-- one a rest is told that shows what it lacks, and nothing changes.
+abbrev pub RegistersAs : Store → Query → Bytes → Store → QueryOutcome → Type 0
+RegistersAs old q l new (Registered most) =
     IsFreeConnex (edges_of q) (head_of q)
     × (most ≡ most_steps (length q.head))
     × (length new.texts ≤ TEXTS)
-    × (new ≡ record old {
-      texts = all_learned old.texts (texts_in (constants_of q));
-      queries = old.queries ++ a_query q ∷ [];
-    })
-RegistersAs old q new (Cyclic rest) =
+    × (new ≡ registering (record old { texts = all_learned old.texts (texts_in (constants_of q)) }) (a_query q) l)
+RegistersAs old q l new (Cyclic rest) =
     ((R : List (List ℕ)) × IsCyclic (edges_of q) R × IsNamedRest q R rest) × (new ≡ old)
-RegistersAs old q new (NotConnex rest) =
+RegistersAs old q l new (NotConnex rest) =
     ((R : List (List ℕ)) × IsNotConnex (edges_of q) (head_of q) R × IsNamedRest q R rest)
     × (new ≡ old)
 
@@ -74,10 +90,10 @@ RefusedLate old q new r =
     ⊎ ((r ≡ NoMemory) × (new ≡ old))
 
 -- A query is registered, or its rest is told; or it is refused, and nothing changes but the texts.
-pub record RegistersQuery (old : Store) (q : Query) (result : Result QueryOutcome Refusal)
-    (new : Store) : Type 0 where
-  pub answer : Answers (query_refusal old q) result (RegistersAs old q new) (RefusedLate old q new)
-  pub stays : is_some (query_refusal old q) ≡ true → new ≡ old
+pub record RegistersQuery (most : ℕ) (old : Store) (q : Query) (l : Bytes)
+    (result : Result QueryOutcome Refusal) (new : Store) : Type 0 where
+  pub answer : Answers (query_refusal most old q) result (RegistersAs old q l new) (RefusedLate old q new)
+  pub stays : is_some (query_refusal most old q) ≡ true → new ≡ old
 
 -- `drop`
 
@@ -85,18 +101,48 @@ pub record RegistersQuery (old : Store) (q : Query) (result : Result QueryOutcom
 abbrev pub is_member : List Listed → Bytes → Bool
 is_member queries name = list_any (λ l. list_any (λ q. bytes_eq q.name name) (members_of l)) queries
 
--- why what is registered under a name isn't dropped: nothing is, or it is used or a member of a union
-abbrev pub drop_refusal : Store → Bool → Bytes → Option Refusal
-drop_refusal st used name = first_refusal (
-    (is_none (listed_of st.queries name), NoQuery)
-    ∷ (used || is_member st.queries name, InUse)
-    ∷ [])
+-- how many unions have the query of a name as a member
+abbrev pub unions_with : List Listed → Bytes → ℕ
+unions_with queries name = count_by (λ l. list_any (λ q. bytes_eq q.name name) (members_of l)) queries
+
+-- How many cursors, and how many watches, sessions have of what is registered under a name.
+pub record UseCounts : Type 0 where
+  pub cursors : ℕ
+  pub watches : ℕ
+
+-- none
+abbrev pub no_uses : UseCounts
+no_uses = record { cursors = 0; watches = 0 }
+
+-- whether there are any
+abbrev pub has_uses : UseCounts → Bool
+has_uses used = nat_lt 0 (used.cursors + used.watches)
+
+-- the conditions under which what is registered under a name isn't dropped: nothing is, or it is used or
+-- a member of a union
+abbrev pub drop_conditions : Store → UseCounts → Bytes → Conditions
+drop_conditions st used name =
+    (is_none (listed_of st.queries name), NoQuery name)
+    ∷ (
+      has_uses used || is_member st.queries name,
+      InUse used.cursors used.watches (unions_with st.queries name),
+    )
+    ∷ []
+
+-- why it isn't
+abbrev pub drop_refusal : Store → UseCounts → Bytes → Option Refusal
+drop_refusal st used name = first_refusal (drop_conditions st used name)
+
+-- the store in which what is registered under a name is no more
+abbrev pub dropping : Store → Bytes → Store
+dropping st name = record st {
+  queries = drop_first (λ q. bytes_eq (listed_name q) name) st.queries;
+  registrations = drop_first (λ r. bytes_eq r.name name) st.registrations;
+}
 
 -- What isn't used, nor a member of a union, is registered no more, and the others stay in their order. It takes no
 -- memory.
-pub record DropsQuery (old : Store) (used : Bool) (name : Bytes) (result : Result ⊤ Refusal)
+pub record DropsQuery (old : Store) (used : UseCounts) (name : Bytes) (result : Result ⊤ Refusal)
     (new : Store) : Type 0 where
-  pub answer : Answers (drop_refusal old used name) result
-      (λ _. new ≡ record old { queries = drop_first (λ q. bytes_eq (listed_name q) name) old.queries })
-      (OutOfMemoryWhere ⊥)
+  pub answer : Answers (drop_refusal old used name) result (λ _. new ≡ dropping old name) (OutOfMemoryWhere ⊥)
   pub stays : OnErr result (new ≡ old)

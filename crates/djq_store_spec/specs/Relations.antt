@@ -1,5 +1,5 @@
 -- Relations with other rows, texts that become known, and making a relation.
-use Rattle.std.specs.Prelude.{List, [], ◌∷◌, ◌≡◌, ◌++◌, ◌≤◌, false, nat_le, nat_lt, Option, is_some, Result}
+use Rattle.std.specs.Prelude.{List, [], ◌∷◌, ◌≡◌, ◌+◌, ◌++◌, ◌≤◌, false, nat_le, nat_lt, Option, is_some, Result}
 use Rattle.std.specs.Prelude.{OnErr, length, ⊤}
 use Rattle.djq_model.specs.declared.relation.ColumnType.{ColumnType}
 use Rattle.djq_model.specs.declared.relation.Relation.{Relation}
@@ -8,9 +8,13 @@ use Rattle.djq_model.specs.Data.{Bytes, bytes_eq, change_first, relation_of}
 use Rattle.djq_model.specs.Known.{knows, all_learned}
 use Rattle.djq_protocol.specs.declared.limits.TheConstants.{COLUMNS, RELATIONS, TEXTS}
 use Rattle.djq_protocol.specs.declared.answer.Refusal.{Refusal}
-use Rattle.djq_protocol.specs.declared.answer.Refusal.TheVariants.{Taken, Limit, NoMemory}
+use Rattle.djq_protocol.specs.declared.answer.Refusal.TheVariants.{Limit as ErrLimit, NoMemory as ErrNoMemory}
+use Rattle.djq_protocol.specs.declared.reason.Limited.TheVariants.{Columns, Relations as MadeRelations, Texts}
+use Rattle.djq_protocol.specs.declared.reason.Reason.{Reason}
+use Rattle.djq_protocol.specs.declared.reason.Reason.TheVariants.{Taken, Limit}
+use Rattle.djq_protocol.specs.Why.{passes}
 use Rattle.djq_store_spec.specs.Store.{Store}
-use Rattle.djq_protocol.specs.Conditions.{first_refusal, Answers, OutOfMemoryWhere}
+use Rattle.djq_protocol.specs.Conditions.{Conditions, first_refusal, Answers, OutOfMemoryWhere}
 
 -- the relations with other rows in one
 abbrev pub with_rows : List Relation → Bytes → List CountedRow → List Relation
@@ -43,22 +47,33 @@ pub record FindsNoPlace (old texts known : List Bytes) : Type 0 where
 -- A command that needs texts is refused late, at the limit of texts or out of memory: the first of
 -- them have become known, never more than may be, and nothing else has changed.
 abbrev pub RefusedByTexts : Store → List Bytes → Store → Refusal → Type 0
-RefusedByTexts old texts new Limit =
+RefusedByTexts old texts new ErrLimit =
     FindsNoPlace old.texts texts new.texts × (new ≡ record old { texts = new.texts })
-RefusedByTexts old texts new NoMemory =
+RefusedByTexts old texts new ErrNoMemory =
     LearnsFirst old.texts texts new.texts × (length new.texts ≤ TEXTS)
     × (new ≡ record old { texts = new.texts })
 RefusedByTexts old texts new _ = ⊥
 
+-- the limit that these texts pass, where they find no place
+abbrev pub texts_reason : List Bytes → List Bytes → Reason
+texts_reason known texts = Limit (passes Texts (length (all_learned known texts)) TEXTS)
+
 -- `rel`
+
+-- the conditions under which a relation isn't made
+abbrev pub rel_conditions : Store → Bytes → List ColumnType → Conditions
+rel_conditions st name types =
+    (is_some (relation_of st.relations name), Taken name)
+    ∷ (nat_lt COLUMNS (length types), Limit (passes Columns (length types) COLUMNS))
+    ∷ (
+      nat_le RELATIONS (length st.relations),
+      Limit (passes MadeRelations (length st.relations + 1) RELATIONS),
+    )
+    ∷ []
 
 -- why a relation isn't made, but for memory
 abbrev pub rel_refusal : Store → Bytes → List ColumnType → Option Refusal
-rel_refusal st name types = first_refusal (
-    (is_some (relation_of st.relations name), Taken)
-    ∷ (nat_lt COLUMNS (length types), Limit)
-    ∷ (nat_le RELATIONS (length st.relations), Limit)
-    ∷ [])
+rel_refusal st name types = first_refusal (rel_conditions st name types)
 
 -- A relation without rows is made, or nothing changes.
 pub record MakesRelation (old : Store) (name : Bytes) (types : List ColumnType)

@@ -1,31 +1,39 @@
 -- Inserting and deleting one row, with its copies.
-use Rattle.std.specs.Prelude.{ℕ, List, [], ◌∷◌, ◌==◌, ◌≡◌, ◌+◌, ◌++◌, ◌≤◌, ◌&&◌, Bool, true, false, not, nat_le}
-use Rattle.std.specs.Prelude.{Option, is_some, is_none, Result, OnErr, length}
+use Rattle.std.specs.Prelude.{ℕ, suc, List, [], ◌∷◌, ◌==◌, ◌≡◌, ◌+◌, ◌++◌, ◌≤◌, ◌&&◌, true, false, not, nat_le}
+use Rattle.std.specs.Prelude.{Option, is_some, is_none, Result, OnErr, length, if◌then◌else◌}
+use Rattle.djq_model.specs.declared.relation.ColumnType.{ColumnType}
 use Rattle.djq_model.specs.declared.relation.Relation.{Relation}
 use Rattle.djq_model.specs.Data.{Bytes, Tuple, relation_of, counted_of, rows_of, has_row, copies_among, with_row}
 use Rattle.djq_model.specs.Data.{with_copies, without_copies}
-use Rattle.djq_model.specs.Typed.{fits}
+use Rattle.djq_model.specs.Typed.{is_of, fits}
 use Rattle.djq_model.specs.Known.{texts_in, all_learned}
 use Rattle.djq_protocol.specs.declared.limits.TheConstants.{ROWS, COPIES, LAST_SEQ, TEXTS}
 use Rattle.djq_protocol.specs.declared.answer.Refusal.{Refusal}
-use Rattle.djq_protocol.specs.declared.answer.Refusal.TheVariants.{NoRelation, Arity, WrongType, Limit}
+use Rattle.djq_protocol.specs.declared.reason.Limited.TheVariants.{Copies, Rows}
+use Rattle.djq_protocol.specs.declared.reason.Reason.TheVariants.{NoRelation, Arity, WrongType, Limit, LastChange}
+use Rattle.djq_protocol.specs.Why.{passes}
 use Rattle.djq_protocol.specs.declared.answer.AddOutcome.{AddOutcome}
 use Rattle.djq_protocol.specs.declared.answer.AddOutcome.TheVariants.{First, More}
 use Rattle.djq_protocol.specs.declared.answer.DeleteOutcome.{DeleteOutcome}
 use Rattle.djq_protocol.specs.declared.answer.DeleteOutcome.TheVariants.{Last, Left, Absent}
 use Rattle.djq_protocol.specs.Columns.{types_of}
 use Rattle.djq_store_spec.specs.Store.{Store}
-use Rattle.djq_protocol.specs.Conditions.{first_refusal, Answers, OutOfMemoryWhere}
+use Rattle.djq_protocol.specs.Conditions.{Conditions, first_refusal, Answers, OutOfMemoryWhere}
 use Rattle.djq_store_spec.specs.Relations.{with_rows, RefusedByTexts}
 
 -- `add` and `del`
 
+-- the number of the first column, from 1, of which a value is of another type
+abbrev pub first_misfit : List ColumnType → Tuple → ℕ
+first_misfit (c ∷ cs) (v ∷ vs) = if is_of c v then suc (first_misfit cs vs) else 1
+first_misfit _ _ = 0
+
 -- the conditions under which a row doesn't suit a relation
-abbrev pub row_refusals : Store → Bytes → Tuple → List (Bool × Refusal)
+abbrev pub row_refusals : Store → Bytes → Tuple → Conditions
 row_refusals st name row = let types = types_of (relation_of st.relations name) in
-    (is_none (relation_of st.relations name), NoRelation)
-    ∷ (not (length row == length types), Arity)
-    ∷ (not (fits types row), WrongType)
+    (is_none (relation_of st.relations name), NoRelation name)
+    ∷ (not (length row == length types), Arity name (length types) (length row))
+    ∷ (not (fits types row), WrongType name (first_misfit types row))
     ∷ []
 
 -- how many copies of a row a relation has
@@ -37,13 +45,17 @@ abbrev pub with_copies_of : List Relation → Bytes → Tuple → ℕ → List R
 with_copies_of relations name row n =
     with_rows relations name (with_copies (counted_of relations name) row n)
 
+-- the conditions under which a row isn't added, but for its texts
+abbrev pub add_conditions : Store → Bytes → Tuple → Conditions
+add_conditions st name row = let rows = rows_of st.relations name in row_refusals st name row
+    ++ (nat_le COPIES (copies_of st name row), Limit (passes Copies (copies_of st name row + 1) COPIES))
+    ∷ (not (has_row rows row) && nat_le ROWS (length rows), Limit (passes Rows (length rows + 1) ROWS))
+    ∷ (not (has_row rows row) && nat_le LAST_SEQ st.seq, LastChange)
+    ∷ []
+
 -- why a row isn't added, but for its texts and for memory
 abbrev pub add_refusal : Store → Bytes → Tuple → Option Refusal
-add_refusal st name row = let rows = rows_of st.relations name in first_refusal (row_refusals st name row
-    ++ (nat_le COPIES (copies_of st name row), Limit)
-    ∷ (not (has_row rows row) && nat_le ROWS (length rows), Limit)
-    ∷ (not (has_row rows row) && nat_le LAST_SEQ st.seq, Limit)
-    ∷ [])
+add_refusal st name row = first_refusal (add_conditions st name row)
 
 -- A row that isn't there goes in with one copy, as a further change, and its texts are known; one
 -- that is there has a copy more, and nothing else changes.
@@ -69,11 +81,15 @@ pub record AddsRow (old : Store) (name : Bytes) (row : Tuple) (result : Result A
       × RefusedByTexts old (texts_in row) new r)
   pub stays : is_some (add_refusal old name row) ≡ true → new ≡ old
 
+-- the conditions under which a row isn't deleted
+abbrev pub delete_conditions : Store → Bytes → Tuple → Conditions
+delete_conditions st name row = row_refusals st name row
+    ++ ((copies_of st name row == 1) && nat_le LAST_SEQ st.seq, LastChange)
+    ∷ []
+
 -- why a row isn't deleted
 abbrev pub delete_refusal : Store → Bytes → Tuple → Option Refusal
-delete_refusal st name row = first_refusal (row_refusals st name row
-    ++ ((copies_of st name row == 1) && nat_le LAST_SEQ st.seq, Limit)
-    ∷ [])
+delete_refusal st name row = first_refusal (delete_conditions st name row)
 
 -- A row with one copy goes out, as a further change; one with several has a copy less, and nothing
 -- else changes; one that isn't there changes nothing.

@@ -4,6 +4,11 @@ use Rattle.djq_model.specs.declared.relation.Relation.{Relation}
 use Rattle.djq_model.specs.Data.{Bytes, Tuple}
 use Rattle.djq_model.specs.Listed.{Listed}
 
+-- The line by which a name was registered, without the spaces at its ends.
+pub record Registration : Type 0 where
+  pub name : Bytes
+  pub line : Bytes
+
 -- What is kept of the data, whoever changes it.
 pub record Store : Type 0 where
   pub relations : List Relation
@@ -11,6 +16,8 @@ pub record Store : Type 0 where
   pub texts : List Bytes
   -- in order of registration
   pub queries : List Listed
+  -- their lines, in the same order
+  pub registrations : List Registration
   -- the number of accepted changes of rows
   pub seq : ℕ
 
@@ -23,4 +30,4 @@ pub data Position : Type 0 where
 
 -- the store in which nothing has happened
 abbrev pub empty_store : Store
-empty_store = record { relations = []; texts = []; queries = []; seq = 0 }
+empty_store = record { relations = []; texts = []; queries = []; registrations = []; seq = 0 }

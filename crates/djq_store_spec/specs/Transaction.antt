@@ -1,14 +1,19 @@
 -- Which lines a batch holds, and what `done` does to a store: all of them are one change, or none is carried out.
-use Rattle.std.specs.Prelude.{ℕ, zero, suc, List, [], ◌∷◌, ◌≡◌, ◌≤◌, ◌++◌, ◌&&◌, Bool, true, not, Option, None}
-use Rattle.std.specs.Prelude.{Some, Result, Ok, Err, find, length, map, All, ⊤}
-use Rattle.std.specs.List.{list_any}
+use Rattle.std.specs.Prelude.{ℕ, zero, suc, nat_le, List, [], ◌∷◌, ◌≡◌, ◌≤◌, ◌+◌, ◌++◌, ◌&&◌, Bool, true, not, Option, None}
+use Rattle.std.specs.Prelude.{Some, Result, Ok, Err, find, length, map, All, ⊤, if◌then◌else◌}
+use Rattle.std.specs.List.{list_any, sum_by}
 use Rattle.djq_model.specs.declared.relation.Relation.{Relation}
 use Rattle.djq_model.specs.Data.{Bytes, Tuple, bytes_eq, rows_of, has_row}
 use Rattle.djq_model.specs.Listed.{Listed}
 use Rattle.djq_protocol.specs.declared.answer.Refusal.{Refusal}
-use Rattle.djq_protocol.specs.declared.answer.Refusal.TheVariants.{Limit, NoMemory}
+use Rattle.djq_protocol.specs.declared.answer.Refusal.TheVariants.{NoMemory}
+use Rattle.djq_protocol.specs.declared.limits.TheConstants.{HELD, HELD_BYTES}
+use Rattle.djq_protocol.specs.declared.reason.Limited.TheVariants.{Held as HeldLines, Bytes as HeldBytes}
+use Rattle.djq_protocol.specs.declared.reason.Reason.{Reason}
+use Rattle.djq_protocol.specs.declared.reason.Reason.TheVariants.{Limit as LimitReason}
+use Rattle.djq_protocol.specs.Why.{passes}
 use Rattle.djq_protocol.specs.declared.held.DoneRefusal.{DoneRefusal}
-use Rattle.djq_protocol.specs.Conditions.{first_refusal, Answers, OutOfMemoryWhere}
+use Rattle.djq_protocol.specs.Conditions.{Conditions, first_refusal, Answers, OutOfMemoryWhere}
 use Rattle.djq_protocol.specs.Reply.{done_word}
 use Rattle.djq_store_spec.specs.Store.{Store}
 use Rattle.djq_store_spec.specs.Rows.{row_refusals}
@@ -26,10 +31,21 @@ use Rattle.djq_store_spec.specs.Done.{RefusesDone}
 abbrev pub suit_refusal : Store → Bytes → Tuple → Option Refusal
 suit_refusal st name row = first_refusal (row_refusals st name row)
 
--- why a line isn't held: its row doesn't suit a relation, or the batch has no room for it
+-- the limit that a batch passes with one more line, of so many bytes
+abbrev pub room_reason : HeldTransaction → ℕ → Reason
+room_reason t line =
+    if nat_le HELD (length t.lines) then LimitReason (passes HeldLines (length t.lines + 1) HELD)
+    else LimitReason (passes HeldBytes (sum_by (λ l. length l) t.logged + line) HELD_BYTES)
+
+-- the conditions under which a line isn't held: its row doesn't suit a relation, or the batch has no room
+-- for it
+abbrev pub hold_conditions : Store → HeldTransaction → Bytes → Bytes → Tuple → Conditions
+hold_conditions st held l name row =
+    row_refusals st name row ++ (not (has_room held (length l)), room_reason held (length l)) ∷ []
+
+-- why it isn't
 abbrev pub hold_refusal : Store → HeldTransaction → Bytes → Bytes → Tuple → Option Refusal
-hold_refusal st held l name row =
-    first_refusal (row_refusals st name row ++ (not (has_room held (length l)), Limit) ∷ [])
+hold_refusal st held l name row = first_refusal (hold_conditions st held l name row)
 
 -- Whether a row suits a relation is told. It takes no memory.
 abbrev pub TellsSuits : Store → Bytes → Tuple → Result ⊤ Refusal → Type 0
