@@ -319,13 +319,11 @@ explain_lines q t =
     (numbers_below (length t.nodes))
     ++ line (codes "end") ∷ []
 
--- The lines are told; or, out of memory, those in front of one of them, and the session ends.
+-- The lines are told, all of them; or, out of memory, none, and the session ends.
 abbrev pub TellsLines : State → ℕ → List Bytes → Effect → State → Type 0
 TellsLines old s lines e new =
     ((e ≡ says s (text_of lines)) × (new ≡ old))
-    ⊎ ((told : List Bytes) × (lacking : Bytes) × (rest : List Bytes)
-    × (lines ≡ told ++ lacking ∷ rest)
-    × EndsWith (text_of told ++ end_memory) Memory old s e new)
+    ⊎ EndsWith end_memory Memory old s e new
 
 -- The tree of a query that the choice rule names is told.
 pub record ExplainStep (old : State) (s : ℕ) (q : Query) (e : Effect) (new : State) : Type 0 where

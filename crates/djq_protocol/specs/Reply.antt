@@ -57,7 +57,7 @@ use Rattle.djq_protocol.specs.declared.held.DoneRefusal.TheVariants.{
   NoMemory as NoneLeft,
 }
 use Rattle.djq_protocol.specs.declared.answer.EndLine.{EndLine}
-use Rattle.djq_protocol.specs.declared.answer.EndLine.TheVariants.{Long, Slow, Memory, Full, Told}
+use Rattle.djq_protocol.specs.declared.answer.EndLine.TheVariants.{Long, Slow, Large, Memory, Full, Told}
 use Rattle.djq_protocol.specs.declared.answer.Sign.{Sign}
 use Rattle.djq_protocol.specs.declared.answer.Sign.TheVariants.{Came, Went}
 use Rattle.djq_protocol.specs.declared.rest.NamedRest.{NamedRest}
@@ -109,6 +109,10 @@ end_long = line (codes "end long")
 abbrev pub end_slow : Bytes
 end_slow = line (codes "end slow")
 
+-- the line that ends a session that watches a query whose delta is large
+abbrev pub end_large : Bytes
+end_large = line (codes "end large")
+
 -- the line that ends a session for want of memory
 abbrev pub end_memory : Bytes
 end_memory = line (codes "end memory")
@@ -138,6 +142,7 @@ bye = line (codes "bye")
 abbrev pub end_line : EndLine → Bytes
 end_line Long = end_long
 end_line Slow = end_slow
+end_line Large = end_large
 end_line Memory = end_memory
 end_line Full = end_full
 end_line Told = end_told

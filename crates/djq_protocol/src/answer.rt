@@ -82,6 +82,8 @@ pub enum EndLine {
     Long,
     /// Too many bytes were pending.
     Slow,
+    /// A delta has more answers than may be listed.
+    Large,
     /// Out of memory.
     Memory,
     /// Too many sessions are open.
@@ -112,6 +114,8 @@ pub enum EndCause {
     Long,
     /// Too many bytes were pending.
     Slow,
+    /// A delta has more answers than may be listed.
+    Large,
     /// Out of memory.
     Memory,
     /// Another session said `end`.

@@ -79,6 +79,9 @@ pub const FOLLOW_COUNT: u32 = 1_000_000;
 /// to be added to those.
 pub const PENDING_BYTES: usize = 1_048_576;
 
+/// The most answers that are listed for a delta: with one more it is large.
+pub const DELTA_LINES: usize = 1_000_000;
+
 /// The bytes of room that are reserved for a reply before its command begins.
 pub const REPLY_BYTES: usize = 256;
 

@@ -41,6 +41,7 @@ pub fn end_bytes(end: EndLine) -> &'static [u8]
     match end {
         EndLine::Long => b"end long\n",
         EndLine::Slow => b"end slow\n",
+        EndLine::Large => b"end large\n",
         EndLine::Memory => b"end memory\n",
         EndLine::Full => b"end full\n",
     }

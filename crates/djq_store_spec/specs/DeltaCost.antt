@@ -1,11 +1,12 @@
 -- How the answers of queries change with a change of rows, and what listing that may cost.
-use Rattle.std.specs.Prelude.{ℕ, List, [], ◌∷◌, ◌≡◌, ◌+◌, ◌*◌, Bool, Option, None, Some, length, map, filter, sum_by}
+use Rattle.std.specs.Prelude.{ℕ, List, [], ◌∷◌, ◌≡◌, ◌+◌, ◌*◌, ◌||◌, min, nat_lt, Bool, Option, None, Some, length, map, filter, sum_by}
 use Rattle.std.specs.Prelude.{All, MatchOption, ⊤}
 use Rattle.std.specs.List.{list_any}
 use Rattle.djq_model.specs.declared.relation.Relation.{Relation}
 use Rattle.djq_model.specs.declared.query.Query.{Query}
 use Rattle.djq_model.specs.Answer.{IsAnswer}
 use Rattle.djq_model.specs.Listed.{Listed, a_query, a_union, members_of, AnswersOf}
+use Rattle.djq_protocol.specs.declared.limits.TheConstants.{DELTA_LINES}
 use Rattle.djq_store_spec.specs.Registering.{most_steps, atoms_of}
 use Rattle.djq_store_spec.specs.Changes.{RowsChange, Halves}
 use Rattle.djq_store_spec.specs.Delta.{Change, IsDelta}
@@ -73,23 +74,41 @@ ListsDeltas before affected None deltas = deltas ≡ []
 ListsDeltas before affected (Some change) deltas =
     AreDeltas before change (affected change) deltas
 
+-- whether more answers were listed than a delta may have
+abbrev pub are_too_many : ℕ → Bool
+are_too_many listed = nat_lt DELTA_LINES listed
+
+-- Whether a delta is large. That of a query is if too many of its answers were listed, though those that changed may be
+-- fewer; that of a union, if too many changed, or were listed of a member that reads a relation that changes.
+abbrev pub is_large : Delta → Bool
+is_large d = IsIt d.query
+  where
+    IsIt : Listed → Bool
+    IsIt (a_query q) = are_too_many d.listed
+    IsIt (a_union name qs) = are_too_many (length d.changes) || list_any (λ p. are_too_many p.listed) d.parts
+
+-- so many of these are listed at most: with the first that is too many listing stops
+abbrev pub stopped_at : ℕ → ℕ
+stopped_at listed = min listed (DELTA_LINES + 1)
+
 -- how many atoms of a query are over a relation of which rows come and others go
 abbrev pub atoms_both : Option Halves → Query → ℕ
 atoms_both None q = 0
 atoms_both (Some h) q = length (filter (λ a. h.both a.relation) q.atoms)
 
--- The most lookups and links that listing this many answers of a query takes: as many as an answer for each of them;
--- for each atom over a relation that changes; and again for each atom over one of which rows come and others go.
+-- The most lookups and links that listing a delta of this many answers of a query takes: as many as an answer for each of
+-- them, up to the first that is too many; for each atom over a relation that changes; and again for each atom over one
+-- of which rows come and others go.
 abbrev pub changes_steps : RowsChange → Query → ℕ → ℕ
 changes_steps change q count =
-    (count + length (filter (λ a. change.touches a.relation) q.atoms) + atoms_both change.halves q)
+    (stopped_at count + length (filter (λ a. change.touches a.relation) q.atoms) + atoms_both change.halves q)
     * most_steps (length q.head)
 
 -- the same of a union's members; and for each answer a test of whether the others have it
 abbrev pub parts_steps : RowsChange → ℕ → List Part → ℕ
 parts_steps change asking [] = 0
 parts_steps change asking (p ∷ ps) = changes_steps change p.query p.listed
-    + p.listed * asking + parts_steps change asking ps
+    + stopped_at p.listed * asking + parts_steps change asking ps
 
 -- the most that listing a delta takes, by whose it is
 abbrev pub listed_steps : RowsChange → Listed → ℕ → List Part → ℕ
