@@ -1,16 +1,16 @@
 -- What the calls of a machine promise.
-use Rattle.std.specs.Prelude.{ℕ, List, [], ◌++◌, ◌≡◌, ◌+◌, ◌<◌, ◌≤◌, ◌&&◌, ◌||◌, Bool, not}
+use Rattle.std.specs.Prelude.{ℕ, List, [], ◌++◌, ◌≡◌, ◌+◌, ◌<◌, ◌≤◌, ◌&&◌, ◌||◌, Bool, true, false, not}
 use Rattle.std.specs.Prelude.{nat_le, nat_lt, Option, None, Some, IsSome, MatchOption}
 use Rattle.std.specs.Prelude.{is_none, is_some, find, Result, Ok, Err, length, ⊤}
 use Rattle.djq_model.specs.Data.{Bytes}
-use Rattle.djq_protocol.specs.declared.limits.TheConstants.{SESSIONS}
+use Rattle.djq_protocol.specs.declared.answer.Class.{Class}
 use Rattle.djq_protocol.specs.declared.answer.EndCause.{EndCause}
 use Rattle.djq_protocol.specs.declared.answer.EndCause.TheVariants.{Memory}
 use Rattle.djq_machine.specs.declared.machine.Fed.{Fed}
 use Rattle.djq_machine.specs.declared.machine.Fed.TheVariants.{Held, Ended as HadEnded}
 use Rattle.djq_machine.specs.declared.machine.OpenRefusal.{OpenRefusal}
 use Rattle.djq_machine.specs.declared.machine.OpenRefusal.TheVariants.{Full, NoMem}
-use Rattle.djq_machine.specs.State.{State, Session, session_of}
+use Rattle.djq_machine.specs.State.{State, Session, session_of, has_place}
 pub use Rattle.djq_machine.specs.State.{state_ids}
 use Rattle.djq_machine.specs.Effect.{Effect}
 use Rattle.djq_machine.specs.LineStep.{LineOutcome}
@@ -38,6 +38,14 @@ held_in (Some x) = x.held
 -- the bytes of a session that aren't run; none where it isn't open
 abbrev pub held_of : State → ℕ → Bytes
 held_of st s = held_in (session_of st s)
+
+-- whether an open session is closed at the next flush, whatever is pending for it
+abbrev pub is_closing_of : State → ℕ → Bool
+is_closing_of st s = closing_in (session_of st s)
+  where
+    closing_in : Option Session → Bool
+    closing_in None = false
+    closing_in (Some x) = x.is_closing
 
 -- whether something is due to a session: bytes are pending for it, or it has ended
 abbrev pub is_due : State → ℕ → Bool
@@ -68,11 +76,12 @@ pub record MakesCounted (old : State) (event : Event) (new : State) (before now 
   pub step : Step old event effect new
   pub listing : now.listing ≤ before.listing + effect.cost
 
--- What opening a session answers: it is open; or the limit is reached; or, below it, out of memory.
-abbrev pub OpenGives : State → ℕ → Result ⊤ OpenRefusal → State → Type 0
-OpenGives old s (Ok _) new = Makes old (opened s) new × IsOpen new s
-OpenGives old s (Err Full) new = (SESSIONS ≤ length old.sessions) × (new ≡ old)
-OpenGives old s (Err NoMem) new = (length old.sessions < SESSIONS) × (new ≡ old)
+-- What opening a session of a class answers: it is open; or none of its class has a place; or, with a place, out of
+-- memory.
+abbrev pub OpenGives : State → ℕ → Class → Result ⊤ OpenRefusal → State → Type 0
+OpenGives old s class (Ok _) new = Makes old (opened s class) new × IsOpen new s
+OpenGives old s class (Err Full) new = (has_place old class ≡ false) × (new ≡ old)
+OpenGives old s class (Err NoMem) new = (has_place old class ≡ true) × (new ≡ old)
 
 -- What bytes that came are answered: they are held; or the session had ended, or ended out of memory.
 abbrev pub FedGives : State → ℕ → Fed → State → Type 0

@@ -40,7 +40,13 @@ use Rattle.djq_model.specs.Answer.{AreDifferent}
 use Rattle.djq_model.specs.Listed.{Listed, a_query, a_union, AnswersOf, listed_of}
 use Rattle.djq_protocol.specs.declared.limits.TheConstants.{CURSORS, REPLY_BYTES}
 use Rattle.djq_protocol.specs.declared.answer.Refusal.{Refusal}
-use Rattle.djq_protocol.specs.declared.answer.Refusal.TheVariants.{Taken, NoQuery, NoCursor, Limit}
+use Rattle.djq_protocol.specs.declared.reason.Limited.TheVariants.{Cursors}
+use Rattle.djq_protocol.specs.declared.reason.Reason.TheVariants.{Taken, NoQuery, NoCursor, Limit}
+use Rattle.djq_protocol.specs.Variables.{constants_of}
+use Rattle.djq_protocol.specs.Why.{passes, reason_for, reason_or_memory}
+use Rattle.djq_protocol.specs.QuestionReply.{relations_lines}
+use Rattle.djq_model.specs.declared.relation.ColumnType.{ColumnType}
+use Rattle.djq_model.specs.Known.{texts_in}
 use Rattle.djq_protocol.specs.declared.rest.QueryOutcome.{QueryOutcome}
 use Rattle.djq_protocol.specs.declared.answer.AddOutcome.{AddOutcome}
 use Rattle.djq_protocol.specs.declared.answer.DeleteOutcome.{DeleteOutcome}
@@ -74,6 +80,16 @@ use Rattle.djq_protocol.specs.declared.command.Command.TheVariants.{
   Abandon,
   Quit,
   Stop,
+  Follow,
+  Relations,
+  Queries,
+  Show,
+  Copies,
+  Status,
+  Sessions,
+  Ping,
+  End,
+  Why,
 }
 use Rattle.djq_protocol.specs.Reply.{
   line,
@@ -103,27 +119,43 @@ use Rattle.djq_tree.specs.Explaining.{line_text}
 use Rattle.djq_protocol.specs.Hypergraph.{edges_of, head_of, variable_names}
 use Rattle.djq_store_spec.specs.Store.{Store, Position, open_at, stale}
 use Rattle.djq_machine.specs.State.{Cursor, Session, State, with_session, cursor_of, with_position, ended_by}
-use Rattle.djq_protocol.specs.Conditions.{first_refusal, Answers, OutOfMemoryWhere}
-use Rattle.djq_store_spec.specs.Relations.{MakesRelation}
-use Rattle.djq_store_spec.specs.Rows.{AddsRow, DeletesRow}
-use Rattle.djq_store_spec.specs.Registering.{RegistersQuery, DropsQuery, answer_steps}
-use Rattle.djq_store_spec.specs.Asking.{TellsWhether, has_steps, TellsShape}
+use Rattle.djq_protocol.specs.Conditions.{Conditions, first_reason, first_refusal, Answers, OutOfMemoryWhere}
+use Rattle.djq_store_spec.specs.Relations.{MakesRelation, rel_conditions, texts_reason}
+use Rattle.djq_store_spec.specs.Rows.{AddsRow, DeletesRow, add_conditions, delete_conditions}
+use Rattle.djq_store_spec.specs.Registering.{RegistersQuery, DropsQuery, answer_steps, query_reason, drop_conditions}
+use Rattle.djq_store_spec.specs.Asking.{TellsWhether, has_steps, TellsShape, has_conditions, named_conditions, named_refusal}
 use Rattle.djq_store_spec.specs.Listing.{TellsAnswers, IsLeft}
-use Rattle.djq_store_spec.specs.Union.{RegistersUnion}
+use Rattle.djq_store_spec.specs.Union.{RegistersUnion, union_conditions}
 use Rattle.djq_store_spec.specs.Changes.{row_in, row_out, add_outcome, delete_outcome}
 use Rattle.djq_machine.specs.Watch.{is_watching, ChangeStep}
 use Rattle.djq_store_spec.specs.Held.{HeldTransaction, nothing_held, holding}
-use Rattle.djq_store_spec.specs.Transaction.{hold_refusal, DoesAll, lines_outcome}
+use Rattle.djq_store_spec.specs.Transaction.{hold_conditions, hold_refusal, DoesAll, lines_outcome}
+use Rattle.djq_store_spec.specs.DoneReason.{done_reason}
+use Rattle.djq_machine.specs.Watching.{with_watch, without_watch}
+use Rattle.djq_machine.specs.Questions.{
+  use_counts,
+  queries_lines,
+  status_lines,
+  sessions_lines,
+  TellsCounted,
+  ShowStep,
+  CopiesStep,
+  PingStep,
+  WhyStep,
+  EndStep,
+  FollowStep,
+}
 use Rattle.djq_machine.specs.Keeping.{no_line, kept_where, is_done, is_removal, is_registration, kept_batch}
-use Rattle.djq_machine.specs.Effect.{Effect, says, answers, lost_line, EndsWith, EndsAnswering, RefusedStep}
+use Rattle.djq_machine.specs.Effect.{Effect, says, replies, answers, lost_line, EndsWith, EndsAnswering, RefusedStep}
 
 -- `rel`: a relation is made.
-pub record RelStep (old : State) (s : ℕ) (makes : Store → Result ⊤ Refusal → Store → Type 0)
-    (e : Effect) (new : State) : Type 0 where
+pub record RelStep (old : State) (s : ℕ) (name : Bytes) (types : List ColumnType) (e : Effect)
+    (new : State) : Type 0 where
   pub result : Result ⊤ Refusal
   pub store : Store
-  pub done : makes old.store result store
+  pub done : MakesRelation old.store name types result store
   pub effect : e ≡ answers s (ok_reply (codes "ok") result) (is_done result)
+      (reason_or_memory (first_reason (rel_conditions old.store name types)) result)
   pub state : new ≡ record old { store = store }
 
 -- `add`: a copy of a row goes in, and the first one is told those who watch.
@@ -133,7 +165,9 @@ pub record AddStep (old : State) (s : ℕ) (name : Bytes) (row : Tuple) (e : Eff
   pub store : Store
   pub done : AddsRow old.store name row result store
   pub change : ChangeStep old s (add_outcome (row_in old.store.relations name row) result) store
-      (add_reply result store.seq) e new
+      (add_reply result store.seq)
+      (reason_for (first_reason (add_conditions old.store name row)) (texts_reason old.store.texts (texts_in row)) result)
+      e new
   pub kept : e.kept ≡ kept_where (is_done result)
 
 -- `del`: a copy goes out, and the last one is told them.
@@ -143,47 +177,48 @@ pub record DeleteStep (old : State) (s : ℕ) (name : Bytes) (row : Tuple) (e : 
   pub store : Store
   pub done : DeletesRow old.store name row result store
   pub change : ChangeStep old s (delete_outcome (row_out old.store.relations name row) result) store
-      (delete_reply result store.seq) e new
+      (delete_reply result store.seq)
+      (reason_or_memory (first_reason (delete_conditions old.store name row)) result) e new
   pub kept : e.kept ≡ kept_where (is_removal result)
 
 -- `query`: a query is registered, or a rest shows why it isn't.
-pub record QueryStep (old : State) (s : ℕ) (q : Query) (e : Effect) (new : State) : Type 0 where
+pub record QueryStep (old : State) (s : ℕ) (q : Query) (l : Bytes) (e : Effect) (new : State) : Type 0 where
   pub result : Result QueryOutcome Refusal
   pub store : Store
-  pub done : RegistersQuery old.store q result store
+  pub done : RegistersQuery old.settings.queries old.store q l result store
   pub effect : e ≡ answers s (query_reply result) (is_registration result)
+      (reason_for (query_reason old.settings.queries old.store q)
+      (texts_reason old.store.texts (texts_in (constants_of q))) result)
   pub state : new ≡ record old { store = store }
 
 -- Out of memory in a reply to `query` above the bytes that were kept for it, which tells a rest:
 -- none of its one line is told, and the session ends.
-pub record QueryCutStep (old : State) (s : ℕ) (q : Query) (e : Effect) (new : State) : Type 0 where
+pub record QueryCutStep (old : State) (s : ℕ) (q : Query) (l : Bytes) (e : Effect) (new : State)
+    : Type 0 where
   pub result : Result QueryOutcome Refusal
   pub store : Store
-  pub done : RegistersQuery old.store q result store
+  pub done : RegistersQuery old.settings.queries old.store q l result store
   pub above : REPLY_BYTES < length (query_reply result)
   pub ends : EndsAnswering end_memory Memory (is_registration result) (record old { store = store }) s
       e new
 
 -- `union`: a union of queries is registered.
-pub record UnionStep (old : State) (s : ℕ) (name : Bytes) (members : List Bytes) (e : Effect)
+pub record UnionStep (old : State) (s : ℕ) (name : Bytes) (members : List Bytes) (l : Bytes) (e : Effect)
     (new : State) : Type 0 where
   pub result : Result ℕ Refusal
   pub store : Store
-  pub done : RegistersUnion old.store name members result store
+  pub done : RegistersUnion old.settings.queries old.store name members l result store
   pub effect : e ≡ answers s (union_reply result) (is_done result)
+      (reason_or_memory (first_reason (union_conditions old.settings.queries old.store name members)) result)
   pub state : new ≡ record old { store = store }
-
--- whether a session uses a query: a cursor of it, stale or not, is over the query, or it watches
--- the query
-abbrev pub uses : Bytes → Session → Bool
-uses q x = list_any (λ c. bytes_eq c.query q) x.cursors || is_watching q x
 
 -- `drop`: a query that no session uses is registered no more.
 pub record DropStep (old : State) (s : ℕ) (q : Bytes) (e : Effect) (new : State) : Type 0 where
   pub result : Result ⊤ Refusal
   pub store : Store
-  pub done : DropsQuery old.store (list_any (uses q) old.sessions) q result store
+  pub done : DropsQuery old.store (use_counts old.sessions q) q result store
   pub effect : e ≡ answers s (ok_reply (codes "ok") result) (is_done result)
+      (reason_or_memory (first_reason (drop_conditions old.store (use_counts old.sessions q) q)) result)
   pub state : new ≡ record old { store = store }
 
 -- `has`: whether a tuple is an answer of a query.
@@ -195,16 +230,21 @@ pub record HasStep (old : State) (s : ℕ) (q : Bytes) (t : Tuple) (e : Effect)
     queued = (s, has_reply result) ∷ [];
     cost = has_steps (listed_of old.store.queries q);
     kept = no_line;
+    refused = reason_or_memory (first_reason (has_conditions old.store q t)) result;
   }
   pub state : new ≡ old
 
--- why a cursor isn't opened, but for memory
+-- the conditions under which a cursor isn't opened
+abbrev pub open_conditions : Store → List Cursor → Bytes → Bytes → Conditions
+open_conditions st cursors c q =
+    (is_some (cursor_of cursors c), Taken c)
+    ∷ (is_none (listed_of st.queries q), NoQuery q)
+    ∷ (nat_le CURSORS (length cursors), Limit (passes Cursors (length cursors + 1) CURSORS))
+    ∷ []
+
+-- why it isn't, but for memory
 abbrev pub open_refusal : Store → List Cursor → Bytes → Bytes → Option Refusal
-open_refusal st cursors c q = first_refusal (
-    (is_some (cursor_of cursors c), Taken)
-    ∷ (is_none (listed_of st.queries q), NoQuery)
-    ∷ (nat_le CURSORS (length cursors), Limit)
-    ∷ [])
+open_refusal st cursors c q = first_refusal (open_conditions st cursors c q)
 
 -- a session with a cursor more, which has given nothing
 abbrev pub with_cursor : Bytes → Bytes → Session → Session
@@ -222,7 +262,8 @@ pub record OpenStep (old : State) (s : ℕ) (x : Session) (c q : Bytes) (e : Eff
     (new : State) : Type 0 where
   pub result : Result ⊤ Refusal
   pub answer : Answers (open_refusal old.store x.cursors c q) result (λ _. ⊤) (OutOfMemoryWhere ⊤)
-  pub effect : e ≡ says s (ok_reply (codes "ok open") result)
+  pub effect : e ≡ replies s (ok_reply (codes "ok open") result)
+      (reason_or_memory (first_reason (open_conditions old.store x.cursors c q)) result)
   pub state : OpensTo old s c q new result
 
 -- `next` is told whole: a line an answer, and the last line.
@@ -235,6 +276,7 @@ pub record NextStep (old : State) (s : ℕ) (c : Bytes) (q : Listed) (given : Li
     queued = (s, text_of (listing_lines told end)) ∷ [];
     cost = (length told + 1) * answer_steps q;
     kept = no_line;
+    refused = None;
   }
   pub state : new ≡ with_session old s
       (λ x. record x { cursors = with_position x.cursors c (open_at (given ++ told) end) })
@@ -262,6 +304,7 @@ pub record NextCutStep (old : State) (s : ℕ) (q : Listed) (given : List Tuple)
     queued = (s, text_of (map answer_line told) ++ end_memory) ∷ [];
     cost = (length told + 1) * answer_steps q;
     kept = no_line;
+    refused = None;
   }
   pub state : new ≡ with_session old s (ended_by Memory)
 
@@ -278,14 +321,6 @@ CloseStep old s c e new = (e ≡ says s (line (codes "ok")))
     × (new ≡ with_session old s
     (λ x. record x { cursors = drop_first (λ k. bytes_eq k.name c) x.cursors }))
 
--- why a session neither begins nor ceases to watch a query: none of that name is registered
-abbrev pub watch_refusal : Store → Bytes → Option Refusal
-watch_refusal st q = first_refusal ((is_none (listed_of st.queries q), NoQuery) ∷ [])
-
--- a session that watches a query, once
-abbrev pub with_watch : Bytes → Session → Session
-with_watch q x = record x { watches = if is_watching q x then x.watches else x.watches ++ q ∷ [] }
-
 -- A session is another, or nothing changes.
 abbrev pub BecomesWhere : {A : Type 0} → State → ℕ → (Session → Session) → State
     → Result A Refusal → Type 0
@@ -293,23 +328,21 @@ BecomesWhere old s f new (Ok _) = new ≡ with_session old s f
 BecomesWhere old s f new (Err _) = new ≡ old
 
 -- `watch`: the session is told from now on how the answers of a query change.
-pub record WatchStep (old : State) (s : ℕ) (x : Session) (q : Bytes) (e : Effect)
+pub record WatchStep (old : State) (s : ℕ) (x : Session) (q : Bytes) (quiet : Bool) (e : Effect)
     (new : State) : Type 0 where
   pub result : Result ⊤ Refusal
-  pub answer : Answers (watch_refusal old.store q) result (λ _. ⊤)
+  pub answer : Answers (named_refusal old.store q) result (λ _. ⊤)
       (OutOfMemoryWhere (is_watching q x ≡ false))
-  pub effect : e ≡ says s (watch_reply result old.store.seq)
-  pub state : BecomesWhere old s (with_watch q) new result
-
--- a session that watches a query no more
-abbrev pub without_watch : Bytes → Session → Session
-without_watch q x = record x { watches = drop_first (λ w. bytes_eq w q) x.watches }
+  pub effect : e ≡ replies s (watch_reply result old.store.seq)
+      (reason_or_memory (first_reason (named_conditions old.store q)) result)
+  pub state : BecomesWhere old s (with_watch q quiet) new result
 
 -- `unwatch`: the session is told no more, where it was. It takes no memory.
 pub record UnwatchStep (old : State) (s : ℕ) (q : Bytes) (e : Effect) (new : State) : Type 0 where
   pub result : Result ⊤ Refusal
-  pub answer : Answers (watch_refusal old.store q) result (λ _. ⊤) (OutOfMemoryWhere ⊥)
-  pub effect : e ≡ says s (ok_reply (codes "ok") result)
+  pub answer : Answers (named_refusal old.store q) result (λ _. ⊤) (OutOfMemoryWhere ⊥)
+  pub effect : e ≡ replies s (ok_reply (codes "ok") result)
+      (reason_or_memory (first_reason (named_conditions old.store q)) result)
   pub state : BecomesWhere old s (without_watch q) new result
 
 -- The lines that explain the tree of a query: one for each node, and the end.
@@ -335,7 +368,8 @@ pub record ExplainStep (old : State) (s : ℕ) (q : Query) (e : Effect) (new : S
 pub record ShapeStep (old : State) (s : ℕ) (q : Bytes) (e : Effect) (new : State) : Type 0 where
   pub result : Result Shape Refusal
   pub tells : TellsShape old.store q result
-  pub effect : e ≡ says s (shape_reply result)
+  pub effect : e ≡ replies s (shape_reply result)
+      (reason_or_memory (first_reason (named_conditions old.store q)) result)
   pub state : new ≡ old
 
 -- The lines that explain a union: one for each member, in its order, and the end.
@@ -359,7 +393,7 @@ without_batch x = record x { batch = None }
 pub record BatchStep (old : State) (s : ℕ) (e : Effect) (new : State) : Type 0 where
   pub result : Result ⊤ Refusal
   pub answer : Answers None result (λ _. ⊤) (OutOfMemoryWhere ⊤)
-  pub effect : e ≡ says s (ok_reply (codes "ok batch") result)
+  pub effect : e ≡ replies s (ok_reply (codes "ok batch") result) (reason_or_memory None result)
   pub state : BecomesWhere old s (with_batch nothing_held) new result
 
 -- `add` and `del` in a batch: the line is held after the others.
@@ -367,18 +401,20 @@ pub record HoldStep (old : State) (s : ℕ) (held : HeldTransaction) (l : Bytes)
     (row : Tuple) (e : Effect) (new : State) : Type 0 where
   pub result : Result ⊤ Refusal
   pub answer : Answers (hold_refusal old.store held l name row) result (λ _. ⊤) (OutOfMemoryWhere ⊤)
-  pub effect : e ≡ says s (held_reply result (length held.lines + 1))
+  pub effect : e ≡ replies s (held_reply result (length held.lines + 1))
+      (reason_or_memory (first_reason (hold_conditions old.store held l name row)) result)
   pub state : BecomesWhere old s (with_batch (holding held verb name row l)) new result
 
 -- `done`: the batch is closed, and the lines that it holds are carried out as one change, which is reported to those
 -- who watch; or, if it is refused, none is.
-pub record DoneStep (old : State) (s : ℕ) (held : HeldTransaction) (given : Option ℕ) (e : Effect) (new : State)
-    : Type 0 where
+pub record DoneStep (old : State) (s : ℕ) (held : HeldTransaction) (l : Bytes) (given : Option ℕ) (e : Effect)
+    (new : State) : Type 0 where
   pub result : Result ℕ DoneRefusal
   pub store : Store
   pub done : DoesAll old.store held.lines given result store
   pub change : ChangeStep (with_session old s without_batch) s
-      (lines_outcome old.store.relations held.lines result) store (done_reply result store.seq) e new
+      (lines_outcome old.store.relations held.lines result) store (done_reply result store.seq)
+      (done_reason old.store.relations old.store.texts held.lines l result) e new
   pub kept : e.kept ≡ kept_batch held result
 
 -- `abandon`: the batch is closed, and the lines that it holds are dropped.
@@ -396,38 +432,57 @@ is_misplaced (Some held) (Done given) = false
 is_misplaced (Some held) Abandon = false
 is_misplaced (Some held) Quit = false
 is_misplaced (Some held) Stop = false
+is_misplaced (Some held) Relations = false
+is_misplaced (Some held) Queries = false
+is_misplaced (Some held) (Show q) = false
+is_misplaced (Some held) (Copies name row) = false
+is_misplaced (Some held) Status = false
+is_misplaced (Some held) Sessions = false
+is_misplaced (Some held) Ping = false
+is_misplaced (Some held) (End t) = false
+is_misplaced (Some held) Why = false
 is_misplaced (Some held) _ = true
 
 -- A command of a session, said by this line, is done, or refused by the first condition that holds.
 abbrev pub CommandStep : State → ℕ → Session → Bytes → Command → Effect → State → Type 0
-CommandStep old s x l (Rel name types) e new = RelStep old s (λ st. MakesRelation st name types) e new
+CommandStep old s x l (Rel name types) e new = RelStep old s name types e new
 CommandStep old s x l (Add name row) e new = MatchOption x.batch
     (AddStep old s name row e new)
     (λ held. HoldStep old s held l Adds name row e new)
 CommandStep old s x l (Del name row) e new = MatchOption x.batch
     (DeleteStep old s name row e new)
     (λ held. HoldStep old s held l Deletes name row e new)
-CommandStep old s x l (Register q) e new = QueryStep old s q e new ⊎ QueryCutStep old s q e new
-CommandStep old s x l (Union name members) e new = UnionStep old s name members e new
+CommandStep old s x l (Register q) e new = QueryStep old s q l e new ⊎ QueryCutStep old s q l e new
+CommandStep old s x l (Union name members) e new = UnionStep old s name members l e new
 CommandStep old s x l (Open c q) e new = OpenStep old s x c q e new
 CommandStep old s x l (Next c count) e new = MatchOption (cursor_of x.cursors c)
-    (RefusedStep old s NoCursor e new)
+    (RefusedStep old s (NoCursor c) e new)
     (λ k. IsSomeAnd (listed_of old.store.queries k.query)
     (λ q. NextStepAt old s c q count k.position e new))
 CommandStep old s x l (Close c) e new = MatchOption (cursor_of x.cursors c)
-    (RefusedStep old s NoCursor e new)
+    (RefusedStep old s (NoCursor c) e new)
     (λ k. CloseStep old s c e new)
 CommandStep old s x l Quit e new = EndsWith (lost_line x.batch ++ bye) SaidQuit old s e new
 CommandStep old s x l Stop e new =
     EndsWith (lost_line x.batch ++ bye) SaidStop (record old { stopped = true }) s e new
 CommandStep old s x l (Drop q) e new = DropStep old s q e new
 CommandStep old s x l (Has q row) e new = HasStep old s q row e new
-CommandStep old s x l (Watch q) e new = WatchStep old s x q e new
+CommandStep old s x l (Watch q quiet) e new = WatchStep old s x q quiet e new
 CommandStep old s x l (Unwatch q) e new = UnwatchStep old s q e new
 CommandStep old s x l (Explain q) e new = MatchOption (listed_of old.store.queries q)
-    (RefusedStep old s NoQuery e new)
+    (RefusedStep old s (NoQuery q) e new)
     (λ k. ExplainStepOf old s k e new)
 CommandStep old s x l (AskShape q) e new = ShapeStep old s q e new
 CommandStep old s x l Batch e new = BatchStep old s e new
-CommandStep old s x l (Done given) e new = MatchOption x.batch ⊥ (λ held. DoneStep old s held given e new)
+CommandStep old s x l (Done given) e new = MatchOption x.batch ⊥ (λ held. DoneStep old s held l given e new)
 CommandStep old s x l Abandon e new = AbandonStep old s e new
+CommandStep old s x l (Follow q most quiet) e new = FollowStep old s x q most quiet e new
+CommandStep old s x l Relations e new = TellsCounted old s (relations_lines old.store.relations) e new
+CommandStep old s x l Queries e new = TellsCounted old s (queries_lines old) e new
+CommandStep old s x l (Show q) e new = ShowStep old s q e new
+CommandStep old s x l (Copies name row) e new = CopiesStep old s name row e new
+CommandStep old s x l Status e new = TellsCounted old s (status_lines old) e new
+CommandStep old s x l Sessions e new = TellsCounted old s (sessions_lines old s) e new
+CommandStep old s x l Ping e new = PingStep old s e new
+CommandStep old s x l (End t) e new = EndStep old s l t e new
+CommandStep old s x l Why e new = WhyStep old s x e new

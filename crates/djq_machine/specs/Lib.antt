@@ -3,7 +3,10 @@ pub mod Outdating
 pub mod Keeping
 pub mod Effect
 pub mod Watch
+pub mod Watching
+pub mod Questions
 pub mod Command
+pub mod Allowed
 pub mod LineStep
 pub mod Step
 pub mod Walk

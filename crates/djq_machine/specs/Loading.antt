@@ -3,6 +3,7 @@ use Rattle.std.specs.Prelude.{ℕ, List, ◌≡◌, ◌⊎◌, Bool, true, false
 use Rattle.djq_model.specs.declared.relation.Relation.{Relation}
 use Rattle.djq_model.specs.Data.{Bytes, Tuple}
 use Rattle.djq_protocol.specs.declared.answer.Refusal.{Refusal}
+use Rattle.djq_protocol.specs.declared.limits.TheConstants.{MOST_QUERIES}
 use Rattle.djq_protocol.specs.declared.answer.Refusal.TheVariants.{NoMemory}
 use Rattle.djq_protocol.specs.declared.answer.AddOutcome.{AddOutcome}
 use Rattle.djq_protocol.specs.declared.answer.DeleteOutcome.{DeleteOutcome}
@@ -37,7 +38,7 @@ use Rattle.djq_store_spec.specs.Store.{Store}
 use Rattle.djq_protocol.specs.Conditions.{Answers, OutOfMemoryWhere}
 use Rattle.djq_store_spec.specs.Relations.{MakesRelation}
 use Rattle.djq_store_spec.specs.Rows.{AddsRow, DeletesRow}
-use Rattle.djq_store_spec.specs.Registering.{RegistersQuery, DropsQuery}
+use Rattle.djq_store_spec.specs.Registering.{RegistersQuery, DropsQuery, no_uses}
 use Rattle.djq_store_spec.specs.Union.{RegistersUnion}
 use Rattle.djq_store_spec.specs.Held.{HeldTransaction, nothing_held, holding}
 use Rattle.djq_store_spec.specs.Transaction.{hold_refusal, DoesAll}
@@ -70,21 +71,21 @@ pub record Loading : Type 0 where
 abbrev pub loading : Store → Loading
 loading st = record { store = st; batch = None }
 
--- What a command that is loaded outside a batch does to the store.
-abbrev pub StoreLoads : Store → Command → Loaded → Store → Type 0
-StoreLoads old (Rel name types) how new = (r : Result ⊤ Refusal)
+-- What a command that is loaded outside a batch does to the store. As many queries are loaded as an operator may allow.
+abbrev pub StoreLoads : Store → Bytes → Command → Loaded → Store → Type 0
+StoreLoads old l (Rel name types) how new = (r : Result ⊤ Refusal)
     × MakesRelation old name types r new × (how ≡ loaded_by is_done r)
-StoreLoads old (Add name row) how new = (r : Result AddOutcome Refusal)
+StoreLoads old l (Add name row) how new = (r : Result AddOutcome Refusal)
     × AddsRow old name row r new × (how ≡ loaded_by is_done r)
-StoreLoads old (Del name row) how new = (r : Result DeleteOutcome Refusal)
+StoreLoads old l (Del name row) how new = (r : Result DeleteOutcome Refusal)
     × DeletesRow old name row r new × (how ≡ loaded_by is_removal r)
-StoreLoads old (Register q) how new = (r : Result QueryOutcome Refusal)
-    × RegistersQuery old q r new × (how ≡ loaded_by is_registration r)
-StoreLoads old (Union name members) how new = (r : Result ℕ Refusal)
-    × RegistersUnion old name members r new × (how ≡ loaded_by is_done r)
-StoreLoads old (Drop q) how new = (r : Result ⊤ Refusal)
-    × DropsQuery old false q r new × (how ≡ loaded_by is_done r)
-StoreLoads old _ how new = (how ≡ refused) × (new ≡ old)
+StoreLoads old l (Register q) how new = (r : Result QueryOutcome Refusal)
+    × RegistersQuery MOST_QUERIES old q l r new × (how ≡ loaded_by is_registration r)
+StoreLoads old l (Union name members) how new = (r : Result ℕ Refusal)
+    × RegistersUnion MOST_QUERIES old name members l r new × (how ≡ loaded_by is_done r)
+StoreLoads old l (Drop q) how new = (r : Result ⊤ Refusal)
+    × DropsQuery old no_uses q r new × (how ≡ loaded_by is_done r)
+StoreLoads old l _ how new = (how ≡ refused) × (new ≡ old)
 
 -- A batch is opened, or memory lacks for it.
 abbrev pub LoadsBatch : Loading → Loaded → Loading → Type 0
@@ -109,7 +110,7 @@ CommandLoads old l c how new = LoadsIn old.batch c
   where
     LoadsIn : Option HeldTransaction → Command → Type 0
     LoadsIn None Batch = LoadsBatch old how new
-    LoadsIn None c = StoreLoads old.store c how new.store × (new.batch ≡ None)
+    LoadsIn None c = StoreLoads old.store l c how new.store × (new.batch ≡ None)
     LoadsIn (Some held) (Add name row) = HoldsOrRefuses old held l Adds name row how new
     LoadsIn (Some held) (Del name row) = HoldsOrRefuses old held l Deletes name row how new
     LoadsIn (Some held) (Done given) = (r : Result ℕ DoneRefusal)

@@ -1,21 +1,21 @@
 -- One step of the machine: what an event may do to the state, and what it queues.
-use Rattle.std.specs.Prelude.{ℕ, List, [], ◌∷◌, ◌==◌, ◌≡◌, ◌++◌, ◌<◌, ◌⊎◌, Bool, true, false, not}
+use Rattle.std.specs.Prelude.{ℕ, List, [], ◌∷◌, ◌==◌, ◌≡◌, ◌-◌, ◌++◌, ◌<◌, ◌⊎◌, Bool, true, false, not}
 use Rattle.std.specs.Prelude.{None, IsSomeAnd, MatchOption, length, filter, All, IsPermutation}
 use Rattle.djq_model.specs.declared.relation.Relation.{Relation}
 use Rattle.djq_model.specs.Data.{Bytes}
-use Rattle.djq_protocol.specs.declared.limits.TheConstants.{SESSIONS}
+use Rattle.djq_protocol.specs.declared.answer.Class.{Class}
 use Rattle.djq_protocol.specs.declared.answer.EndCause.TheVariants.{Input, Memory}
 use Rattle.djq_protocol.specs.Line.{Front, dry, front_of}
 use Rattle.djq_protocol.specs.Reply.{end_memory}
 pub use Rattle.djq_protocol.specs.Reply.{cut_line}
-use Rattle.djq_machine.specs.State.{Session, State, fresh, session_of, with_session, ended_by}
+use Rattle.djq_machine.specs.State.{Session, State, fresh, has_place, session_of, with_session, ended_by}
 use Rattle.djq_machine.specs.Effect.{Effect, nothing, says_any, lost_line, EndsWith, queue_all}
 use Rattle.djq_machine.specs.LineStep.{LineOutcome, FrontStep}
 
 -- An event: what comes to the machine.
 pub data Event : Type 0 where
-  -- a session opens
-  opened : ℕ → Event
+  -- a session opens, which came by the address of its class
+  opened : ℕ → Class → Event
   -- bytes of it come
   fed : ℕ → Bytes → Event
   -- the front of its bytes comes to this
@@ -35,12 +35,12 @@ is_dry held = dry_front (front_of held)
     dry_front dry = true
     dry_front _ = false
 
--- A session opens with an id above the others, where fewer than the limit are open; else, and out of memory, nothing
+-- A session opens with an id above the others, where one of its class has a place; else, and out of memory, nothing
 -- changes.
-abbrev pub OpenedStep : State → ℕ → Effect → State → Type 0
-OpenedStep old s e new = (e ≡ nothing) × All (λ x. x.id < s) old.sessions
-    × (((length old.sessions < SESSIONS) × (new ≡ record old { sessions = old.sessions ++ fresh s ∷ [] })) ⊎
-    (new ≡ old))
+abbrev pub OpenedStep : State → ℕ → Class → Effect → State → Type 0
+OpenedStep old s class e new = (e ≡ nothing) × All (λ x. x.id < s) old.sessions
+    × (((has_place old class ≡ true) × (new ≡ record old { sessions = old.sessions ++ fresh s class ∷ [] }))
+    ⊎ (new ≡ old))
 
 -- Bytes are held behind those of the session, or it ends out of memory. Where it has ended they are dropped.
 abbrev pub FedStep : State → ℕ → Bytes → Session → Effect → State → Type 0
@@ -52,7 +52,8 @@ FedStep old s bytes x e new = MatchOption x.cause
 -- The first of the bytes that are pending are taken.
 abbrev pub TookStep : State → ℕ → Bytes → Session → Effect → State → Type 0
 TookStep old s bytes x e new = (e ≡ nothing)
-    × ((rest : Bytes) × (x.pending ≡ bytes ++ rest) × (new ≡ with_session old s (λ y. record y { pending = rest })))
+    × ((rest : Bytes) × (x.pending ≡ bytes ++ rest) × (new ≡ with_session old s
+    (λ y. record y { pending = rest; uncounted = y.uncounted - length bytes })))
 
 -- A session whose input ends ends with it. That bytes of a line are held is said, and that lines of a batch are.
 abbrev pub EndedStep : State → ℕ → Session → Effect → State → Type 0
@@ -63,7 +64,7 @@ EndedStep old s x e new = MatchOption x.cause
 
 -- What an event does, before its bytes are queued.
 abbrev pub Acts : State → Event → Effect → State → Type 0
-Acts old (opened s) e new = OpenedStep old s e new
+Acts old (opened s class) e new = OpenedStep old s class e new
 Acts old (fed s bytes) e new = IsSomeAnd (session_of old s) (λ x. FedStep old s bytes x e new)
 Acts old (stepped s outcome) e new = IsSomeAnd (session_of old s)
     (λ x. (x.cause ≡ None) × FrontStep old s x outcome e new)

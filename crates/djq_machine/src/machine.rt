@@ -1,5 +1,5 @@
 use djq_counters::{Ledgers, Steps};
-use djq_protocol::EndCause;
+use djq_protocol::{Class, EndCause};
 use thiserror::Error;
 
 /// The outcome of feeding bytes to a session.
@@ -47,7 +47,7 @@ pub trait Machine {
     ghost use Rattle.djq_machine.specs.Step.{fed, took, ended, closed, is_dry};
     ghost use Rattle.djq_machine.specs.Run.{pending_of};
     ghost use Rattle.djq_machine.specs.Call.{IsOpen, Makes, OpenGives, FedGives, StepsLine};
-    ghost use Rattle.djq_machine.specs.Call.{cause_of, held_of, state_ids, first_due, may_run, first_ready, counts};
+    ghost use Rattle.djq_machine.specs.Call.{cause_of, is_closing_of, held_of, state_ids, first_due, may_run, first_ready, counts};
 
     // The state of the join machine that it has.
     ghost state: { Self → State };
@@ -58,15 +58,16 @@ pub trait Machine {
     // Whether there is room for what one step more logs.
     ghost room: { Self → Bool };
 
-    /// Opens a session with an id above those of the open ones.
+    /// Opens a session with an id above those of the open ones, which came by the address of its class.
     ///
     /// # Errors
     ///
-    /// `Full` if and only if [`SESSIONS`](djq_protocol::limits::SESSIONS) are open; `NoMem` below that,
-    /// out of memory.
-    fn open_session(&mut self, id: u64) -> Result<(), OpenRefusal>
+    /// `Full` if and only if no session of its class has a place: the clients and readers are as many
+    /// as the operator says, or [`CONTROLLERS`](djq_protocol::limits::CONTROLLERS) are open; `NoMem`
+    /// if there is a place, out of memory.
+    fn open_session(&mut self, id: u64, class: Class) -> Result<(), OpenRefusal>
         requires { All (λ x. x.id < id) (state self.old).sessions }
-        ensures { OpenGives (state self.old) id result (state self.new) };
+        ensures { OpenGives (state self.old) id class result (state self.new) };
 
     /// Feeds bytes to an open session. If it has ended they are dropped.
     fn feed(&mut self, id: u64, piece: &[u8]) -> Fed
@@ -142,6 +143,11 @@ pub trait Machine {
     /// it, or it has ended.
     fn due(&self, from: u128) -> Option<u64>
         ensures { result ≡ first_due (state self.now) from };
+
+    /// Whether an open session is closed at the next flush, whatever is pending for it.
+    fn is_closing(&self, id: u64) -> bool
+        requires { IsOpen (state self.now) id }
+        ensures { result ≡ is_closing_of (state self.now) id };
 
     /// Whether a session ran `stop`.
     fn stopped(&self) -> bool

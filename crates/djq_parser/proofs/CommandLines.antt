@@ -1,5 +1,5 @@
 -- A line says a command exactly if it spells it.
-use Rattle.std.proofs.Common.{◌≡◌, List, Option, None, Some, ap, ◌↔◌, ℕ, [], ◌∷◌, ◌++◌, sym, subst, ◌∙◌, refl}
+use Rattle.std.proofs.Common.{◌≡◌, Bool, true, false, List, Option, None, Some, ap, ◌↔◌, ℕ, [], ◌∷◌, ◌++◌, sym, subst, ◌∙◌, refl}
 use Rattle.std.specs.Str.{is_utf8}
 use Rattle.std.specs.List.{AllZip}
 use Rattle.std.proofs.lemmas.Bool.{cond-true}
@@ -20,12 +20,14 @@ use Rattle.djq_protocol.specs.declared.command.Command.{Command}
 use Rattle.djq_protocol.specs.declared.command.Command.TheVariants.{Rel, Add, Del, Query as Register, Union, Drop, Open}
 use Rattle.djq_protocol.specs.declared.command.Command.TheVariants.{Next, Close, Has, Watch, Unwatch, Explain, Shape}
 use Rattle.djq_protocol.specs.declared.command.Command.TheVariants.{Batch, Done, Abandon, Quit, Stop}
+use Rattle.djq_protocol.specs.declared.command.Command.TheVariants.{Follow, Relations, Queries, Show, Copies}
+use Rattle.djq_protocol.specs.declared.command.Command.TheVariants.{Status, Sessions, Ping, End, Why}
 use Rattle.djq_protocol.specs.Grammar.{command_in, command_of, Item, atom, comparison, past_item}
 use Rattle.djq_parser.specs.declared.row.RowWord.{RowWord}
 use Rattle.djq_parser.specs.declared.row.RowWord.TheVariants.{Add as Adds, Del as Deletes}
 use Rattle.djq_parser.specs.RowReading.{row_word_in}
 use Rattle.djq_parser.specs.Saying.{SaysCommand, SaysAtom, SaysComparison, SaysItem, SaysItems, SaysName, SaysTerm}
-use Rattle.djq_parser.specs.Saying.{SaysType, SaysValue, list_tokens, more_tokens}
+use Rattle.djq_parser.specs.Saying.{quiet_tokens, SaysType, SaysValue, list_tokens, more_tokens}
 use Rattle.djq_parser.specs.Laws.{Spells}
 use Rattle.djq_parser.proofs.ItemLists.{guard_some}
 use Rattle.djq_parser.proofs.CommandTokens.{commands_are_said}
@@ -49,7 +51,7 @@ said_by (Open c q) ts s = ap row_word_in s.2
 said_by (Next c k) ts s = ap row_word_in s.5
 said_by (Close c) ts s = ap row_word_in s.1
 said_by (Has q vs) ts s = ap row_word_in s.3
-said_by (Watch q) ts s = ap row_word_in s.1
+said_by (Watch q quiet) ts s = ap row_word_in s.1
 said_by (Unwatch q) ts s = ap row_word_in s.1
 said_by (Explain q) ts s = ap row_word_in s.1
 said_by (Shape q) ts s = ap row_word_in s.1
@@ -59,6 +61,16 @@ said_by (Done (Some k)) ts s = ap row_word_in s.4
 said_by Abandon ts s = ap row_word_in s
 said_by Quit ts s = ap row_word_in s
 said_by Stop ts s = ap row_word_in s
+said_by (Follow q k quiet) ts s = ap row_word_in s.5
+said_by Relations ts s = ap row_word_in s
+said_by Queries ts s = ap row_word_in s
+said_by (Show q) ts s = ap row_word_in s.1
+said_by (Copies n vs) ts s = ap row_word_in s.1.3
+said_by Status ts s = ap row_word_in s
+said_by Sessions ts s = ap row_word_in s
+said_by Ping ts s = ap row_word_in s
+said_by (End i) ts s = ap row_word_in s.4
+said_by Why ts s = ap row_word_in s
 
 pub begins_for : (line : Bytes) (c : Command) → command_of line ≡ Some c → row_word_in (tokens line) ≡ row_word_for c
 unfolding command_of
@@ -150,6 +162,10 @@ body_real n (i ∷ []) ts s = item_real n i ts s
 body_real n (i ∷ j ∷ js) ts s = as_real ts (s.0 ++ comma ∷ s.1) s.4
     (append_real s.0 (comma ∷ s.1) (item_real n i s.0 s.2) (body_real (past_item n i) (j ∷ js) s.1 s.3))
 
+quiet_real : (quiet : Bool) → HasNoStray (quiet_tokens quiet)
+quiet_real true = tt
+quiet_real false = tt
+
 says_real : (c : Command) (ts : List Token) → SaysCommand c ts → HasNoStray ts
 says_real (Rel n cs) ts s = as_real ts _ s.4 (items_real SaysType type_real cs s.0 s.3)
 says_real (Add n vs) ts s = as_real ts _ s.1.3 (items_real SaysValue value_real vs s.1.0 s.1.2)
@@ -165,7 +181,7 @@ says_real (Open c q) ts s = as_real ts _ s.2 tt
 says_real (Next c k) ts s = as_real ts _ s.5 tt
 says_real (Close c) ts s = as_real ts _ s.1 tt
 says_real (Has q vs) ts s = as_real ts _ s.3 (items_real SaysValue value_real vs s.0 s.2)
-says_real (Watch q) ts s = as_real ts _ s.1 tt
+says_real (Watch q quiet) ts s = as_real ts _ s.1 (quiet_real quiet)
 says_real (Unwatch q) ts s = as_real ts _ s.1 tt
 says_real (Explain q) ts s = as_real ts _ s.1 tt
 says_real (Shape q) ts s = as_real ts _ s.1 tt
@@ -175,6 +191,16 @@ says_real (Done (Some k)) ts s = as_real ts _ s.4 tt
 says_real Abandon ts s = as_real ts _ s tt
 says_real Quit ts s = as_real ts _ s tt
 says_real Stop ts s = as_real ts _ s tt
+says_real (Follow q k quiet) ts s = as_real ts _ s.5 (quiet_real quiet)
+says_real Relations ts s = as_real ts _ s tt
+says_real Queries ts s = as_real ts _ s tt
+says_real (Show q) ts s = as_real ts _ s.1 tt
+says_real (Copies n vs) ts s = as_real ts _ s.1.3 (items_real SaysValue value_real vs s.1.0 s.1.2)
+says_real Status ts s = as_real ts _ s tt
+says_real Sessions ts s = as_real ts _ s tt
+says_real Ping ts s = as_real ts _ s tt
+says_real (End i) ts s = as_real ts _ s.4 tt
+says_real Why ts s = as_real ts _ s tt
 
 spelled : (line : Bytes) (c : Command) → command_of line ≡ Some c → Spells c line
 unfolding command_of

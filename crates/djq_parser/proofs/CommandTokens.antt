@@ -1,6 +1,6 @@
 -- Tokens are read as a command exactly if they say it.
 use Rattle.std.proofs.Common.{◌≡◌, ℕ, zero, suc, ◌<◌, ◌≤◌, true, ◌&&◌, List, [], ◌∷◌, ◌++◌, length, Option, Some, None}
-use Rattle.std.proofs.Common.{min, option_map, refl, sym, ap, ap₂, subst, ◌∙◌, arith, leb, ◌↔◌, codes, append-nil}
+use Rattle.std.proofs.Common.{min, option_map, refl, Bool, false, sym, ap, ap₂, subst, ◌∙◌, arith, leb, ◌↔◌, codes, append-nil}
 use Rattle.std.specs.List.{AllZip}
 use Rattle.std.proofs.lemmas.Bool.{cond-true, and_parts, and_from, leb-true, le-leb}
 use Rattle.std.proofs.lemmas.Bool.Decides.{nat_tests}
@@ -19,6 +19,8 @@ use Rattle.djq_protocol.specs.declared.command.Command.{Command}
 use Rattle.djq_protocol.specs.declared.command.Command.TheVariants.{Rel, Add, Del, Query as Register, Union, Drop, Open}
 use Rattle.djq_protocol.specs.declared.command.Command.TheVariants.{Next, Close, Has, Watch, Unwatch, Explain, Shape}
 use Rattle.djq_protocol.specs.declared.command.Command.TheVariants.{Batch, Done, Abandon, Quit, Stop}
+use Rattle.djq_protocol.specs.declared.command.Command.TheVariants.{Follow, Relations, Queries, Show, Copies}
+use Rattle.djq_protocol.specs.declared.command.Command.TheVariants.{Status, Sessions, Ping, End, Why}
 use Rattle.djq_protocol.specs.declared.keyword.Keyword.{Keyword}
 use Rattle.djq_protocol.specs.declared.keyword.Keyword.TheVariants.{Rel as RelWord, Add as AddWord, Del as DelWord}
 use Rattle.djq_protocol.specs.declared.keyword.Keyword.TheVariants.{Query as QueryWord, Union as UnionWord}
@@ -29,14 +31,21 @@ use Rattle.djq_protocol.specs.declared.keyword.Keyword.TheVariants.{Unwatch as U
 use Rattle.djq_protocol.specs.declared.keyword.Keyword.TheVariants.{Shape as ShapeWord, Batch as BatchWord}
 use Rattle.djq_protocol.specs.declared.keyword.Keyword.TheVariants.{Done as DoneWord, Abandon as AbandonWord}
 use Rattle.djq_protocol.specs.declared.keyword.Keyword.TheVariants.{Quit as QuitWord, Stop as StopWord}
+use Rattle.djq_protocol.specs.declared.keyword.Keyword.TheVariants.{Follow as FollowWord, Show as ShowWord}
+use Rattle.djq_protocol.specs.declared.keyword.Keyword.TheVariants.{Relations as RelationsWord}
+use Rattle.djq_protocol.specs.declared.keyword.Keyword.TheVariants.{Queries as QueriesWord, Copies as CopiesWord}
+use Rattle.djq_protocol.specs.declared.keyword.Keyword.TheVariants.{Status as StatusWord, Ping as PingWord}
+use Rattle.djq_protocol.specs.declared.keyword.Keyword.TheVariants.{Sessions as SessionsWord, End as EndWord}
+use Rattle.djq_protocol.specs.declared.keyword.Keyword.TheVariants.{Why as WhyWord}
 use Rattle.djq_protocol.specs.Grammar.{all_of, Body, Item, atom, comparison, atom_in, atom_over, behind_item, body_in}
 use Rattle.djq_protocol.specs.Grammar.{command_behind, command_in, command_with, compared, comparison_of, answer_count}
 use Rattle.djq_protocol.specs.Grammar.{is_count, item_in, items_in, items_within, past_item, put_item, with_atoms}
 use Rattle.djq_protocol.specs.Grammar.{keyword_of, list_in, name_and_count, name_and_members, name_of, named_any}
 use Rattle.djq_protocol.specs.Grammar.{named_some, at_line_end, one_name, query_of_tokens, query_of, term_of, two_names}
-use Rattle.djq_protocol.specs.Grammar.{type_of, number_or_last, number_if_any}
+use Rattle.djq_protocol.specs.Grammar.{type_of, number_or_last, number_if_any, question_keyword_of, quiet_if_any}
+use Rattle.djq_protocol.specs.Grammar.{name_and_quiet, both_of, count_and_quiet, name_count_and_quiet, id_or_last, one_id}
 use Rattle.djq_parser.specs.Saying.{SaysCommand, SaysAtom, SaysBody, SaysItem, SaysItems, SaysName, SaysOne, SaysQuery}
-use Rattle.djq_parser.specs.Saying.{SaysRow, SaysTerm, SaysType, SaysValue, atoms_among, comparisons_among, list_tokens}
+use Rattle.djq_parser.specs.Saying.{quiet_tokens, SaysRow, SaysTerm, SaysType, SaysValue, atoms_among, comparisons_among, list_tokens}
 use Rattle.djq_parser.proofs.Bodies.{items_in-step}
 use Rattle.djq_parser.proofs.ItemLists.{guard_some, numeral_from, numeral_said, all_from, all_said, list_from}
 use Rattle.djq_parser.proofs.ItemLists.{list_said, name_from, name_said, pick, term_from, term_said, type_from}
@@ -436,19 +445,20 @@ two_said (word m ∷ word n ∷ []) p e =
     (subst IsName same.0 names.0, subst IsName same.1 names.1, ap₂ (λ v w. word v ∷ word w ∷ []) same.0 same.1)
 two_said _ p e = absurd cc
 
-count_said : (o : Option ℕ) (k : ℕ) → answer_count o ≡ Some k → (o ≡ Some k) × (is_count k ≡ true)
-count_said None k e = absurd (cc)
-count_said (Some n) k e =
-    let guarded = guard_some (is_count n) (Some n) k e in
+count_said : (most : ℕ) (o : Option ℕ) (k : ℕ) → answer_count most o ≡ Some k → (o ≡ Some k)
+    × (is_count most k ≡ true)
+count_said most None k e = absurd (cc)
+count_said most (Some n) k e =
+    let guarded = guard_some (is_count most n) (Some n) k e in
     let same : n ≡ k = cc (guarded.1) in
-    (guarded.1, subst (λ m. is_count m ≡ true) same guarded.0)
+    (guarded.1, subst (λ m. is_count most m ≡ true) same guarded.0)
 
 next_said : (ts : List Token) (p : Bytes × ℕ) → name_and_count ts ≡ Some p
     → SaysCommand (Next p.0 p.1) (word (codes "next") ∷ ts)
 next_said (word c ∷ word w ∷ []) p e =
-    let guarded = guard_some (is_name c) (option_map (λ (n : ℕ). (c, n)) (answer_count (natural_of w))) p e in
-    let found = map_some (λ (n : ℕ). (c, n)) (answer_count (natural_of w)) p guarded.1 in
-    let count = count_said (natural_of w) found.0 found.1 in
+    let guarded = guard_some (is_name c) (option_map (λ (n : ℕ). (c, n)) (answer_count 1000 (natural_of w))) p e in
+    let found = map_some (λ (n : ℕ). (c, n)) (answer_count 1000 (natural_of w)) p guarded.1 in
+    let count = count_said 1000 (natural_of w) found.0 found.1 in
     let bounds = and_parts (leb 1 found.0) (leb found.0 1000) count.1 in
     subst (λ (q : Bytes × ℕ). SaysCommand (Next q.0 q.1) (word (codes "next") ∷ word c ∷ word w ∷ [])) found.2
     (w, guarded.0, numeral_said w found.0 count.0, leb-true 1 found.0 bounds.0, leb-true found.0 1000 bounds.1, refl)
@@ -469,6 +479,75 @@ done_said (word w ∷ []) given e =
     subst (λ (o : Option ℕ). SaysCommand (Done o) (word (codes "done") ∷ word w ∷ [])) found.2
     (w, found.0, numeral_said w found.0 found.1, last-min found.0, refl)
 done_said _ given e = absurd cc
+
+-- the word `quiet`, or nothing
+quiet_said : (ts : List Token) (quiet : Bool) → quiet_if_any ts ≡ Some quiet → ts ≡ quiet_tokens quiet
+quiet_said [] quiet e = let same : false ≡ quiet = cc in ap quiet_tokens same
+quiet_said (word w ∷ []) quiet e =
+    let guarded = guard_some (bytes_eq w (codes "quiet")) (Some true) quiet e in
+    let same : true ≡ quiet = cc (guarded.1) in
+    ap (λ v. word v ∷ []) ((bytes_eq-decides w (codes "quiet")).0 guarded.0) ∙ ap quiet_tokens same
+quiet_said _ quiet e = absurd cc
+
+quiet_read : (quiet : Bool) → quiet_if_any (quiet_tokens quiet) ≡ Some quiet
+quiet_read true = refl
+quiet_read false = refl
+
+watch_said : (ts : List Token) (p : Bytes × Bool) → name_and_quiet ts ≡ Some p
+    → SaysCommand (Watch p.0 p.1) (word (codes "watch") ∷ ts)
+watch_said (word n ∷ ts) p e =
+    let guarded = guard_some (is_name n) (option_map (λ (quiet : Bool). (n, quiet)) (quiet_if_any ts)) p e in
+    let found = map_some (λ (quiet : Bool). (n, quiet)) (quiet_if_any ts) p guarded.1 in
+    subst (λ (q : Bytes × Bool). SaysCommand (Watch q.0 q.1) (word (codes "watch") ∷ word n ∷ ts)) found.2
+    (guarded.0, ap (λ us. word (codes "watch") ∷ word n ∷ us) (quiet_said ts found.0 found.1))
+watch_said _ p e = absurd cc
+
+-- a count and the word `quiet`, or nothing
+record IsCountAndQuiet (ts : List Token) (p : ℕ × Bool) : Type 0 where
+  digits : Bytes
+  rest : List Token
+  split : ts ≡ word digits ∷ rest
+  count : answer_count 1000000 (natural_of digits) ≡ Some p.0
+  quiet : quiet_if_any rest ≡ Some p.1
+
+both_said : (o : Option ℕ) (u : Option Bool) (p : ℕ × Bool) → both_of o u ≡ Some p → (o ≡ Some p.0) × (u ≡ Some p.1)
+both_said (Some n) (Some quiet) p e =
+    let same : (n, quiet) ≡ p = cc in
+    (ap (λ (q : ℕ × Bool). Some q.0) same, ap (λ (q : ℕ × Bool). Some q.1) same)
+both_said (Some n) None p e = absurd (cc)
+both_said None u p e = absurd (cc)
+
+counted_said : (ts : List Token) (p : ℕ × Bool) → count_and_quiet ts ≡ Some p → IsCountAndQuiet ts p
+counted_said (word k ∷ ts) p e =
+    let both = both_said (answer_count 1000000 (natural_of k)) (quiet_if_any ts) p e in
+    record { digits = k; rest = ts; split = refl; count = both.0; quiet = both.1 }
+counted_said _ p e = absurd cc
+
+follow_said : (ts : List Token) (p : Bytes × (ℕ × Bool)) → name_count_and_quiet ts ≡ Some p
+    → SaysCommand (Follow p.0 p.1.0 p.1.1) (word (codes "follow") ∷ ts)
+follow_said (word n ∷ ts) p e =
+    let guarded = guard_some (is_name n) (option_map (λ (c : ℕ × Bool). (n, c)) (count_and_quiet ts)) p e in
+    let found = map_some (λ (c : ℕ × Bool). (n, c)) (count_and_quiet ts) p guarded.1 in
+    let counted = counted_said ts found.0 found.1 in
+    let count = count_said 1000000 (natural_of counted.digits) found.0.0 counted.count in
+    let bounds = and_parts (leb 1 found.0.0) (leb found.0.0 1000000) count.1 in
+    subst (λ (q : Bytes × (ℕ × Bool)). SaysCommand (Follow q.0 q.1.0 q.1.1) (word (codes "follow") ∷ word n ∷ ts)) found.2
+    (counted.digits, guarded.0, numeral_said counted.digits found.0.0 count.0, leb-true 1 found.0.0 bounds.0,
+    leb-true found.0.0 1000000 bounds.1,
+    ap (λ us. word (codes "follow") ∷ word n ∷ us)
+    (counted.split ∙ ap (λ us. word counted.digits ∷ us) (quiet_said counted.rest found.0.1 counted.quiet)))
+follow_said _ p e = absurd cc
+
+-- the last id stands for each larger number
+id-min : (n : ℕ) → id_or_last n ≡ min n 18446744073709551615
+id-min n = grind (arith, nat_tests)
+
+id_said : (ts : List Token) (s : ℕ) → one_id ts ≡ Some s → SaysCommand (End s) (word (codes "end") ∷ ts)
+id_said (word w ∷ []) s e =
+    let found = map_some id_or_last (natural_of w) s e in
+    subst (λ (t : ℕ). SaysCommand (End t) (word (codes "end") ∷ word w ∷ [])) found.2
+    (w, found.0, numeral_said w found.0 found.1, id-min found.0, refl)
+id_said _ s e = absurd cc
 
 nothing_said : (command c : Command) (ts : List Token) → at_line_end command ts ≡ Some c → (ts ≡ []) × (command ≡ c)
 nothing_said command c [] e = (refl, cc)
@@ -496,6 +575,38 @@ keyword_text DoneWord = codes "done"
 keyword_text AbandonWord = codes "abandon"
 keyword_text QuitWord = codes "quit"
 keyword_text StopWord = codes "stop"
+keyword_text FollowWord = codes "follow"
+keyword_text RelationsWord = codes "relations"
+keyword_text QueriesWord = codes "queries"
+keyword_text ShowWord = codes "show"
+keyword_text CopiesWord = codes "copies"
+keyword_text StatusWord = codes "status"
+keyword_text SessionsWord = codes "sessions"
+keyword_text PingWord = codes "ping"
+keyword_text EndWord = codes "end"
+keyword_text WhyWord = codes "why"
+
+-- a word that is the text of a keyword, and is taken for it
+text_is : (w : Bytes) (here k : Keyword) → bytes_eq w (keyword_text here) ≡ true → Some here ≡ Some k → w
+    ≡ keyword_text k
+text_is w here k is h = let same : here ≡ k = cc in (bytes_eq-decides w (keyword_text here)).0 is
+    ∙ ap keyword_text same
+
+question_said : (w : Bytes) (k : Keyword) → question_keyword_of w ≡ Some k → w ≡ keyword_text k
+question_said w k e =
+    pick (bytes_eq w (codes "follow")) (Some FollowWord) _ (Some k) e (λ is h. text_is w FollowWord k is h) (λ _ e1.
+    pick (bytes_eq w (codes "relations")) (Some RelationsWord) _ (Some k) e1 (λ is h. text_is w RelationsWord k is h)
+    (λ _ e2.
+    pick (bytes_eq w (codes "queries")) (Some QueriesWord) _ (Some k) e2 (λ is h. text_is w QueriesWord k is h) (λ _ e3.
+    pick (bytes_eq w (codes "show")) (Some ShowWord) _ (Some k) e3 (λ is h. text_is w ShowWord k is h) (λ _ e4.
+    pick (bytes_eq w (codes "copies")) (Some CopiesWord) _ (Some k) e4 (λ is h. text_is w CopiesWord k is h) (λ _ e5.
+    pick (bytes_eq w (codes "status")) (Some StatusWord) _ (Some k) e5 (λ is h. text_is w StatusWord k is h) (λ _ e6.
+    pick (bytes_eq w (codes "sessions")) (Some SessionsWord) _ (Some k) e6 (λ is h. text_is w SessionsWord k is h)
+    (λ _ e7.
+    pick (bytes_eq w (codes "ping")) (Some PingWord) _ (Some k) e7 (λ is h. text_is w PingWord k is h) (λ _ e8.
+    pick (bytes_eq w (codes "end")) (Some EndWord) _ (Some k) e8 (λ is h. text_is w EndWord k is h) (λ _ e9.
+    pick (bytes_eq w (codes "why")) (Some WhyWord) None (Some k) e9 (λ is h. text_is w WhyWord k is h) (λ _ e10.
+    absurd (cc)))))))))))
 
 -- a word that is a keyword is its text
 keyword_said : (w : Bytes) (k : Keyword) → keyword_of w ≡ Some k → w ≡ keyword_text k
@@ -521,13 +632,8 @@ keyword_said w k e =
     pick (bytes_eq w (codes "abandon")) (Some AbandonWord) _ (Some k) e15 (λ is h. text_is w AbandonWord k is h)
     (λ _ e16.
     pick (bytes_eq w (codes "quit")) (Some QuitWord) _ (Some k) e16 (λ is h. text_is w QuitWord k is h) (λ _ e17.
-    pick (bytes_eq w (codes "stop")) (Some StopWord) None (Some k) e17 (λ is h. text_is w StopWord k is h) (λ _ e18.
-    absurd (cc))))))))))))))))))))
-  where
-    text_is : (w : Bytes) (here k : Keyword) → bytes_eq w (keyword_text here) ≡ true → Some here ≡ Some k → w
-        ≡ keyword_text k
-    text_is w here k is h = let same : here ≡ k = cc in (bytes_eq-decides w (keyword_text here)).0 is
-        ∙ ap keyword_text same
+    pick (bytes_eq w (codes "stop")) (Some StopWord) _ (Some k) e17 (λ is h. text_is w StopWord k is h) (λ _ e18.
+    question_said w k e18)))))))))))))))))))
 
 -- Commands.
 
@@ -593,7 +699,9 @@ behind_said HasWord ts c e =
     let found = map_some (λ (p : Bytes × Tuple). Has p.0 p.1) (named_any literal_of ts) c e in
     subst (λ (d : Command). SaysCommand d (word (codes "has") ∷ ts)) found.2
     (row_said (codes "has") ts found.0.0 found.0.1 (any_said literal_of SaysValue value_said ts found.0 found.1))
-behind_said WatchWord ts c e = named_one (codes "watch") (λ q. Watch q) ts c (λ n us s. s) e
+behind_said WatchWord ts c e =
+    let found = map_some (λ (p : Bytes × Bool). Watch p.0 p.1) (name_and_quiet ts) c e in
+    subst (λ (d : Command). SaysCommand d (word (codes "watch") ∷ ts)) found.2 (watch_said ts found.0 found.1)
 behind_said UnwatchWord ts c e = named_one (codes "unwatch") (λ q. Unwatch q) ts c (λ n us s. s) e
 behind_said ExplainWord ts c e = named_one (codes "explain") (λ q. Explain q) ts c (λ n us s. s) e
 behind_said ShapeWord ts c e = named_one (codes "shape") (λ q. Shape q) ts c (λ n us s. s) e
@@ -604,6 +712,24 @@ behind_said DoneWord ts c e =
 behind_said AbandonWord ts c e = alone_said (codes "abandon") Abandon ts c (λ us s. s) e
 behind_said QuitWord ts c e = alone_said (codes "quit") Quit ts c (λ us s. s) e
 behind_said StopWord ts c e = alone_said (codes "stop") Stop ts c (λ us s. s) e
+behind_said FollowWord ts c e =
+    let found = map_some (λ (p : Bytes × (ℕ × Bool)). Follow p.0 p.1.0 p.1.1) (name_count_and_quiet ts) c e in
+    subst (λ (d : Command). SaysCommand d (word (codes "follow") ∷ ts)) found.2 (follow_said ts found.0 found.1)
+behind_said RelationsWord ts c e = alone_said (codes "relations") Relations ts c (λ us s. s) e
+behind_said QueriesWord ts c e = alone_said (codes "queries") Queries ts c (λ us s. s) e
+behind_said ShowWord ts c e = named_one (codes "show") (λ q. Show q) ts c (λ n us s. s) e
+behind_said CopiesWord ts c e =
+    let found = map_some (λ (p : Bytes × Tuple). Copies p.0 p.1) (named_some literal_of ts) c e in
+    let some = some_said literal_of SaysValue value_said ts found.0 found.1 in
+    subst (λ (d : Command). SaysCommand d (word (codes "copies") ∷ ts)) found.2
+    (some.1, row_said (codes "copies") ts found.0.0 found.0.1 some.0)
+behind_said StatusWord ts c e = alone_said (codes "status") Status ts c (λ us s. s) e
+behind_said SessionsWord ts c e = alone_said (codes "sessions") Sessions ts c (λ us s. s) e
+behind_said PingWord ts c e = alone_said (codes "ping") Ping ts c (λ us s. s) e
+behind_said EndWord ts c e =
+    let found = map_some (λ (s : ℕ). End s) (one_id ts) c e in
+    subst (λ (d : Command). SaysCommand d (word (codes "end") ∷ ts)) found.2 (id_said ts found.0 found.1)
+behind_said WhyWord ts c e = alone_said (codes "why") Why ts c (λ us s. s) e
 
 with_said : (w : Bytes) (o : Option Keyword) (ts : List Token) (c : Command) → keyword_of w ≡ o → command_with o ts
     ≡ Some c → SaysCommand c (word w ∷ ts)
@@ -643,12 +769,14 @@ said_read (Next c k) ts s =
     ap command_in s.5
     ∙ ap (option_map (λ (p : Bytes × ℕ). Next p.0 p.1))
     (cond-true _ _ _ s.1 ∙ ap (option_map (λ (n : ℕ). (c, n)))
-    (ap answer_count (numeral_from s.0 k s.2)
+    (ap (answer_count 1000) (numeral_from s.0 k s.2)
     ∙ cond-true _ _ _ (and_from (leb 1 k) (leb k 1000) (le-leb 1 k s.3) (le-leb k 1000 s.4))))
 said_read (Close c) ts s = ap command_in s.1 ∙ ap (option_map (λ n. Close n)) (cond-true _ _ _ s.0)
 said_read (Has q vs) ts s = ap command_in s.3
     ∙ ap (option_map (λ (p : Bytes × Tuple). Has p.0 p.1)) (any_from literal_of SaysValue value_from q vs s.0 s.1 s.2)
-said_read (Watch q) ts s = ap command_in s.1 ∙ ap (option_map (λ n. Watch n)) (cond-true _ _ _ s.0)
+said_read (Watch q quiet) ts s = ap command_in s.1
+    ∙ ap (option_map (λ (p : Bytes × Bool). Watch p.0 p.1))
+    (cond-true _ _ _ s.0 ∙ ap (option_map (λ (u : Bool). (q, u))) (quiet_read quiet))
 said_read (Unwatch q) ts s = ap command_in s.1 ∙ ap (option_map (λ n. Unwatch n)) (cond-true _ _ _ s.0)
 said_read (Explain q) ts s = ap command_in s.1 ∙ ap (option_map (λ n. Explain n)) (cond-true _ _ _ s.0)
 said_read (Shape q) ts s = ap command_in s.1 ∙ ap (option_map (λ n. Shape n)) (cond-true _ _ _ s.0)
@@ -662,6 +790,28 @@ said_read (Done (Some k)) ts s =
 said_read Abandon ts s = ap command_in s
 said_read Quit ts s = ap command_in s
 said_read Stop ts s = ap command_in s
+said_read (Follow q k quiet) ts s =
+    ap command_in s.5
+    ∙ ap (option_map (λ (p : Bytes × (ℕ × Bool)). Follow p.0 p.1.0 p.1.1))
+    (cond-true _ _ _ s.1 ∙ ap (option_map (λ (c : ℕ × Bool). (q, c)))
+    (ap₂ both_of
+    (ap (answer_count 1000000) (numeral_from s.0 k s.2)
+    ∙ cond-true _ _ _ (and_from (leb 1 k) (leb k 1000000) (le-leb 1 k s.3) (le-leb k 1000000 s.4)))
+    (quiet_read quiet)))
+said_read Relations ts s = ap command_in s
+said_read Queries ts s = ap command_in s
+said_read (Show q) ts s = ap command_in s.1 ∙ ap (option_map (λ n. Show n)) (cond-true _ _ _ s.0)
+said_read (Copies n vs) ts s = ap command_in s.1.3
+    ∙ ap (option_map (λ (p : Bytes × Tuple). Copies p.0 p.1))
+    (some_from literal_of SaysValue value_from n vs s.1.0 s.1.1 s.0 s.1.2)
+said_read Status ts s = ap command_in s
+said_read Sessions ts s = ap command_in s
+said_read Ping ts s = ap command_in s
+said_read (End i) ts s =
+    ap command_in s.4
+    ∙ ap (option_map (λ (n : ℕ). End n))
+    (ap (option_map id_or_last) (numeral_from s.0 s.1 s.2) ∙ ap (λ n. Some n) (id-min s.1 ∙ sym s.3))
+said_read Why ts s = ap command_in s
 
 pub commands_are_said : (ts : List Token) (c : Command) → (command_in ts ≡ Some c) ↔ SaysCommand c ts
 commands_are_said ts c = (command_said ts c, said_read c ts)

@@ -1,5 +1,5 @@
 -- What tokens say a command: the grammar as a relation, told without reading.
-use Rattle.std.specs.Prelude.{◌≡◌, ℕ, ℤ, pos, ◌-◌, ◌+◌, ◌*◌, ◌^◌, ◌<◌, ◌≤◌, ◌⊎◌, neg_ℤ, List, [], ◌∷◌, ◌++◌, true, codes, length, min, None, Some}
+use Rattle.std.specs.Prelude.{◌≡◌, ℕ, ℤ, pos, ◌-◌, ◌+◌, ◌*◌, ◌^◌, ◌<◌, ◌≤◌, ◌⊎◌, neg_ℤ, List, [], ◌∷◌, ◌++◌, Bool, true, false, codes, length, min, None, Some}
 use Rattle.std.specs.List.{AllZip, list_all}
 use Rattle.djq_model.specs.Data.{Bytes, Tuple}
 use Rattle.djq_model.specs.declared.value.Value.{Value}
@@ -11,7 +11,7 @@ use Rattle.djq_model.specs.declared.query.Term.TheVariants.{Variable, Hole, Cons
 use Rattle.djq_model.specs.declared.query.Atom.{Atom}
 use Rattle.djq_model.specs.declared.query.Comparison.{Comparison}
 use Rattle.djq_model.specs.declared.query.Query.{Query}
-use Rattle.djq_protocol.specs.declared.limits.TheConstants.{NEXT_COUNT, LAST_COUNT}
+use Rattle.djq_protocol.specs.declared.limits.TheConstants.{NEXT_COUNT, FOLLOW_COUNT, LAST_COUNT, LAST_ID}
 use Rattle.djq_protocol.specs.declared.command.Command.{Command}
 use Rattle.djq_protocol.specs.declared.command.Command.TheVariants.{
   Rel,
@@ -33,6 +33,16 @@ use Rattle.djq_protocol.specs.declared.command.Command.TheVariants.{
   Abandon,
   Quit,
   Stop,
+  Follow,
+  Relations,
+  Queries,
+  Show,
+  Copies,
+  Status,
+  Sessions,
+  Ping,
+  End,
+  Why,
 }
 use Rattle.djq_value.specs.Token.{Token, word, text, open_paren, close_paren, comma, arrow, operator}
 use Rattle.djq_value.specs.Literal.{is_digit, IsName}
@@ -142,6 +152,11 @@ SaysOne keyword n ts = IsName n × (ts ≡ word keyword ∷ word n ∷ [])
 abbrev pub SaysRow : Bytes → Bytes → Tuple → List Token → Type 0
 SaysRow keyword n vs ts = (us : List Token) × IsName n × AllZip SaysValue vs us × (ts ≡ word keyword ∷ word n ∷ us)
 
+-- the word `quiet`, or nothing
+abbrev pub quiet_tokens : Bool → List Token
+quiet_tokens true = word (codes "quiet") ∷ []
+quiet_tokens false = []
+
 -- the tokens that say a command
 abbrev pub SaysCommand : Command → List Token → Type 0
 SaysCommand (Rel n cs) ts = (us : List Token) × IsName n × (0 < length cs) × AllZip SaysType cs us
@@ -157,7 +172,7 @@ SaysCommand (Next c k) ts = (ds : Bytes) × IsName c × IsNumeral ds k × (1 ≤
     × (ts ≡ word (codes "next") ∷ word c ∷ word ds ∷ [])
 SaysCommand (Close c) ts = SaysOne (codes "close") c ts
 SaysCommand (Has q vs) ts = SaysRow (codes "has") q vs ts
-SaysCommand (Watch q) ts = SaysOne (codes "watch") q ts
+SaysCommand (Watch q quiet) ts = IsName q × (ts ≡ word (codes "watch") ∷ word q ∷ quiet_tokens quiet)
 SaysCommand (Unwatch q) ts = SaysOne (codes "unwatch") q ts
 SaysCommand (Explain q) ts = SaysOne (codes "explain") q ts
 SaysCommand (Shape q) ts = SaysOne (codes "shape") q ts
@@ -168,3 +183,15 @@ SaysCommand (Done (Some k)) ts = (ds : Bytes) × (n : ℕ) × IsNumeral ds n × 
 SaysCommand Abandon ts = ts ≡ word (codes "abandon") ∷ []
 SaysCommand Quit ts = ts ≡ word (codes "quit") ∷ []
 SaysCommand Stop ts = ts ≡ word (codes "stop") ∷ []
+SaysCommand (Follow q k quiet) ts = (ds : Bytes) × IsName q × IsNumeral ds k × (1 ≤ k) × (k ≤ FOLLOW_COUNT)
+    × (ts ≡ word (codes "follow") ∷ word q ∷ word ds ∷ quiet_tokens quiet)
+SaysCommand Relations ts = ts ≡ word (codes "relations") ∷ []
+SaysCommand Queries ts = ts ≡ word (codes "queries") ∷ []
+SaysCommand (Show q) ts = SaysOne (codes "show") q ts
+SaysCommand (Copies n vs) ts = (0 < length vs) × SaysRow (codes "copies") n vs ts
+SaysCommand Status ts = ts ≡ word (codes "status") ∷ []
+SaysCommand Sessions ts = ts ≡ word (codes "sessions") ∷ []
+SaysCommand Ping ts = ts ≡ word (codes "ping") ∷ []
+SaysCommand (End s) ts = (ds : Bytes) × (n : ℕ) × IsNumeral ds n × (s ≡ min n LAST_ID)
+    × (ts ≡ word (codes "end") ∷ word ds ∷ [])
+SaysCommand Why ts = ts ≡ word (codes "why") ∷ []

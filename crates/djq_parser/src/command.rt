@@ -5,8 +5,8 @@ ghost use Rattle.djq_parser.specs.Reading.{GivesCommand, LineReadsAs};
 
 use crate::keyword::read_keyword;
 use crate::parts::{
-    read_count, read_members, read_named_any, read_named_some, read_nothing, read_number_if_any,
-    read_one_name, read_two_names,
+    read_count, read_follow, read_id, read_members, read_name_and_quiet, read_named_any,
+    read_named_some, read_nothing, read_number_if_any, read_one_name, read_two_names,
 };
 use crate::query::read_query;
 use crate::refusal::LineRefusal;
@@ -119,9 +119,35 @@ fn read_arguments(
             Ok(Command::Shape { query })
         }
         Keyword::Watch => {
-            let query = read_one_name(lexer)?;
-            Ok(Command::Watch { query })
+            let (query, is_quiet) = read_name_and_quiet(lexer)?;
+            Ok(Command::Watch { query, is_quiet })
         }
+        Keyword::Follow => {
+            let (query, (count, is_quiet)) = read_follow(lexer)?;
+            Ok(Command::Follow {
+                query,
+                count,
+                is_quiet,
+            })
+        }
+        Keyword::Show => {
+            let query = read_one_name(lexer)?;
+            Ok(Command::Show { query })
+        }
+        Keyword::Copies => {
+            let (name, row) = read_named_some::<Value>(alloc, lexer)?;
+            Ok(Command::Copies { name, row })
+        }
+        Keyword::End => {
+            let session = read_id(lexer)?;
+            Ok(Command::End { session })
+        }
+        Keyword::Relations => read_nothing(lexer, Command::Relations),
+        Keyword::Queries => read_nothing(lexer, Command::Queries),
+        Keyword::Status => read_nothing(lexer, Command::Status),
+        Keyword::Sessions => read_nothing(lexer, Command::Sessions),
+        Keyword::Ping => read_nothing(lexer, Command::Ping),
+        Keyword::Why => read_nothing(lexer, Command::Why),
         Keyword::Unwatch => {
             let query = read_one_name(lexer)?;
             Ok(Command::Unwatch { query })

@@ -1,6 +1,6 @@
 //! The first word of a line.
 ghost use Rattle.std.specs.Prelude.{◌≡◌};
-ghost use Rattle.djq_protocol.specs.Grammar.{keyword_of};
+ghost use Rattle.djq_protocol.specs.Grammar.{keyword_of, question_keyword_of};
 
 use djq_protocol::Keyword;
 use djq_value::is_text;
@@ -47,6 +47,35 @@ pub(crate) fn read_keyword(word: &[u8]) -> Option<Keyword>
         Some(Keyword::Quit)
     } else if is_text(word, b"stop") {
         Some(Keyword::Stop)
+    } else {
+        read_question(word)
+    }
+}
+
+/// The keyword of a question that a word is, or `follow` or `end`.
+fn read_question(word: &[u8]) -> Option<Keyword>
+    ensures { result ≡ question_keyword_of word.now }
+{
+    if is_text(word, b"follow") {
+        Some(Keyword::Follow)
+    } else if is_text(word, b"relations") {
+        Some(Keyword::Relations)
+    } else if is_text(word, b"queries") {
+        Some(Keyword::Queries)
+    } else if is_text(word, b"show") {
+        Some(Keyword::Show)
+    } else if is_text(word, b"copies") {
+        Some(Keyword::Copies)
+    } else if is_text(word, b"status") {
+        Some(Keyword::Status)
+    } else if is_text(word, b"sessions") {
+        Some(Keyword::Sessions)
+    } else if is_text(word, b"ping") {
+        Some(Keyword::Ping)
+    } else if is_text(word, b"end") {
+        Some(Keyword::End)
+    } else if is_text(word, b"why") {
+        Some(Keyword::Why)
     } else {
         None
     }

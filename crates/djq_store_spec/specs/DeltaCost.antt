@@ -24,6 +24,8 @@ pub record Delta : Type 0 where
   pub changes : List Change
   pub listed : ℕ
   pub parts : List Part
+  -- whether memory was refused as it was listed
+  pub is_lost : Bool
 
 -- whether a query reads a relation that changes
 abbrev pub is_touched : RowsChange → Query → Bool
