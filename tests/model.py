@@ -13,12 +13,13 @@ LINE_BYTES = 4096
 SCHEDULE_LINE_BYTES = 8192
 PENDING_BYTES = 1 << 20
 TEXT_BYTES = 255
-MOST_SESSIONS = 64
-MOST_COLUMNS, MOST_RELATIONS, MOST_QUERIES, MOST_CURSORS = 16, 256, 256, 16
+# what holds where the operator says no other number; controllers have places of their own
+MOST_SESSIONS, MOST_QUERIES, MOST_CONTROLLERS = 64, 256, 4
+MOST_COLUMNS, MOST_RELATIONS, MOST_CURSORS = 16, 256, 16
 MOST_ATOMS, MOST_VARIABLES, MOST_HEAD, MOST_COMPARISONS = 32, 128, 16, 32
 MOST_MEMBERS = 8
-MOST_ANSWERS = 1000
-MOST_COPIES = (1 << 32) - 1
+MOST_ANSWERS, MOST_FOLLOWED = 1000, 1_000_000
+MOST_COPIES = MOST_ROWS = (1 << 32) - 1
 MOST_HELD, HELD_BYTES = 65_536, 16_777_216
 
 SYNTAX, TAKEN, NO_RELATION, NO_QUERY = b"err 1 syntax", b"err 2 taken", b"err 3 no relation", b"err 4 no query"
@@ -26,7 +27,7 @@ NO_CURSOR, ARITY, TYPE, UNBOUND = b"err 5 no cursor", b"err 6 arity", b"err 7 ty
 REPEATED, VARIABLE_TYPE, LIMIT = b"err 9 head repeated", b"err 10 variable type", b"err 11 limit"
 MEMORY, CUT, IN_USE = b"err 12 memory", b"err 13 cut", b"err 14 in use"
 COMPARES_UNBOUND, MEMBER, MISPLACED = b"err 16 unbound", b"err 17 member", b"err 18 batch"
-NO_COPY, OTHER_COUNT = b"err 19 absent", b"err 20 held"
+NO_COPY, OTHER_COUNT, NO_SESSION, NOT_ALLOWED = b"err 19 absent", b"err 20 held", b"err 21 no session", b"err 22 not allowed"
 END_MEMORY = b"end memory"
 
 # bytes of a reply that are kept before its line is run
@@ -38,7 +39,11 @@ class Difference(Exception):
 
 
 class Syntax(Exception):
-    """A line is in no form of the grammar."""
+    """A line is in no form of the grammar: it leaves it at a place."""
+
+    def __init__(self, place):
+        super().__init__(place)
+        self.place = place
 
 
 class OutOfMemory(Difference):
@@ -64,27 +69,46 @@ OPERATORS = {b"<": operator.lt, b"<=": operator.le, b">": operator.gt, b">=": op
 OF_TEXTS = (b"=", b"!=")
 
 
-def tokens_of(line):
-    """The tokens of a line: kind and value, None being the value of a literal that is past its limit."""
+def is_utf8(text):
     try:
-        line.decode("utf-8")
+        text.decode("utf-8")
     except UnicodeDecodeError:
-        raise Syntax from None
+        return False
+    return True
+
+
+def token_at(line, at):
+    """The token, or the spaces, that begin at a place; None where none does, or a text that isn't UTF-8."""
+    found = TOKEN.match(line, at)
+    return found if found and is_utf8(found[0]) else None
+
+
+def no_token_in(line):
+    """The first place at which no token begins."""
+    at = 0
+    while found := token_at(line, at):
+        at = found.end()
+    return at
+
+
+def tokens_of(line):
+    """The tokens of a line: kind, value, text and place, None being the value of a literal that is past its limit. What no
+    line has at its place is of no kind, and the last: where no token begins, where one touches the one before, and a name
+    that is too long."""
+    if not is_utf8(line):
+        raise Syntax(no_token_in(line))
     tokens, at, apart = [], 0, True
     while at < len(line):
-        found = TOKEN.match(line, at)
-        if not found:
-            raise Syntax
-        kind, text, at = found.lastgroup, found[0], found.end()
+        found = token_at(line, at)
+        kind, text = (found.lastgroup, found[0]) if found else (None, b"")
         if kind == "spaces":
-            apart = True
+            apart, at = True, found.end()
             continue
-        if kind not in SIGNS and not apart:
-            raise Syntax
-        if kind == "name" and len(text) > 32:
-            raise Syntax
+        if kind is None or kind not in SIGNS and not apart or kind == "name" and len(text) > 32:
+            return tokens + [(None, None, text, at)]
         apart = kind in SIGNS
-        tokens.append((kind, value_of(kind, text), text))
+        tokens.append((kind, value_of(kind, text), text, at))
+        at = found.end()
     return tokens
 
 
@@ -109,21 +133,27 @@ def printed(value):
 class Reader:
     """The tokens of a line, from left to right."""
 
-    def __init__(self, tokens):
-        self.tokens, self.at = tokens, 0
+    def __init__(self, line):
+        self.tokens, self.at, self.length = tokens_of(line), 0, len(line)
 
-    def take(self, *kinds):
-        if self.at == len(self.tokens) or self.tokens[self.at][0] not in kinds:
-            raise Syntax
+    def leave(self):
+        """The line leaves the grammar: at the next token, or at its end."""
+        raise Syntax(self.tokens[self.at][3] if self.rest() else self.length)
+
+    def take(self, *kinds, fits=lambda token: True):
+        if not self.rest() or self.tokens[self.at][0] not in kinds or not fits(self.tokens[self.at]):
+            self.leave()
         self.at += 1
         return self.tokens[self.at - 1]
 
     def name(self):
         return self.take("name")[1]
 
+    def word(self, *words):
+        return self.take("name", fits=lambda token: token[1] in words)[1]
+
     def sign(self, sign):
-        if self.take("sign")[1] != sign:
-            raise Syntax
+        self.take("sign", fits=lambda token: token[1] == sign)
 
     def sees(self, sign):
         return self.at < len(self.tokens) and self.tokens[self.at][:2] == ("sign", sign)
@@ -132,12 +162,18 @@ class Reader:
         return self.at < len(self.tokens)
 
     def number(self):
-        """An integer of digits alone, of any size."""
-        text = self.take("integer")[2]
-        if text.startswith(b"-"):
-            raise Syntax
+        """An integer of digits alone, of any size, and its digits."""
+        text = self.take("integer", fits=lambda token: not token[2].startswith(b"-"))[2]
         digits = text.lstrip(b"0")
-        return int(digits or b"0") if len(digits) <= 30 else 1 << 99
+        return int(digits or b"0") if len(digits) <= 30 else 1 << 99, text
+
+    def count(self, most):
+        """A number from 1 to the most."""
+        return self.take("integer", fits=lambda token: not token[2].startswith(b"-") and 1 <= (token[1] or 0) <= most)[1]
+
+    def quiet(self):
+        """Whether the word `quiet` comes last."""
+        return self.rest() and self.word(b"quiet") == b"quiet"
 
     def literals(self):
         values = []
@@ -166,7 +202,7 @@ class Reader:
             self.sign(b",")
             self.item(atoms, comparisons)
         if not atoms:
-            raise Syntax
+            self.leave()
         return name, head, atoms, comparisons
 
     def item(self, atoms, comparisons):
@@ -178,21 +214,28 @@ class Reader:
             atoms.append((name, self.listed(lambda: self.take("name", "hole", "integer", "text")[:2])))
 
 
+# what stands behind a word: a name, nothing, or what a reader takes
+NAMED = (b"drop", b"close", b"unwatch", b"explain", b"shape", b"show")
+ALONE = (b"batch", b"abandon", b"quit", b"stop", b"relations", b"queries", b"status", b"sessions", b"ping", b"why")
+OTHERS = (b"rel", b"add", b"del", b"copies", b"has", b"query", b"union", b"open", b"next", b"watch", b"follow", b"done", b"end")
+
+
 def command_of(line):
     """The command of a line that isn't blank: its word and what stands behind it."""
-    reader = Reader(tokens_of(line))
-    word = reader.name()
-    if word == b"rel":
+    reader = Reader(line)
+    word = reader.word(*NAMED, *ALONE, *OTHERS)
+    said = ()
+    if word in NAMED:
+        said = (reader.name(),)
+    elif word == b"rel":
         name, types = reader.name(), []
         while reader.rest() or not types:
-            types.append(reader.name())
-            if types[-1] not in (b"int", b"text"):
-                raise Syntax
+            types.append(reader.word(b"int", b"text"))
         said = (name, types)
-    elif word in (b"add", b"del", b"has"):
+    elif word in (b"add", b"del", b"copies", b"has"):
         said = (reader.name(), reader.literals())
         if word != b"has" and not said[1]:
-            raise Syntax
+            reader.leave()
     elif word == b"query":
         said = reader.query()
     elif word == b"union":
@@ -203,20 +246,17 @@ def command_of(line):
     elif word == b"open":
         said = (reader.name(), reader.name())
     elif word == b"next":
-        name, (_, count, text) = reader.name(), reader.take("integer")
-        if text.startswith(b"-") or count is None or not 1 <= count <= MOST_ANSWERS:
-            raise Syntax
-        said = (name, count)
-    elif word in (b"drop", b"close", b"watch", b"unwatch", b"explain", b"shape"):
-        said = (reader.name(),)
+        said = (reader.name(), reader.count(MOST_ANSWERS))
+    elif word == b"watch":
+        said = (reader.name(), reader.quiet())
+    elif word == b"follow":
+        said = (reader.name(), reader.count(MOST_FOLLOWED), reader.quiet())
     elif word == b"done":
-        said = (reader.number() if reader.rest() else None,)
-    elif word in (b"batch", b"abandon", b"quit", b"stop"):
-        said = ()
-    else:
-        raise Syntax
+        said = reader.number() if reader.rest() else (None, b"")
+    elif word == b"end":
+        said = reader.number()
     if reader.rest():
-        raise Syntax
+        reader.leave()
     return word, said
 
 
@@ -398,6 +438,10 @@ class Query:
         grow([])
         return answers
 
+    def most(self):
+        """The most steps that one answer may take."""
+        return 2 * len(self.head_names) + 1
+
     def label(self, numbers):
         return b",".join(self.variables[number] for number in sorted(numbers)) or b"-"
 
@@ -485,15 +529,37 @@ class Relation:
         self.put(row, copies)
         return copies
 
-    def refuse(self, values):
-        """The refusal of the values of a row, or None."""
-        if len(values) != len(self.types):
-            return ARITY
-        return TYPE if mistyped(values, self.types) else None
+
+def unsuited(name, values, types):
+    """Why values aren't those of a relation or a query, and what that is about; or None."""
+    if len(values) != len(types):
+        return ARITY, b"6 %s %d %d" % (name, len(types), len(values))
+    for at, (value, kind) in enumerate(zip(values, types), 1):
+        if is_other(value, kind):
+            return TYPE, b"7 %s %d" % (name, at)
+    return None
 
 
-def mistyped(values, types):
-    return any(isinstance(value, int) != (kind == b"int") for value, kind in zip(values, types))
+def is_other(value, kind):
+    return isinstance(value, int) != (kind == b"int")
+
+
+def past_limit(values):
+    """The first literal that is past its limit, or None."""
+    return (TYPE, b"7 range %d" % (values.index(None) + 1)) if None in values else None
+
+
+def passed(what, given, most, behind=b""):
+    """That a limit would be passed."""
+    return LIMIT, b"11 %s %d %d" % (what, given, most) + behind
+
+
+# ---------------------------------------------------------------- classes
+
+# what a reader doesn't say, and what a client doesn't where there is a control address
+CHANGING = (b"rel", b"add", b"del", b"query", b"union", b"drop", b"batch", b"done", b"abandon")
+CONTROL = (b"stop", b"end")
+ASKING = (b"relations", b"queries", b"show", b"copies", b"status", b"sessions", b"ping", b"end", b"why")
 
 
 # ---------------------------------------------------------------- sessions
@@ -513,14 +579,17 @@ class Cursor:
 class Session:
     """One session, and the lines that it was sent as the program wrote them."""
 
-    def __init__(self, number, lines=(), places=()):
+    def __init__(self, number, lines=(), places=(), kind=b""):
         self.number, self.lines, self.places, self.at = number, lines, places, 0
-        self.held, self.cause = b"", None
-        self.cursors, self.watches = {}, set()
+        self.held, self.cause, self.kind = b"", None, kind
+        # what it watches, and whether quietly
+        self.cursors, self.watches = {}, {}
         # the lines that its batch holds, each as a relation, a row and the change of its copies, or None; and their bytes
         self.batch, self.batch_bytes = None, 0
-        self.pending, self.pending_bytes, self.blocked = 0, 0, False
+        self.pending, self.pending_bytes, self.uncounted, self.blocked = 0, 0, 0, False
         self.memory, self.begun, self.may_stop = False, 0, False
+        # why a line of it was refused last, and whether it is closed at the next flush, whatever is pending
+        self.why, self.closing = None, False
 
     def begin(self, word):
         """A command begins. By want of memory an `explain` may stop behind a whole line, and so may deltas."""
@@ -530,6 +599,14 @@ class Session:
         self.at += 1
         self.pending += 1
         self.pending_bytes += len(line) + 1
+
+    def counted(self):
+        """How many of its pending bytes count."""
+        return self.pending_bytes - self.uncounted
+
+    def taken(self):
+        """What was pending is taken, or is dropped."""
+        self.pending = self.pending_bytes = self.uncounted = 0
 
     def seen(self):
         """The next line, or None where the session takes nothing and is never sent it."""
@@ -548,12 +625,25 @@ class Session:
             raise Difference(f"session {self.number}: written {seen[:300]!r}, allowed {line[:300]!r}")
         self.queued(line)
 
+    def refuse(self, refusal):
+        """A command is refused: the line that says so, and what it is about."""
+        self.say(refusal[0])
+        self.why = refusal[1]
+
     def refused(self):
         """Whether the command is answered `err 12`, at a place where it may be."""
         if self.memory and self.seen() == MEMORY:
             self.queued(MEMORY)
+            self.why = b"12"
             return True
         return False
+
+    def say_any(self, form):
+        """Takes the next line, which is of a form."""
+        seen = self.seen()
+        if seen is not None and not re.fullmatch(form, seen):
+            raise Difference(f"session {self.number}: written {seen[:300]!r}, allowed {form!r}")
+        self.queued(seen if seen is not None else b"s texts 0")
 
     def say_one_of(self, lines):
         """Takes one line out of a set."""
@@ -579,16 +669,17 @@ class Session:
         for line in lines:
             self.say(line)
         self.cause = cause
-        self.cursors, self.watches, self.batch = {}, set(), None
+        self.cursors, self.watches, self.batch = {}, {}, None
 
 
 class Machine:
     """All sessions over one database."""
 
-    def __init__(self):
+    def __init__(self, sessions=MOST_SESSIONS, queries=MOST_QUERIES, control=False):
         self.relations, self.queries, self.seq, self.stopped = {}, {}, 0, False
         self.sessions, self.sent = {}, []
-        self.commands = 0
+        self.most_sessions, self.most_queries, self.control = sessions, queries, control
+        self.commands, self.said = 0, b""
 
     # ------------------------------------------------ bytes
 
@@ -623,30 +714,48 @@ class Machine:
     def line(self, session, line):
         if not line.strip(b" "):
             return
-        if session.pending_bytes > PENDING_BYTES:
+        if session.counted() > PENDING_BYTES:
             session.end("slow", b"end slow")
             return
         self.commands += 1
+        # how a change judges who is told of it: by what was pending as the command began
+        self.behind = {other.number for other in self.sessions.values() if other.counted() > PENDING_BYTES}
+        self.uncounting = {other.number for other in self.sessions.values() if other.uncounted <= PENDING_BYTES}
+        self.said = line.strip(b" ")
         try:
             session.begin(b"")
             word, said = command_of(line)
             session.begin(word)
-            if self.misplaced(session, word):
-                session.say(MISPLACED)
+            if not self.allows(session, word):
+                session.refuse((NOT_ALLOWED, b"22"))
+            elif self.misplaced(session, word):
+                session.refuse((MISPLACED, b"18 none" if session.batch is None else b"18 open"))
             elif word in (b"add", b"del") and session.batch is not None:
                 self.hold(session, *said, 1 if word == b"add" else -1, len(line))
             else:
-                getattr(self, word.decode())(session, *said)
-        except Syntax:
-            self.syntax(session)
+                self.run(session, word, said)
+        except Syntax as syntax:
+            self.syntax(session, syntax.place)
         except OutOfMemory:
             session.fall()
 
-    def syntax(self, session):
+    def run(self, session, word, said):
+        # these words are names of parts of the machine
+        word = b"asked_" + word if word in (b"relations", b"queries", b"sessions") else word
+        getattr(self, word.decode())(session, *said)
+
+    @staticmethod
+    def syntax(session, place):
         try:
-            session.say(SYNTAX)
+            session.refuse((SYNTAX, b"1 at %d" % place))
         except OutOfMemory:
             session.fall()
+
+    def allows(self, session, word):
+        """Whether a session may say a command, by the address by which it came."""
+        if session.kind == b"read":
+            return word not in CHANGING + CONTROL
+        return session.kind == b"control" or not self.control or word not in CONTROL
 
     # ------------------------------------------------ commands
 
@@ -654,33 +763,39 @@ class Machine:
         if session.refused():
             return
         if name in self.relations:
-            session.say(TAKEN)
-        elif len(types) > MOST_COLUMNS or len(self.relations) >= MOST_RELATIONS:
-            session.say(LIMIT)
+            session.refuse((TAKEN, b"2 " + name))
+        elif len(types) > MOST_COLUMNS:
+            session.refuse(passed(b"columns", len(types), MOST_COLUMNS))
+        elif len(self.relations) >= MOST_RELATIONS:
+            session.refuse(passed(b"relations", len(self.relations) + 1, MOST_RELATIONS))
         else:
             self.relations[name] = Relation(types)
             session.say(b"ok")
 
     def change(self, session, name, values, comes):
         if None in values:
-            return session.say(TYPE)
+            return session.refuse(past_limit(values))
         if session.refused():
             return self.doubt(name, values, comes)
-        if name not in self.relations:
-            return session.say(NO_RELATION)
-        relation, row = self.relations[name], tuple(values)
-        refusal = relation.refuse(values)
+        refusal = self.unheld(name, values)
         if refusal:
-            return session.say(refusal)
+            return session.refuse(refusal)
+        relation, row = self.relations[name], tuple(values)
         copies = relation.rows.get(row, 0)
         if copies == 0 and not comes:
             return session.say(b"ok absent %d" % self.seq)
         if comes and copies == MOST_COPIES:
-            return session.say(LIMIT)
+            return session.refuse(passed(b"copies", copies + 1, MOST_COPIES))
         self.carry_out([(name, row, 1 if comes else -1)])
         if session.cause is None:
             copies = relation.rows.get(row, 0)
             session.say(b"ok %s %d %d" % (b"added" if comes else b"removed", self.seq, copies))
+
+    def unheld(self, name, values):
+        """Why a row can't be one of a relation, or None."""
+        if name not in self.relations:
+            return NO_RELATION, b"3 " + name
+        return unsuited(name, values, self.relations[name].types)
 
     def carry_out(self, lines):
         """Lines add and delete copies of rows as one change. Answers how many rows came, which had no copy before and
@@ -692,6 +807,9 @@ class Machine:
         moved = [key for key in before if (before[key] == 0) != (after[key] == 0)]
         changed = {name for name, _ in moved}
         watched = [query for query in self.queries.values() if query.reads & changed and self.watchers(query)]
+        for other in self.watching(watched, lambda other, query: not other.watches[query.name]):
+            if other.number in self.behind:
+                other.end("slow", b"end slow")
         answers = [query.answers(self.relations) for query in watched]
         for (name, row), copies in after.items():
             self.relations[name].put(row, copies)
@@ -715,7 +833,7 @@ class Machine:
     def doubt(self, name, values, comes):
         """A row was refused for memory. Where that was behind reading its line, the relation's cursors are stale."""
         relation = self.relations.get(name)
-        if not comes or relation is None or relation.refuse(values) or tuple(values) in relation.rows:
+        if not comes or relation is None or self.unheld(name, values) or tuple(values) in relation.rows:
             return
         doubt = Doubt(b"%s %d" % (name, self.seq))
         for other in self.sessions.values():
@@ -733,7 +851,7 @@ class Machine:
         """Whether a command isn't for a session with a batch open, or only for one."""
         if session.batch is None:
             return word in (b"done", b"abandon")
-        return word not in (b"add", b"del", b"done", b"abandon", b"quit", b"stop")
+        return word not in (b"add", b"del", b"done", b"abandon", b"quit", b"stop") + ASKING
 
     @staticmethod
     def lost(session):
@@ -748,26 +866,29 @@ class Machine:
     def hold(self, session, name, values, change, size):
         """An `add` or a `del` in a batch, on a line of so many bytes."""
         if None in values:
-            return session.say(TYPE)
+            return session.refuse(past_limit(values))
         if session.refused():
             return
-        refusal = self.relations[name].refuse(values) if name in self.relations else NO_RELATION
-        full = len(session.batch) >= MOST_HELD or session.batch_bytes + size > HELD_BYTES
-        if refusal or full:
-            return session.say(refusal or LIMIT)
+        refusal = self.unheld(name, values)
+        if refusal is None and len(session.batch) >= MOST_HELD:
+            refusal = passed(b"held", len(session.batch) + 1, MOST_HELD)
+        if refusal is None and session.batch_bytes + size > HELD_BYTES:
+            refusal = passed(b"bytes", session.batch_bytes + size, HELD_BYTES)
+        if refusal:
+            return session.refuse(refusal)
         session.batch.append((name, tuple(values), change))
         session.batch_bytes += size
         session.say(b"ok held %d" % len(session.batch))
 
-    def done(self, session, count):
+    def done(self, session, count, digits):
         held, session.batch = session.batch, None
         if count not in (None, len(held)):
-            return session.say(OTHER_COUNT)
+            return session.refuse((OTHER_COUNT, b"20 %d %s" % (len(held), digits)))
         if held and session.refused():
             return self.outdate([name for name, _, _ in held])
         refusal = self.refuse_lines(held)
         if refusal:
-            return session.say(refusal)
+            return session.refuse(refusal)
         rows = self.carry_out(held)
         if session.cause is None:
             session.say(b"ok done %d %d" % (self.seq, rows))
@@ -775,12 +896,12 @@ class Machine:
     def refuse_lines(self, lines):
         """The refusal of the first line that has one, over the copies that the lines before it leave, or None."""
         copies = {}
-        for name, row, change in lines:
+        for at, (name, row, change) in enumerate(lines, 1):
             there = copies.get((name, row), self.relations[name].rows.get(row, 0))
             if change < 0 and there == 0:
-                return NO_COPY
+                return NO_COPY, b"19 %d" % at
             if change > 0 and there == MOST_COPIES:
-                return LIMIT
+                return passed(b"copies", there + 1, MOST_COPIES, b" held %d" % at)
             copies[name, row] = there + change
         return None
 
@@ -793,11 +914,18 @@ class Machine:
     def watchers(self, query):
         return [other for _, other in sorted(self.sessions.items()) if query.name in other.watches]
 
+    def watching(self, queries, holds):
+        """The sessions that watch one of these for which this holds, in rising number."""
+        return [other for _, other in sorted(self.sessions.items())
+                if any(query.name in other.watches and holds(other, query) for query in queries)]
+
     def tell(self, query, before, after):
         lines = {answered(b"+ " + query.name, answer) for answer in after - before}
         lines |= {answered(b"- " + query.name, answer) for answer in before - after}
         for other in self.watchers(query):
-            if other.pending_bytes > PENDING_BYTES:
+            if other.watches[query.name] and not lines:
+                continue
+            if other.number in self.behind:
                 other.end("slow", b"end slow")
                 continue
             try:
@@ -810,72 +938,94 @@ class Machine:
         while left:
             other.say_one_of(left)
         other.say(b"at %s %d" % (name, self.seq))
+        if other.number in self.uncounting:
+            other.uncounted = other.pending_bytes
 
     def query(self, session, name, head, atoms, comparisons):
-        literals = [value for _, terms in atoms for kind, value in terms if kind in ("integer", "text")]
-        if None in literals or any(constant is None for _, _, constant in comparisons):
-            return session.say(TYPE)
+        literals = [token[1] for token in tokens_of(self.said) if token[0] in ("integer", "text")]
+        if None in literals:
+            return session.refuse(past_limit(literals))
         if session.refused():
             return
         if name in self.queries:
-            return session.say(TAKEN)
+            return session.refuse((TAKEN, b"2 " + name))
         query = Query(name, head, atoms, comparisons)
         refusal = self.refuse(query)
-        if refusal is None:
+        if refusal:
+            return session.refuse(refusal)
+        rest = self.not_admitted(query)
+        if rest is None:
             query.settle(self.relations)
+            query.line = self.said
             self.queries[name] = query
-        session.say(refusal or b"ok query %d" % (2 * len(head) + 1))
+        session.say(rest or b"ok query %d" % (2 * len(head) + 1))
 
     def refuse(self, query):
         """The refusal of a query whose name is free, or None."""
-        if any(relation not in self.relations for relation, _ in query.atoms):
-            return NO_RELATION
-        typed = [list(zip(places, self.relations[relation].types)) for relation, places in query.atoms]
-        if any(len(places) != len(self.relations[relation].types) for relation, places in query.atoms):
-            return ARITY
-        if any(place is None and isinstance(value, int) != (kind == b"int")
-               for terms in typed for (place, value), kind in terms):
-            return TYPE
-        types = {(place, kind) for terms in typed for (place, _), kind in terms if place is not None}
-        if len(types) > len({place for place, _ in types}):
-            return VARIABLE_TYPE
-        if any(name not in query.numbers for name, _, _ in query.comparisons):
-            return COMPARES_UNBOUND
-        if any(self.miscompared(dict(types)[query.numbers[name]], sign, constant)
-               for name, sign, constant in query.comparisons):
-            return TYPE
-        if len(set(query.head_names)) < len(query.head_names):
-            return REPEATED
-        if any(name not in query.numbers for name in query.head_names):
-            return UNBOUND
-        sizes = (len(query.atoms), len(query.variables), len(query.head_names), len(query.comparisons))
-        if any(size > most for size, most in zip(sizes, (MOST_ATOMS, MOST_VARIABLES, MOST_HEAD, MOST_COMPARISONS))):
-            return LIMIT
-        if len(self.queries) >= MOST_QUERIES:
-            return LIMIT
-        return self.not_admitted(query)
+        for relation, places in query.atoms:
+            if relation not in self.relations:
+                return NO_RELATION, b"3 " + relation
+        for relation, places in query.atoms:
+            wanted = len(self.relations[relation].types)
+            if len(places) != wanted:
+                return ARITY, b"6 %s %d %d" % (relation, wanted, len(places))
+        stands = [(place, value, kind, b"%s %d" % (relation, column)) for relation, places in query.atoms
+                  for column, ((place, value), kind) in enumerate(zip(places, self.relations[relation].types), 1)]
+        for place, value, kind, column in stands:
+            if place is None and is_other(value, kind):
+                return TYPE, b"7 " + column
+        first = {}
+        for place, _, kind, column in stands:
+            if place is not None and first.setdefault(place, (kind, column))[0] != kind:
+                return VARIABLE_TYPE, b"10 %s %s %s" % (query.variables[place], first[place][1], column)
+        for name, _, _ in query.comparisons:
+            if name not in query.numbers:
+                return COMPARES_UNBOUND, b"16 " + name
+        for name, sign, constant in query.comparisons:
+            if self.miscompared(first[query.numbers[name]][0], sign, constant):
+                return TYPE, b"7 " + name
+        for at, name in enumerate(query.head_names):
+            if name in query.head_names[:at]:
+                return REPEATED, b"9 " + name
+        for name in query.head_names:
+            if name not in query.numbers:
+                return UNBOUND, b"8 " + name
+        sizes = ((b"atoms", len(query.atoms), MOST_ATOMS), (b"variables", len(query.variables), MOST_VARIABLES),
+                 (b"head", len(query.head_names), MOST_HEAD), (b"comparisons", len(query.comparisons), MOST_COMPARISONS),
+                 (b"queries", len(self.queries) + 1, self.most_queries))
+        return next((passed(*size) for size in sizes if size[1] > size[2]), None)
 
     def union(self, session, name, members):
         if session.refused():
             return
         refusal = self.refuse_union(name, members)
         if refusal:
-            return session.say(refusal)
+            return session.refuse(refusal)
         self.queries[name] = Union(name, [self.queries[member] for member in members])
+        self.queries[name].line = self.said
         session.say(b"ok union %d" % self.queries[name].most())
 
     def refuse_union(self, name, members):
         """The refusal of a union, or None."""
         if name in self.queries:
-            return TAKEN
-        if any(member not in self.queries for member in members):
-            return NO_QUERY
-        found = [self.queries[member] for member in members]
-        if len(set(members)) < len(members) or any(query.members for query in found):
-            return MEMBER
-        if any(query.head_types != found[0].head_types for query in found):
-            return MEMBER
-        return LIMIT if len(members) > MOST_MEMBERS or len(self.queries) >= MOST_QUERIES else None
+            return TAKEN, b"2 " + name
+        for member in members:
+            if member not in self.queries:
+                return NO_QUERY, b"4 " + member
+        for at, member in enumerate(members):
+            if member in members[:at]:
+                return MEMBER, b"17 twice " + member
+        for member in members:
+            if self.queries[member].members:
+                return MEMBER, b"17 union " + member
+        for member in members:
+            if self.queries[member].head_types != self.queries[members[0]].head_types:
+                return MEMBER, b"17 heads %s %s" % (members[0], member)
+        if len(members) > MOST_MEMBERS:
+            return passed(b"members", len(members), MOST_MEMBERS)
+        if len(self.queries) >= self.most_queries:
+            return passed(b"queries", len(self.queries) + 1, self.most_queries)
+        return None
 
     @staticmethod
     def miscompared(kind, sign, constant):
@@ -891,30 +1041,40 @@ class Machine:
             return b"no cyclic " + query.rest(cyclic)
         return b"no connex " + query.rest(not_connex) if not_connex else None
 
-    def drop(self, session, name):
+    def cursors_over(self, query):
+        return [cursor for other in self.sessions.values() for cursor in other.cursors.values() if cursor.query is query]
+
+    def unknown(self, session, name):
+        """Whether nothing is registered under a name, as is said then."""
         if name not in self.queries:
-            return session.say(NO_QUERY)
+            session.refuse((NO_QUERY, b"4 " + name))
+        return name not in self.queries
+
+    def drop(self, session, name):
+        if self.unknown(session, name):
+            return
         query = self.queries[name]
-        held = any(cursor.query is query for other in self.sessions.values() for cursor in other.cursors.values())
-        if held or self.watchers(query) or any(query in other.members for other in self.queries.values()):
-            return session.say(IN_USE)
+        held = len(self.cursors_over(query)), len(self.watchers(query)), \
+            sum(query in other.members for other in self.queries.values())
+        if any(held):
+            return session.refuse((IN_USE, b"14 cursors %d watches %d members %d" % held))
         del self.queries[name]
         session.say(b"ok")
 
     def open(self, session, name, query):
         if name in session.cursors:
-            session.say(TAKEN)
-        elif query not in self.queries:
-            session.say(NO_QUERY)
+            session.refuse((TAKEN, b"2 " + name))
+        elif self.unknown(session, query):
+            pass
         elif len(session.cursors) >= MOST_CURSORS:
-            session.say(LIMIT)
+            session.refuse(passed(b"cursors", len(session.cursors) + 1, MOST_CURSORS))
         elif not session.refused():
             session.cursors[name] = Cursor(self.queries[query])
             session.say(b"ok open")
 
     def next(self, session, name, count):
         if name not in session.cursors:
-            return session.say(NO_CURSOR)
+            return session.refuse((NO_CURSOR, b"5 " + name))
         cursor = session.cursors[name]
         stale = self.staleness(session, name, cursor)
         if stale:
@@ -938,47 +1098,126 @@ class Machine:
         return cursor.stale
 
     def close(self, session, name):
-        session.say(b"ok" if session.cursors.pop(name, None) else NO_CURSOR)
+        if session.cursors.pop(name, None):
+            session.say(b"ok")
+        else:
+            session.refuse((NO_CURSOR, b"5 " + name))
 
     def has(self, session, name, values):
         if None in values:
-            return session.say(TYPE)
-        if session.refused():
+            return session.refuse(past_limit(values))
+        if session.refused() or self.unknown(session, name):
             return
-        if name not in self.queries:
-            return session.say(NO_QUERY)
         query = self.queries[name]
-        if len(values) != len(query.head_types):
-            return session.say(ARITY)
-        if mistyped(values, query.head_types):
-            return session.say(TYPE)
+        refusal = unsuited(name, values, query.head_types)
+        if refusal:
+            return session.refuse(refusal)
         session.say(b"yes" if tuple(values) in query.answers(self.relations) else b"no")
 
-    def watch(self, session, name):
-        if name not in self.queries:
-            return session.say(NO_QUERY)
-        if session.refused():
+    def watch(self, session, name, quiet):
+        if self.unknown(session, name) or session.refused():
             return
-        session.watches.add(name)
+        session.watches[name] = quiet
         session.say(b"ok watch %d" % self.seq)
 
     def unwatch(self, session, name):
-        if name not in self.queries:
-            return session.say(NO_QUERY)
-        session.watches.discard(name)
+        if self.unknown(session, name):
+            return
+        session.watches.pop(name, None)
         session.say(b"ok")
 
+    def follow(self, session, name, most, quiet):
+        """All answers as a delta from nothing, where there are few enough; then the query is watched."""
+        if self.unknown(session, name):
+            return
+        if session.uncounted > PENDING_BYTES:
+            return session.refuse(passed(b"pending", session.uncounted, PENDING_BYTES))
+        if session.refused():
+            return
+        left = {answered(b"+ " + name, answer) for answer in self.queries[name].answers(self.relations)}
+        if len(left) > most:
+            return session.refuse(passed(b"answers", most + 1, most))
+        session.say(b"ok follow " + name)
+        while left:
+            session.say_one_of(left)
+        session.say(b"at %s %d" % (name, self.seq))
+        session.uncounted = session.pending_bytes
+        session.watches[name] = quiet
+
     def explain(self, session, name):
-        if name not in self.queries:
-            return session.say(NO_QUERY)
+        if self.unknown(session, name):
+            return
         for line in self.queries[name].explained():
             session.say(line)
         session.say(b"end")
 
     def shape(self, session, name):
-        if name not in self.queries:
-            return session.say(NO_QUERY)
-        session.say(self.queries[name].shape())
+        if not self.unknown(session, name):
+            session.say(self.queries[name].shape())
+
+    # ------------------------------------------------ questions
+
+    @staticmethod
+    def counted(session, word, lines):
+        """Lines behind a head that says how many they are."""
+        session.say(b"ok %s %d" % (word, len(lines)))
+        for line in lines:
+            session.say(line)
+
+    def asked_relations(self, session):
+        self.counted(session, b"relations", [b"r %s %d %s" % (name, len(relation.rows), b" ".join(relation.types))
+                                             for name, relation in self.relations.items()])
+
+    def asked_queries(self, session):
+        self.counted(session, b"queries", [
+            b"q %s %d %d %d" % (name, query.most(), len(self.watchers(query)), len(self.cursors_over(query)))
+            for name, query in self.queries.items()])
+
+    def show(self, session, name):
+        if not self.unknown(session, name):
+            session.say(b"ok show " + self.queries[name].line)
+
+    def copies(self, session, name, values):
+        if None in values:
+            return session.refuse(past_limit(values))
+        if session.refused():
+            return
+        refusal = self.unheld(name, values)
+        if refusal:
+            return session.refuse(refusal)
+        session.say(b"ok copies %d" % self.relations[name].rows.get(tuple(values), 0))
+
+    def status(self, session):
+        placed = sum(other.kind != b"control" for other in self.sessions.values())
+        session.say(b"ok status 6")
+        session.say(b"s seq %d" % self.seq)
+        session.say(b"s relations %d %d" % (len(self.relations), MOST_RELATIONS))
+        session.say(b"s queries %d %d" % (len(self.queries), self.most_queries))
+        session.say(b"s sessions %d %d" % (placed, self.most_sessions))
+        session.say_any(b"s texts [0-9]+")
+        session.say(b"s rows %d" % sum(len(relation.rows) for relation in self.relations.values()))
+
+    def asked_sessions(self, session):
+        self.counted(session, b"sessions", [
+            b"c %d %d %d %d %d" % (number, other.pending_bytes, len(other.cursors), len(other.watches), len(other.batch or ()))
+            + (b" " + other.kind if other.kind else b"") + (b" *" if other is session else b"")
+            for number, other in sorted(self.sessions.items())])
+
+    def ping(self, session):
+        session.say(b"pong %d" % self.seq)
+
+    def end(self, session, number, digits):
+        other = self.sessions.get(number)
+        if other is None or other is session:
+            return session.refuse((NO_SESSION, b"21 " + digits))
+        if other.cause is None:
+            other.end("told", b"end told")
+        other.closing = True
+        session.say(b"ok")
+
+    @staticmethod
+    def why(session):
+        session.say(b"ok why" if session.why is None else b"ok why " + session.why)
 
     def quit(self, session):
         session.end("quit", *self.lost(session), b"bye")
@@ -993,11 +1232,20 @@ class Machine:
         """What a flush sends: sessions in rising number, each all that is pending unless it takes nothing."""
         for number, session in sorted(self.sessions.items()):
             if session.blocked and session.pending:
+                if session.closing:
+                    del self.sessions[number]
                 continue
             self.sent.extend([number] * session.pending)
-            session.pending = session.pending_bytes = 0
+            session.taken()
             if session.cause is not None:
                 del self.sessions[number]
+
+    def has_place(self, kind):
+        """Whether a session of a kind has a place: controllers have some beside those of the others."""
+        controllers = sum(other.kind == b"control" for other in self.sessions.values())
+        if kind == b"control":
+            return controllers < MOST_CONTROLLERS
+        return len(self.sessions) - controllers < self.most_sessions
 
 
 setattr(Machine, "del", lambda self, session, name, values: self.change(session, name, values, False))
@@ -1025,7 +1273,7 @@ def follow_run(text, output, status, memory=False):
     session.memory = memory
     machine.sessions[1] = session
     for _ in machine.feed(session, text):
-        session.pending = session.pending_bytes = 0
+        session.taken()
     # where memory ends as bytes come, no line is there to be answered
     if memory and session.cause is None and lines[session.at:] == [END_MEMORY]:
         session.fall()
@@ -1041,6 +1289,7 @@ def follow_run(text, output, status, memory=False):
 # ---------------------------------------------------------------- schedules
 
 SCHEDULED = re.compile(rb"(open|again|free|end|say|part) ([1-9][0-9]{0,6})(?: (.*))?", re.DOTALL)
+KINDS = (b"read", b"control")
 
 
 def turns_of(schedule):
@@ -1054,7 +1303,7 @@ def turns_of(schedule):
         if not found or len(line) > SCHEDULE_LINE_BYTES or int(found[2]) > 1000000:
             return at
         word, number, text = found[1], int(found[2]), found[3]
-        if word in (b"open", b"again", b"free", b"end") and text is not None:
+        if word in (b"again", b"free", b"end") and text is not None or word == b"open" and text not in (None, *KINDS):
             return at
         if word == b"open":
             fits, last = number > last, max(number, last)
@@ -1071,7 +1320,7 @@ def turns_of(schedule):
     return turns
 
 
-def follow_replay(schedule, output, status, memory=False):
+def follow_replay(schedule, output, status, memory=False, sessions=MOST_SESSIONS, queries=MOST_QUERIES):
     """Checks what `replay` wrote for a schedule, and answers how many commands were run.
 
     With `memory` want of memory is allowed at each of its places. Then no session may be blocked or watch what it
@@ -1090,10 +1339,10 @@ def follow_replay(schedule, output, status, memory=False):
             raise Difference(f"a line of no session: {number[:300]!r}")
         written.append(int(number))
         told.setdefault(int(number), []).append((line, len(written) - 1))
-    machine, served = Machine(), {}
+    machine, served = Machine(sessions, queries, any(turn[::2] == (b"open", b"control") for turn in turns)), {}
     for word, number, text in turns:
         if word == b"open":
-            served[number] = Session(number, *zip(*told.get(number, [])))
+            served[number] = Session(number, *(zip(*told[number]) if number in told else ((), ())), kind=text)
             served[number].memory = memory
         turn(machine, served[number], word, text)
         machine.flush()
@@ -1112,7 +1361,7 @@ def turn(machine, session, word, text):
     """One turn of a schedule, without the flush at its end."""
     sent = len(machine.sent)
     if word == b"open":
-        if len(machine.sessions) >= MOST_SESSIONS:
+        if not machine.has_place(session.kind):
             session.say(b"end full")
             machine.sent.append(session.number)
         elif session.falls(sent):

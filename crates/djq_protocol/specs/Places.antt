@@ -1,5 +1,5 @@
 -- At which column of which relation each term of a body stands, and what may be wrong there.
-use Rattle.std.specs.Prelude.{ℕ, suc, List, [], ◌∷◌, ◌&&◌, Bool, true, false, not, Option, None, Some, find}
+use Rattle.std.specs.Prelude.{ℕ, suc, List, [], ◌∷◌, ◌&&◌, Bool, true, false, not}
 use Rattle.std.specs.List.{flat_map}
 use Rattle.djq_model.specs.declared.relation.ColumnType.{ColumnType}
 use Rattle.djq_model.specs.declared.relation.ColumnType.TheVariants.{Int as IntColumn, Text as TextColumn}

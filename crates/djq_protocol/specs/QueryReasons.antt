@@ -1,5 +1,5 @@
 -- What is wrong with a query: of each fault, what it is about.
-use Rattle.std.specs.Prelude.{ℕ, List, [], ◌∷◌, ◌==◌, ◌+◌, Bool, true, false, not, nat_lt, is_none, length}
+use Rattle.std.specs.Prelude.{List, [], ◌∷◌, ◌==◌, ◌+◌, Bool, false, not, nat_lt, is_none, length}
 use Rattle.std.specs.Prelude.{Option, None, Some, find, if◌then◌else◌}
 use Rattle.std.specs.List.{list_any, position_or_len}
 use Rattle.djq_model.specs.declared.relation.Relation.{Relation}

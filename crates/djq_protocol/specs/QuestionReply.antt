@@ -8,7 +8,7 @@
 --     sessions    ok sessions 2 / c 1 0 0 1 0 * / c 2 13 0 0 0 read
 --     ping        pong 7
 --     follow q 9  ok follow q / + q 1 / at q 7
-use Rattle.std.specs.Prelude.{ℕ, List, [], ◌∷◌, ◌++◌, Bool, true, false, Result, Ok, Err, if◌then◌else◌, length, map, codes}
+use Rattle.std.specs.Prelude.{ℕ, List, [], ◌∷◌, ◌++◌, Bool, Result, Ok, Err, if◌then◌else◌, length, map, codes}
 use Rattle.std.specs.List.{flat_map}
 use Rattle.std.specs.Fmt.{decimal}
 use Rattle.djq_model.specs.declared.relation.ColumnType.{ColumnType}

@@ -1,6 +1,5 @@
 -- What a refusal is about, and what `why` answers: a table with a row for each case.
-use Rattle.std.specs.Prelude.{ℕ, List, [], ◌∷◌, ◌++◌, Option, None, Some, Result, Ok, Err, codes}
-use Rattle.std.specs.Fmt.{decimal}
+use Rattle.std.specs.Prelude.{ℕ, ◌++◌, Option, None, Some, Result, Ok, Err, codes}
 use Rattle.djq_model.specs.Data.{Bytes}
 use Rattle.djq_protocol.specs.declared.limits.TheConstants.{LAST_SEQ}
 use Rattle.djq_protocol.specs.declared.answer.Refusal.{Refusal}
