@@ -80,6 +80,7 @@ class Author:
         self.kinds += [self.batch] * (2 + self.world.changes // 20) + [self.query] * 14 + [self.open] * 6
         self.kinds += [self.listing] * 8 + [self.next] * 12 + [self.close] * 6 + [self.has] * 7 + [self.watch] * 6
         self.kinds += [self.explain] * 2 + [self.shape] * 4 + [self.drop] * 8 + [self.union] * 12
+        self.kinds += [self.follow] * 8 + [self.question] * 12
 
     def one(self, known, names):
         """Mostly a name that was given, at times any name."""
@@ -161,8 +162,8 @@ class Author:
 
     def misplaced(self):
         """A line that isn't for a session with a batch open."""
-        asked = self.chance.choice([self.next, self.has, self.watch, self.explain, self.shape, self.rel])()
-        return self.chance.choice([asked, asked, b"batch"])
+        asked = self.chance.choice([self.next, self.has, self.watch, self.follow, self.explain, self.shape, self.rel])()
+        return self.chance.choice([asked, asked, b"batch", self.question()])
 
     def query(self):
         if self.chance.random() < 0.02:
@@ -318,7 +319,21 @@ class Author:
         return b"has " + name + self.values_for(self.heads.get(name, [b"int"]))
 
     def watch(self):
-        return self.chance.choice([b"watch ", b"watch ", b"unwatch "]) + self.one(self.heads, QUERIES)
+        quiet = b" quiet" * (self.chance.random() < 0.3)
+        return self.chance.choice([b"watch %s" + quiet, b"watch %s" + quiet, b"unwatch %s"]) % self.one(self.heads, QUERIES)
+
+    def follow(self):
+        """A query is followed, with room for all of its answers mostly."""
+        most = self.chance.choice([b"1", b"2", b"5", b"1000", b"1000", b"1000000", b"0100", b"0", b"1000001"])
+        quiet = self.chance.choice([b"", b"", b" quiet"])
+        return b"follow %s %s" % (self.one(self.heads, QUERIES), most) + quiet
+
+    def question(self):
+        """What there is, what was refused last, and what another session is told to do."""
+        return self.chance.choice([
+            b"relations", b"queries", b"queries", b"status", b"sessions", b"ping", b"why", b"why", b"why",
+            b"show " + self.one(self.heads, QUERIES), b"copies " + self.some_row(), b"copies " + self.some_row(),
+            b"end %d" % self.chance.choice([0, 1, 1, 1, 9, 1 << 64, 1 << 70])])
 
     def explain(self):
         return b"explain " + self.one(self.heads, QUERIES)
@@ -350,6 +365,9 @@ class Author:
             return random_bytes(self.chance)
         line = self.planned.pop() if self.planned else self.chance.choice(self.kinds)()
         if odd < self.world.near:
+            # where it leaves the grammar, if it does
+            if self.chance.random() < 0.5:
+                self.planned.append(b"why")
             return mutated(self.chance, line)
         if odd > 98:
             return spaced(self.chance, line)
@@ -423,13 +441,15 @@ def replay_stream(chance, count):
     world = World(chance)
     authors, held, schedule = {}, {}, []
     ended, last, most = [], 0, chance.choice([1, 2, 3, 3, 5, 8, 70])
+    # whether there is an address for readers, and one to control the server by
+    kinds = chance.choice([[b""], [b""], [b" read"], [b" read", b" control"]])
     while len(schedule) < count:
         odd, alive = chance.random(), list(authors)
         if not alive or len(alive) < most and odd < 0.2:
             last += chance.choice([1, 1, 1, 5])
             authors[last], held[last] = Author(chance, world), []
             held[last] = [authors[last].rel() for _ in range(chance.randrange(4))]
-            schedule.append(b"open %d" % last)
+            schedule.append(b"open %d" % last + (chance.choice(kinds) if chance.random() < 0.2 else b""))
         elif odd < 0.02:
             schedule.append(b"%s %d" % (chance.choice([b"again", b"free"]), chance.choice(alive)))
         elif odd < 0.03 and len(alive) + len(ended) > 1:
@@ -467,6 +487,7 @@ def flood_stream(chance):
         said = [chance.choice([b"add r %d", b"add r %d", b"add r %d", b"del r %d", b"has p %d"]) % chance.randrange(10)]
         if chance.random() < 0.3:
             words = [b"watch f", b"watch g", b"watch p", b"unwatch f", b"open c f", b"open c g", b"close c"]
+            words += [b"follow f 1000", b"follow g 1000", b"follow p 9 quiet", b"watch f quiet", b"sessions", b"why"]
             said = [chance.choice(words + [b"next c 1000"] * 2)]
         elif chance.random() < 0.1:
             held = [b"add r %d" % chance.randrange(10) for _ in range(chance.randrange(6))]
@@ -496,7 +517,7 @@ def spoilt(chance, schedule):
     at = chance.randrange(len(schedule))
     schedule[at] = chance.choice([
         b"", b"open 0", b"open 01", b"open 1000001", b"open 1 ", b"say 999999 x", b"end", b"say", b"Say 1 x",
-        b" say 1 x", b"again 1 x", b"open  1", b"part 1 " + b"x" * 8200, b"say 1" + b" " * 8188,
+        b" say 1 x", b"again 1 x", b"open  1", b"open 1 reader", b"open 999999 read x", b"part 1 " + b"x" * 8200, b"say 1" + b" " * 8188,
         schedule[at] + b" ", b"open 1",
     ])
 

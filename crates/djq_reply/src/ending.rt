@@ -44,5 +44,6 @@ pub fn end_bytes(end: EndLine) -> &'static [u8]
         EndLine::Large => b"end large\n",
         EndLine::Memory => b"end memory\n",
         EndLine::Full => b"end full\n",
+        EndLine::Told => b"end told\n",
     }
 }

@@ -17,6 +17,9 @@
 //! put_change     Came, q, the same            + q 1 "a"
 //! put_at         q, 7                         at q 7
 //! put_member     q                            m q
+//! put_query      q, 3, 1, 0                   q q 3 1 0
+//! put_session    OpenSession { id: 7, .. }    c 7 0 1 1 0 *
+//! put_reason     NoRelation(z)                ok why 3 z
 //! say_end        EndLine::Slow                end slow
 //! ```
 //!
@@ -28,20 +31,28 @@
 //! `say_lost` has room after `say_cut`. A `put_` call allocates if its room is too small.
 //!
 //! Inside, `short` and `refusal` are the replies of fixed room, `registered` that of `query`,
-//! `growing` those of any length, and `ending` the last lines. Values are printed by djq_value, and
+//! `growing` those of any length, `question` those that tell what there is, `why` what a refusal
+//! is about, and `ending` the last lines. Values are printed by djq_value, and
 //! an answer is read in place, by the trait [`Answered`](djq_model::Answered), without being built.
 #![tactic(auto)]
 
 pub use ending::{end_bytes, say_cut, say_end, say_lost};
 pub use growing::{put_answer, put_at, put_change, put_explained, put_last, put_member};
+pub use question::{
+    OpenSession, put_columns, put_followed, put_head, put_query, put_session, put_shown, put_status,
+    put_status_limit, say_copies, say_pong,
+};
 pub use registered::put_registered;
 pub use short::{
     say_added, say_batch, say_batch_done, say_bye, say_deleted, say_done, say_has, say_held,
     say_opened, say_refused, say_shape, say_stale, say_union, say_watched,
 };
+pub use why::{put_no_reason, put_reason};
 
 mod ending;
 mod growing;
+mod question;
 mod refusal;
 mod registered;
 mod short;
+mod why;

@@ -27,6 +27,8 @@ pub(crate) fn refusal_words(refusal: Refusal) -> &'static [u8]
         Refusal::Misplaced => b"err 18 batch",
         Refusal::NoCopy => b"err 19 absent",
         Refusal::OtherCount => b"err 20 held",
+        Refusal::NoSession => b"err 21 no session",
+        Refusal::NotAllowed => b"err 22 not allowed",
     }
 }
 
