@@ -1,2 +1,4 @@
 pub mod Relations
 pub mod Explanations
+pub mod Readers
+pub mod Settings

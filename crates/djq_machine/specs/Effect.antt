@@ -1,5 +1,5 @@
 -- What an event brings about beside the state: bytes queued, what it may cost, and what is kept.
-use Rattle.std.specs.Prelude.{ℕ, Bool, List, [], ◌∷◌, ◌≡◌, ◌<◌, ◌⊎◌, ◌++◌, Option, None, Some, length}
+use Rattle.std.specs.Prelude.{ℕ, Bool, true, false, List, [], ◌∷◌, ◌≡◌, ◌<◌, ◌⊎◌, ◌++◌, Option, None, Some, length}
 use Rattle.djq_model.specs.Data.{Bytes}
 use Rattle.djq_protocol.specs.declared.answer.EndCause.{EndCause}
 use Rattle.djq_protocol.specs.declared.answer.EndCause.TheVariants.{Memory}
@@ -10,6 +10,11 @@ use Rattle.djq_protocol.specs.Why.{refused_as}
 pub use Rattle.djq_store_spec.specs.Held.{lost_line}
 use Rattle.djq_machine.specs.State.{State, with_session, ended_by}
 use Rattle.djq_machine.specs.Keeping.{Keeping, no_line, kept_where}
+
+-- The one holds where a test does, and else the other.
+abbrev pub WhereElse : Bool → Type 0 → Type 0 → Type 0
+WhereElse true P Q = P
+WhereElse false P Q = Q
 
 -- What an event brings about beside the state.
 pub record Effect : Type 0 where

@@ -14,3 +14,5 @@ pub mod Loading
 pub mod Run
 pub mod Gives
 pub mod Call
+pub mod Readers
+pub mod Settings

@@ -1,5 +1,5 @@
 -- What becomes of the line in front of a session's bytes.
-use Rattle.std.specs.Prelude.{ℕ, ◌≡◌, ◌<◌, ◌≤◌, ◌⊎◌, Bool, true, false, Option, None, Some, if◌then◌else◌, length}
+use Rattle.std.specs.Prelude.{ℕ, ◌≡◌, ◌<◌, ◌≤◌, ◌⊎◌, Bool, true, false, Option, None, Some, length}
 use Rattle.djq_model.specs.Data.{Bytes}
 use Rattle.djq_protocol.specs.declared.limits.TheConstants.{PENDING_BYTES, REPLY_BYTES}
 use Rattle.djq_protocol.specs.declared.answer.EndCause.TheVariants.{Long, Slow, Memory}
@@ -14,7 +14,7 @@ use Rattle.djq_protocol.specs.Grammar.{Reading, outside, past_limit, says_comman
 use Rattle.djq_protocol.specs.Grammar.{takes_memory_to_read}
 use Rattle.djq_protocol.specs.Reply.{end_long, end_slow, end_memory}
 use Rattle.djq_machine.specs.State.{Session, State, with_session, counted_pending}
-use Rattle.djq_machine.specs.Effect.{Effect, nothing, EndsWith, RefusedStep, keeping_reason}
+use Rattle.djq_machine.specs.Effect.{Effect, nothing, EndsWith, RefusedStep, WhereElse, keeping_reason}
 use Rattle.djq_machine.specs.Allowed.{class_allows}
 use Rattle.djq_machine.specs.Command.{CommandStep, is_misplaced}
 
@@ -35,7 +35,11 @@ misplaced_reason (Some held) = BatchOpen
 
 -- why a command of which a literal is past its limit is refused: it may be misplaced besides
 abbrev pub past_limit_reason : Session → Command → Reason
-past_limit_reason x c = if is_misplaced x.batch c then misplaced_reason x.batch else range_reason c
+past_limit_reason x c = by_place (is_misplaced x.batch c)
+  where
+    by_place : Bool → Reason
+    by_place true = misplaced_reason x.batch
+    by_place false = range_reason c
 
 -- A line is run as what it is read as. It is refused where it is outside the grammar; then where the
 -- session's class doesn't allow its command; then where this isn't for a session with a batch open, or
@@ -43,22 +47,15 @@ past_limit_reason x c = if is_misplaced x.batch c then misplaced_reason x.batch 
 -- unless memory is out while it is read.
 abbrev pub ReadStep : State → ℕ → Session → Bytes → Reading → Effect → State → Type 0
 ReadStep old s x l outside e new = (at : ℕ) × LeavesGrammarAt l at × RefusedStep old s (Syntax at) e new
-ReadStep old s x l (past_limit c) e new = if class_allows old.settings x.class c
-    then RefusedStep old s (past_limit_reason x c) e new
-    else RefusedStep old s NotAllowed e new
-ReadStep old s x l (says_command c) e new = Allowed (class_allows old.settings x.class c)
+ReadStep old s x l (past_limit c) e new = WhereElse (class_allows old.settings x.class c)
+    (RefusedStep old s (past_limit_reason x c) e new) (RefusedStep old s NotAllowed e new)
+ReadStep old s x l (says_command c) e new = WhereElse (class_allows old.settings x.class c)
+    (WhereElse (is_misplaced x.batch c) (RefusedStep old s (misplaced_reason x.batch) e new)
+    ((is_read : Bool) × ReadAs is_read)) (RefusedStep old s NotAllowed e new)
   where
     ReadAs : Bool → Type 0
     ReadAs true = CommandStep old s x l c e new
     ReadAs false = (takes_memory_to_read c ≡ true) × RefusedStep old s NoMemory e new
-
-    CarriedOut : Bool → Type 0
-    CarriedOut true = RefusedStep old s (misplaced_reason x.batch) e new
-    CarriedOut false = (is_read : Bool) × ReadAs is_read
-
-    Allowed : Bool → Type 0
-    Allowed true = CarriedOut (is_misplaced x.batch c)
-    Allowed false = RefusedStep old s NotAllowed e new
 
 -- A line is run, and why it is refused, if it is, is kept.
 pub record RunStep (old : State) (s : ℕ) (x : Session) (l : Bytes) (e : Effect) (new : State) : Type 0 where

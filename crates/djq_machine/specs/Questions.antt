@@ -31,7 +31,7 @@ use Rattle.djq_store_spec.specs.Registering.{answer_steps, UseCounts}
 use Rattle.djq_store_spec.specs.Rows.{row_refusals}
 use Rattle.djq_store_spec.specs.Store.{Store}
 use Rattle.djq_machine.specs.State.{Session, State, with_session, session_of, ended_by, places_taken}
-use Rattle.djq_machine.specs.Effect.{Effect, says, replies, refuses_with, RefusedStep, TellsText}
+use Rattle.djq_machine.specs.Effect.{Effect, WhereElse, says, replies, refuses_with, RefusedStep, TellsText}
 use Rattle.djq_machine.specs.Keeping.{no_line}
 use Rattle.djq_machine.specs.Watch.{is_watching}
 use Rattle.djq_machine.specs.Watching.{with_watch}
@@ -119,9 +119,9 @@ pub record EndOtherStep (old : State) (s t : ℕ) (y : Session) (e : Effect) (ne
 
 -- It is refused where no session of the id is open, and to the session itself.
 abbrev pub EndStep : State → ℕ → Bytes → ℕ → Effect → State → Type 0
-EndStep old s l t e new = if t == s then RefusedStep old s (NoSession (digits_in l)) e new
-    else MatchOption (session_of old t) (RefusedStep old s (NoSession (digits_in l)) e new)
-    (λ y. EndOtherStep old s t y e new)
+EndStep old s l t e new = WhereElse (t == s) (RefusedStep old s (NoSession (digits_in l)) e new)
+    (MatchOption (session_of old t) (RefusedStep old s (NoSession (digits_in l)) e new)
+    (λ y. EndOtherStep old s t y e new))
 
 -- Subscribing in one step.
 

@@ -1,6 +1,6 @@
 -- What a change of rows tells the sessions that watch queries.
 use Rattle.std.specs.Prelude.{ℕ, List, [], ◌∷◌, ◌==◌, ◌≡◌, ◌++◌, ◌⊎◌, ◌&&◌, ◌||◌, Bool, true, false, not, nat_le, nat_lt, Option, None}
-use Rattle.std.specs.Prelude.{Some, IsSomeAnd, MatchOption, if◌then◌else◌, is_empty, length, filter, map}
+use Rattle.std.specs.Prelude.{Some, IsSomeAnd, MatchOption, if◌then◌else◌, length, filter, map}
 use Rattle.std.specs.List.{list_any}
 use Rattle.djq_model.specs.Data.{Bytes, bytes_eq}
 use Rattle.djq_model.specs.Listed.{Listed, listed_name}
@@ -11,7 +11,7 @@ use Rattle.djq_protocol.specs.Reply.{text_of, end_slow, end_large, end_memory}
 use Rattle.djq_store_spec.specs.Store.{Store}
 use Rattle.djq_protocol.specs.declared.reason.Reason.{Reason}
 use Rattle.djq_machine.specs.State.{Session, State, session_of, with_session, ended_by, state_ids, counted_pending}
-use Rattle.djq_machine.specs.Effect.{Effect, queue_all}
+use Rattle.djq_machine.specs.Effect.{Effect, WhereElse, queue_all}
 use Rattle.djq_store_spec.specs.Changes.{RowsChange, RowsOutcome, accepted, out_of_memory, unchanged, is_made, tried, is_outdated}
 use Rattle.djq_machine.specs.Outdating.{changed}
 use Rattle.djq_store_spec.specs.Delta.{delta_lines}
@@ -106,11 +106,11 @@ abbrev pub says_delta : State → ℕ → Bytes → Telling → Telling
 says_delta old s text m = if held_of_session old s has_few_uncounted then uncounting s (says_more s text m)
     else says_more s text m
 
--- A session that watches a query is sent its delta, whole. If the delta is large it ends; and it may end for want of
--- memory in place of either.
+-- A session that watches a query is sent its delta, whole, which isn't lost then. If the delta is large it ends; and it
+-- may end for want of memory in place of either.
 abbrev pub TellsWatcher : State → Delta → ℕ → ℕ → Telling → Telling → Type 0
 TellsWatcher old d n s m new =
-    ((is_large d ≡ false) × (new ≡ says_delta old s (text_of (delta_lines (listed_name d.query) d.changes n)) m))
+    ((is_large d ≡ false) × (d.is_lost ≡ false) × (new ≡ says_delta old s (text_of (delta_lines (listed_name d.query) d.changes n)) m))
     ⊎ ((is_large d ≡ true) × (new ≡ ends_more s end_large Large m))
     ⊎ (new ≡ ends_more s end_memory Memory m)
 
@@ -118,13 +118,13 @@ TellsWatcher old d n s m new =
 -- one for which memory was refused, that isn't known.
 abbrev pub is_left_out : Delta → Session → Bool
 is_left_out d x = not (is_watching_fully (listed_name d.query) x)
-    && (is_empty d.changes && not (is_large d || d.is_lost))
+    && ((length d.changes == 0) && not (is_large d || d.is_lost))
 
 -- A session that watches a query is sent its delta, unless it is left out; or it ends, since too much was pending for it
 -- as the command began.
 abbrev pub TellsWatching : State → Delta → ℕ → ℕ → Session → Telling → Telling → Type 0
-TellsWatching old d n s x m new = if is_left_out d x then (new ≡ m)
-    else (if held_of_session old s is_behind then (new ≡ ends_more s end_slow Slow m) else TellsWatcher old d n s m new)
+TellsWatching old d n s x m new = WhereElse (is_left_out d x) (new ≡ m)
+    (WhereElse (held_of_session old s is_behind) (new ≡ ends_more s end_slow Slow m) (TellsWatcher old d n s m new))
 
 -- A session is sent a delta where it watches the query.
 abbrev pub TellsSession : State → Delta → ℕ → Telling → ℕ → Telling → Type 0

@@ -23,6 +23,8 @@
 //! conditions and what it does to relations and queries. The laws of its runs are djq_run_laws'.
 #![tactic(auto)]
 
+pub use laws::{readers_change_nothing, settings_stay};
 pub use machine::{Fed, Loaded, Machine, OpenRefusal};
 
+mod laws;
 mod machine;
