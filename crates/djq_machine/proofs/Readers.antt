@@ -1,6 +1,6 @@
 -- No step of a reader's line changes the store.
 use Rattle.std.specs.Prelude.{ℕ, List, [], ◌∷◌, ◌≡◌, ◌⊎◌, Bool, true, false, Option, None, Some, IsSomeAnd, MatchOption}
-use Rattle.std.specs.Prelude.{Result, Ok, Err, ⊤}
+use Rattle.std.specs.Prelude.{Result, Ok, Err, ⊤, ◌++◌}
 use Rattle.std.proofs.Common.{refl, sym, ap, subst, ◌∙◌, inl, inr}
 use Rattle.djq_model.specs.declared.relation.Relation.{Relation}
 use Rattle.djq_model.specs.Data.{Bytes, Tuple}
@@ -8,6 +8,9 @@ use Rattle.djq_model.specs.Listed.{Listed, a_query, a_union, listed_of}
 use Rattle.djq_protocol.specs.declared.answer.Class.{Class}
 use Rattle.djq_protocol.specs.declared.answer.Class.TheVariants.{Reader}
 use Rattle.djq_protocol.specs.declared.answer.Refusal.{Refusal}
+use Rattle.djq_protocol.specs.declared.answer.EndCause.{EndCause}
+use Rattle.djq_protocol.specs.declared.answer.EndCause.TheVariants.{Memory, Input}
+use Rattle.djq_protocol.specs.Reply.{end_memory}
 use Rattle.djq_protocol.specs.declared.command.Command.{Command}
 use Rattle.djq_protocol.specs.declared.command.Command.TheVariants.{
   Rel,
@@ -45,8 +48,9 @@ use Rattle.djq_protocol.specs.declared.reason.Reason.TheVariants.{NoMemory, NoCu
 use Rattle.djq_protocol.specs.Conditions.{first_reason}
 use Rattle.djq_protocol.specs.Grammar.{Reading, outside, past_limit, says_command, reading_of, takes_memory_to_read}
 use Rattle.djq_store_spec.specs.Store.{Store, Position, open_at, stale}
-use Rattle.djq_machine.specs.State.{State, Session, Settings, session_of, with_session, cursor_of}
-use Rattle.djq_machine.specs.Effect.{Effect, WhereElse, EndsWith, RefusedStep, TellsText, keeping_reason, queue, queue_all}
+use Rattle.djq_machine.specs.State.{State, Session, Settings, session_of, with_session, cursor_of, has_place, fresh, ended_by}
+use Rattle.djq_machine.specs.Effect.{Effect, WhereElse, nothing, says_any, lost_line, EndsWith, RefusedStep, TellsText, keeping_reason}
+use Rattle.djq_machine.specs.Effect.{queue, queue_all}
 use Rattle.djq_machine.specs.Allowed.{class_allows, is_denied_readers}
 use Rattle.djq_machine.specs.Watching.{with_watch, without_watch}
 use Rattle.djq_machine.specs.Questions.{FollowsListed, FollowStep, follow_conditions}
@@ -77,8 +81,9 @@ use Rattle.djq_machine.specs.LineStep.{
   misplaced_reason,
   past_limit_reason,
 }
-use Rattle.djq_machine.specs.Step.{stepped, SameRelations, with_relations, Step}
-use Rattle.djq_machine.specs.Readers.{HasSameStore}
+use Rattle.djq_machine.specs.Step.{Event, opened, fed, stepped, took, ended, closed, FedStep, TookStep, EndedStep, Acts}
+use Rattle.djq_machine.specs.Step.{SameRelations, with_relations, is_dry, cut_line, Step}
+use Rattle.djq_machine.specs.Readers.{HasSameStore, RunsAtMostReaders}
 
 -- the store of a state that is another one, or one with another session
 abbrev Keeps : State → State → Type 0
@@ -110,8 +115,8 @@ lines old new s ls e (inr h) = ap (λ (st : State). st.store) h.1
 
 next_at : (old new : State) (s : ℕ) (c : Bytes) (q : Listed) (count : ℕ) (p : Position) (e : Effect)
     → NextStepAt old s c q count p e new → Keeps old new
-next_at old new s c q count (open_at given ended) e (inl h) = ap (λ (st : State). st.store) h.state
-next_at old new s c q count (open_at given ended) e (inr h) = ap (λ (st : State). st.store) h.state
+next_at old new s c q count (open_at given finished) e (inl h) = ap (λ (st : State). st.store) h.state
+next_at old new s c q count (open_at given finished) e (inr h) = ap (λ (st : State). st.store) h.state
 next_at old new s c q count (stale relation n) e h = as_old old new h.1
 
 explains : (old new : State) (s : ℕ) (l : Listed) (e : Effect) → ExplainStepOf old s l e new → Keeps old new
@@ -264,9 +269,48 @@ class_of : (o : Option Session) (P : Session → Type 0) (Q : Session → Type 0
 class_of None P Q p q = absurd p
 class_of (Some x) P Q p q = (x, p, q)
 
-pub readers_change_nothing : (old new : State) (s : ℕ) (outcome : LineOutcome) (e : Effect)
-    → IsSomeAnd (session_of old s) (λ x. x.class ≡ Reader) → Step old (stepped s outcome) e new
-    → HasSameStore old.store new.store
-readers_change_nothing old new s outcome e class h =
-    let x = class_of (session_of old s) _ _ class h.acts in
-    same_behind old h.mid new h.relations e.queued (front_keeps old s x.0 outcome e h.mid x.1 x.2.1) h.reordered h.queued
+-- what each event keeps
+opened_keeps : (old new : State) (s : ℕ) (class : Class)
+    → ((has_place old class ≡ true) × (new ≡ record old { sessions = old.sessions ++ fresh s class ∷ [] })) ⊎ (new ≡ old)
+    → Keeps old new
+opened_keeps old new s class (inl g) = ap (λ (st : State). st.store) g.1
+opened_keeps old new s class (inr g) = as_old old new g
+
+fed_keeps : (old new : State) (s : ℕ) (bytes : Bytes) (x : Session) (e : Effect) → FedStep old s bytes x e new
+    → Keeps old new
+fed_keeps old new s bytes x e h = by x.cause h
+  where
+    by : (o : Option EndCause) → MatchOption o
+        (((e ≡ nothing) × (new ≡ with_session old s (λ y. record y { held = y.held ++ bytes }))) ⊎ EndsWith end_memory
+        Memory old s e new) (λ _. (e ≡ nothing) × (new ≡ old)) → Keeps old new
+    by None (inl g) = ap (λ (st : State). st.store) g.1
+    by None (inr g) = ap (λ (st : State). st.store) g.1
+    by (Some c) g = as_old old new g.1
+
+took_keeps : (old new : State) (s : ℕ) (bytes : Bytes) (x : Session) (e : Effect) → TookStep old s bytes x e new
+    → Keeps old new
+took_keeps old new s bytes x e h = ap (λ (st : State). st.store) h.1.2
+
+ended_keeps : (old new : State) (s : ℕ) (x : Session) (e : Effect) → EndedStep old s x e new → Keeps old new
+ended_keeps old new s x e h = by x.cause h
+  where
+    by : (o : Option EndCause) → MatchOption o
+        ((is_dry x.held ≡ true) × (e ≡ says_any s (cut_line x.held ++ lost_line x.batch))
+        × (new ≡ with_session old s (ended_by Input))) (λ _. (e ≡ nothing) × (new ≡ old)) → Keeps old new
+    by None g = ap (λ (st : State). st.store) g.2
+    by (Some c) g = as_old old new g.1
+
+acts_keep : (old : State) (event : Event) (e : Effect) (new : State) → RunsAtMostReaders old event
+    → Acts old event e new → Keeps old new
+acts_keep old (opened s class) e new may h = opened_keeps old new s class h.2
+acts_keep old (fed s bytes) e new may h = there (session_of old s) _ h (λ x g. fed_keeps old new s bytes x e g)
+acts_keep old (stepped s outcome) e new may h = let x = class_of (session_of old s) _ _ may h in
+    front_keeps old s x.0 outcome e new x.1 x.2.1
+acts_keep old (took s bytes) e new may h = there (session_of old s) _ h (λ x g. took_keeps old new s bytes x e g)
+acts_keep old (ended s) e new may h = there (session_of old s) _ h (λ x g. ended_keeps old new s x e g)
+acts_keep old (closed s bytes) e new may h = ap (λ (st : State). st.store) h.2
+
+pub readers_change_nothing : (old new : State) (event : Event) (e : Effect) → RunsAtMostReaders old event
+    → Step old event e new → HasSameStore old.store new.store
+readers_change_nothing old new event e may h =
+    same_behind old h.mid new h.relations e.queued (acts_keep old event e h.mid may h.acts) h.reordered h.queued

@@ -19,8 +19,11 @@
 //! what it queues, and bounds what code counts.
 //!
 //! To read first: `specs/Step.antt`, from `Step` at its end backwards. From there `LineStep.antt`
-//! has the order of checks on a line, `Command.antt` a case for each command, and `Store.antt` its
-//! conditions and what it does to relations and queries. The laws of its runs are djq_run_laws'.
+//! has the order of checks on a line, `Allowed.antt` what a session may say, `Command.antt` a case
+//! for each command (`Questions.antt` those that ask what there is, and `follow`), and `Store.antt`
+//! of djq_store_spec its conditions and what it does to relations and queries. Two laws of each step
+//! are here, that a reader changes nothing and that what the operator sets stays; the laws of runs
+//! are djq_run_laws'.
 #![tactic(auto)]
 
 pub use laws::{readers_change_nothing, settings_stay};

@@ -10,6 +10,7 @@
 //! add edge 1 x         Syntax: x is no literal
 //! add edge 1 99999999999999999999      Range: past 64 bits
 //! next c 1001          Syntax: a count is from 1 to 1000
+//! follow q 9 quiet     Command::Follow { query: q, count: 9, is_quiet: true }
 //! done 99999999999     Command::Done { count: Some(4294967295) }: the last stands for larger ones
 //! ```
 //!

@@ -19,8 +19,9 @@
 //! line that the end of the input cut, which is no command's refusal.
 //!
 //! Inside, `command` and `keyword` are what a session sends, `held` what a held line does and why it is refused,
-//! `answer` and `rest` the answers. To read first: `specs/Grammar.antt` and `specs/Reply.antt`, a
-//! case for each form.
+//! `answer` and `rest` the answers, and `reason` what a refusal is about. To read first:
+//! `specs/Grammar.antt` and `specs/Reply.antt`, a case for each form; then `Why.antt`, the table of
+//! reasons, and `Departure.antt`, where a line leaves the grammar.
 #![tactic(auto)]
 
 pub use answer::{AddOutcome, Class, DeleteOutcome, EndCause, EndLine, Refusal, Shape, Sign};
