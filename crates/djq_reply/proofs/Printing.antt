@@ -1,6 +1,6 @@
 -- How a line is printed: piece by piece, and into room that was taken.
 use Rattle.std.proofs.Common.{◌≡◌, ◌+◌, ◌<◌, ◌++◌, ℕ, suc, List, length, take, drop, get_or, refl, sym, ap, subst, ◌∙◌}
-use Rattle.std.proofs.Common.{arith, append_assoc, length-append, ◌≤◌, ◌^◌, ◌∷◌, [], codes}
+use Rattle.std.proofs.Common.{arith, append-nil, append_assoc, length-append, ◌≤◌, ◌^◌, ◌∷◌, [], codes}
 use Rattle.std.proofs.lemmas.List.{take_at, take-take, take_all, length-take-le}
 use Rattle.std.specs.List.{flat_map}
 use Rattle.std.specs.Prelude.{Result, Ok, Err, IsErr, Option, None, Some}
@@ -66,6 +66,19 @@ pub put_item : {A : Type 0} (text : A → Bytes) (old mid new : Filled) (xs : Li
 put_item text old mid new xs k x h e p c =
     subst (λ t. Put old new t) (sym (texts_more text xs k x h ∙ ap (λ y. flat_map text (take k xs) ++ text y) e))
     (put_behind old mid new (flat_map text (take k xs)) (text x) p c)
+
+-- a last piece behind others that were put
+pub part_behind : {A E : Type 0} (old mid new : Filled) (text more : Bytes) (r : Result A E) → Put old mid text
+    → AppendsPart mid new more r → AppendsPart old new (text ++ more) r
+part_behind old mid new text more (Ok a) p h = put_behind old mid new text more p h
+part_behind old mid new text more (Err e) p h =
+    subst (λ t. Cut old new t) (append-nil (text ++ more)) (cut_behind old mid new text more [] p h)
+
+-- a text that is put whole or not at all
+pub as_part : {A E : Type 0} (old new : Filled) (text : Bytes) (r : Result A E) → Puts old new text r
+    → AppendsPart old new text r
+as_part old new text (Ok a) p = p
+as_part old new text (Err e) p = cut_whole old new text p
 
 -- what an error says of the output
 pub adds_err : {A E : Type 0} (old new : Filled) (text : Bytes) (r : Result A E) → IsErr r → Cut old new text

@@ -1,5 +1,5 @@
 //! The lines that tell what there is: each appended whole, or, out of memory, not at all.
-ghost use Rattle.std.specs.Prelude.{◌≡◌, ◌+◌, ◌≤◌, Ok as OkResult, codes, length};
+ghost use Rattle.std.specs.Prelude.{◌≡◌, ◌+◌, ◌++◌, ◌≤◌, Ok as OkResult, codes, length};
 ghost use Rattle.std.specs.Fmt.{decimal};
 ghost use Rattle.djq_protocol.specs.Reply.{numbered_line};
 ghost use Rattle.djq_protocol.specs.QuestionReply.{class_text as class_text_of, copies_reply, follow_line};
@@ -112,9 +112,16 @@ fn add_types(types: &Types, out: &mut BytesMut) -> Result<(), NoMem>
     ensures { AppendsPart out.old out.new (flat_map type_text_of types.now) result }
 {
     for kind in types.as_slice() {
-        put(out, type_text(*kind))?;
+        add_type(*kind, out)?;
     }
     Ok(())
+}
+
+/// The type of one.
+fn add_type(kind: ColumnType, out: &mut BytesMut) -> Result<(), NoMem>
+    ensures { AppendsPart out.old out.new (type_text_of kind) result }
+{
+    put(out, type_text(kind))
 }
 
 /// The type of a column after a space.
@@ -138,7 +145,7 @@ pub(crate) fn put_spaced(number: u64, out: &mut BytesMut) -> Result<(), NoMem>
 }
 
 /// A number of so many digits after a space, in the room that there is.
-fn extend_spaced(number: u64, count: usize, out: &mut BytesMut)
+pub(crate) fn extend_spaced(number: u64, count: usize, out: &mut BytesMut)
     requires count { count ≡ length (decimal number) }
     requires room { count + 1 ≤ out.old.spare }
     ensures { Says out.old out.new (spaced number) }
@@ -261,15 +268,33 @@ fn add_session(session: OpenSession, out: &mut BytesMut) -> Result<(), NoMem>
     ensures { AppendsPart out.old out.new (open_session_line session.id session.pending session.cursors
         session.watches session.held session.class session.asks) result }
 {
+    add_counts(session, out)?;
+    put(out, class_text(session.class))?;
+    put(out, asking_text(session.asks))?;
+    put(out, b"\n")
+}
+
+/// Its numbers.
+fn add_counts(session: OpenSession, out: &mut BytesMut) -> Result<(), NoMem>
+    ensures { AppendsPart out.old out.new (codes "c" ++ spaced session.id ++ spaced session.pending
+        ++ spaced session.cursors ++ spaced session.watches ++ spaced session.held) result }
+{
+    add_front(session, out)?;
+    put_spaced(session.watches as u64, out)?;
+    put_spaced(session.held as u64, out)?;
+    Ok(())
+}
+
+/// The first of them.
+fn add_front(session: OpenSession, out: &mut BytesMut) -> Result<(), NoMem>
+    ensures { AppendsPart out.old out.new (codes "c" ++ spaced session.id ++ spaced session.pending
+        ++ spaced session.cursors) result }
+{
     put(out, b"c")?;
     put_spaced(session.id, out)?;
     put_spaced(session.pending as u64, out)?;
     put_spaced(session.cursors as u64, out)?;
-    put_spaced(session.watches as u64, out)?;
-    put_spaced(session.held as u64, out)?;
-    put(out, class_text(session.class))?;
-    put(out, asking_text(session.asks))?;
-    put(out, b"\n")
+    Ok(())
 }
 
 /// By which address a session came, after a space; nothing for the server's own.

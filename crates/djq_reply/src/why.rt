@@ -6,11 +6,11 @@ ghost use Rattle.djq_protocol.specs.Why.{why_line};
 ghost use Rattle.djq_reply.specs.Adding.{AppendsPart};
 ghost use Rattle.djq_value.specs.Output.{Puts};
 
-use crate::question::put_spaced;
+use crate::question::{extend_spaced, put_spaced};
 use bytes::BytesMut;
 use djq_model::{Name, NoMem};
 use djq_protocol::{Column, Limited, Passed, Reason};
-use djq_value::put;
+use djq_value::{KEPT, digit_count, put};
 
 /// Answers `why` for a session of which no line was refused.
 ///
@@ -129,9 +129,20 @@ fn add_arity(name: &Name, wanted: usize, given: usize, out: &mut BytesMut) -> Re
 
 /// A column of a relation.
 fn add_column(column: &Column, out: &mut BytesMut) -> Result<(), NoMem>
-    ensures { AppendsPart out.old out.new (codes " " ++ column_text column.now) result }
+    ensures { AppendsPart out.old out.new (column_text column.now) result }
 {
-    add_place(b" ", &column.relation, column.number, out)
+    put(out, column.relation.as_bytes())?;
+    put_spaced(column.number as u64, out)?;
+    Ok(())
+}
+
+/// A variable, and the column at which it occurs first.
+fn add_first(variable: &Name, first: &Column, out: &mut BytesMut) -> Result<(), NoMem>
+    ensures { AppendsPart out.old out.new (codes "10 " ++ variable.now ++ codes " " ++ column_text first.now) result }
+{
+    add_name(b"10 ", variable, out)?;
+    put(out, b" ")?;
+    add_column(first, out)
 }
 
 /// A variable and the columns at which it is of two types.
@@ -139,8 +150,8 @@ fn add_clash(variable: &Name, first: &Column, other: &Column, out: &mut BytesMut
     ensures { AppendsPart out.old out.new
         (codes "10 " ++ variable.now ++ codes " " ++ column_text first.now ++ codes " " ++ column_text other.now) result }
 {
-    add_name(b"10 ", variable, out)?;
-    add_column(first, out)?;
+    add_first(variable, first, out)?;
+    put(out, b" ")?;
     add_column(other, out)
 }
 
@@ -159,7 +170,9 @@ fn add_held_limit(limit: &Passed, line: usize, out: &mut BytesMut) -> Result<(),
     ensures { AppendsPart out.old out.new (codes "11 " ++ passed_text limit.now ++ codes " held" ++ spaced line) result }
 {
     add_limit(limit, out)?;
-    add_number(b" held", line, out)
+    put(out, b" held")?;
+    put_spaced(line as u64, out)?;
+    Ok(())
 }
 
 /// What uses a query.
@@ -167,9 +180,25 @@ fn add_uses(cursors: usize, watches: usize, members: usize, out: &mut BytesMut) 
     ensures { AppendsPart out.old out.new (codes "14 cursors" ++ spaced cursors ++ codes " watches" ++ spaced watches
         ++ codes " members" ++ spaced members) result }
 {
-    add_number(b"14 cursors", cursors, out)?;
-    add_number(b" watches", watches, out)?;
-    add_number(b" members", members, out)
+    put_uses(cursors, watches, members, out)
+}
+
+/// The same in one piece.
+fn put_uses(cursors: usize, watches: usize, members: usize, out: &mut BytesMut) -> Result<(), NoMem>
+    ensures { Puts out.old out.new (codes "14 cursors" ++ spaced cursors ++ codes " watches" ++ spaced watches
+        ++ codes " members" ++ spaced members) result }
+{
+    let cursor_count = digit_count(cursors as u64);
+    let watch_count = digit_count(watches as u64);
+    let member_count = digit_count(members as u64);
+    out.reserve(cursor_count + watch_count + member_count + 29 + KEPT)?;
+    out.extend_reserved(b"14 cursors");
+    extend_spaced(cursors as u64, cursor_count, out);
+    out.extend_reserved(b" watches");
+    extend_spaced(watches as u64, watch_count, out);
+    out.extend_reserved(b" members");
+    extend_spaced(members as u64, member_count, out);
+    Ok(())
 }
 
 /// Members whose answers are of other types.
