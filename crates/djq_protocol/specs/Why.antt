@@ -1,7 +1,6 @@
 -- What a refusal is about, and what `why` answers: a table with a row for each case.
 use Rattle.std.specs.Prelude.{ℕ, ◌++◌, Option, None, Some, Result, Ok, Err, codes}
 use Rattle.djq_model.specs.Data.{Bytes}
-use Rattle.djq_protocol.specs.declared.limits.TheConstants.{LAST_SEQ}
 use Rattle.djq_protocol.specs.declared.answer.Refusal.{Refusal}
 use Rattle.djq_protocol.specs.declared.answer.Refusal.TheVariants.{
   Syntax as ErrSyntax,
@@ -125,7 +124,7 @@ reason_text (VariableType variable first other) =
     codes "10 " ++ variable ++ codes " " ++ column_text first ++ codes " " ++ column_text other
 reason_text (Limit p) = codes "11 " ++ passed_text p
 reason_text (HeldLimit p number) = codes "11 " ++ passed_text p ++ codes " held" ++ spaced number
-reason_text LastChange = codes "11 changes" ++ spaced 18446744073709551616 ++ spaced LAST_SEQ
+reason_text LastChange = codes "11 changes 18446744073709551616 18446744073709551615"
 reason_text NoMemory = codes "12"
 reason_text (InUse cursors watches members) =
     codes "14 cursors" ++ spaced cursors ++ codes " watches" ++ spaced watches ++ codes " members"
