@@ -43,7 +43,7 @@ use Rattle.djq_protocol.specs.declared.answer.Refusal.{Refusal}
 use Rattle.djq_protocol.specs.declared.reason.Limited.TheVariants.{Cursors}
 use Rattle.djq_protocol.specs.declared.reason.Reason.TheVariants.{Taken, NoQuery, NoCursor, Limit}
 use Rattle.djq_protocol.specs.Variables.{constants_of}
-use Rattle.djq_protocol.specs.Why.{passes, reason_for, reason_or_memory}
+use Rattle.djq_protocol.specs.Why.{passing_limit, reason_for, reason_or_memory}
 use Rattle.djq_protocol.specs.QuestionReply.{relations_lines}
 use Rattle.djq_model.specs.declared.relation.ColumnType.{ColumnType}
 use Rattle.djq_model.specs.Known.{texts_in}
@@ -239,7 +239,7 @@ abbrev pub open_conditions : Store → List Cursor → Bytes → Bytes → Condi
 open_conditions st cursors c q =
     (is_some (cursor_of cursors c), Taken c)
     ∷ (is_none (listed_of st.queries q), NoQuery q)
-    ∷ (nat_le CURSORS (length cursors), Limit (passes Cursors (length cursors + 1) CURSORS))
+    ∷ (nat_le CURSORS (length cursors), Limit (passing_limit Cursors (length cursors + 1) CURSORS))
     ∷ []
 
 -- why it isn't, but for memory

@@ -6,7 +6,7 @@ use Rattle.djq_protocol.specs.declared.answer.EndCause.TheVariants.{Memory}
 use Rattle.djq_protocol.specs.declared.limits.TheConstants.{REPLY_BYTES}
 use Rattle.djq_protocol.specs.declared.reason.Reason.{Reason}
 use Rattle.djq_protocol.specs.Reply.{refusal_line, end_memory}
-use Rattle.djq_protocol.specs.Why.{refused_as}
+use Rattle.djq_protocol.specs.Why.{reason_refusal}
 pub use Rattle.djq_store_spec.specs.Held.{lost_line}
 use Rattle.djq_machine.specs.State.{State, with_session, ended_by}
 use Rattle.djq_machine.specs.Keeping.{Keeping, no_line, kept_where}
@@ -62,7 +62,7 @@ EndsAnswering text cause test old s e new =
 -- a refusal's line for one session, after so many lookups and links at most
 abbrev pub refuses_with : ℕ → Reason → ℕ → Effect
 refuses_with s reason cost = record {
-  queued = (s, refusal_line (refused_as reason)) ∷ [];
+  queued = (s, refusal_line (reason_refusal reason)) ∷ [];
   cost = cost;
   kept = no_line;
   refused = Some reason;

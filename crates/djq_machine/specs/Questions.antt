@@ -22,7 +22,7 @@ use Rattle.djq_protocol.specs.QuestionReply.{
   open_session_line,
   pong_line,
 }
-use Rattle.djq_protocol.specs.Why.{passes, why_line, reason_or_memory}
+use Rattle.djq_protocol.specs.Why.{passing_limit, why_line, reason_or_memory}
 use Rattle.djq_store_spec.specs.Asking.{named_conditions}
 use Rattle.djq_store_spec.specs.DoneReason.{digits_in}
 use Rattle.djq_store_spec.specs.Held.{HeldTransaction}
@@ -129,7 +129,7 @@ EndStep old s l t e new = WhereElse (t == s) (RefusedStep old s (NoSession (digi
 abbrev pub follow_conditions : Store → Session → Bytes → Conditions
 follow_conditions st x q =
     (is_none (listed_of st.queries q), NoQuery q)
-    ∷ (nat_lt PENDING_BYTES x.uncounted, Limit (passes Pending x.uncounted PENDING_BYTES))
+    ∷ (nat_lt PENDING_BYTES x.uncounted, Limit (passing_limit Pending x.uncounted PENDING_BYTES))
     ∷ []
 
 -- a session for which a text was queued behind its pending bytes, and none of these counts
@@ -158,7 +158,7 @@ unfollowed_steps q most = (most + 2) * answer_steps q
 abbrev pub NotFollowedStep : State → ℕ → Listed → ℕ → Effect → State → Type 0
 NotFollowedStep old s q most e new =
     (HasMoreAnswers old.store q most
-    × (e ≡ refuses_with s (Limit (passes FollowAnswers (most + 1) most)) (unfollowed_steps q most)) × (new ≡ old))
+    × (e ≡ refuses_with s (Limit (passing_limit FollowAnswers (most + 1) most)) (unfollowed_steps q most)) × (new ≡ old))
     ⊎ ((e ≡ refuses_with s NoMemory (unfollowed_steps q most)) × (new ≡ old))
 
 -- `follow`, by what is registered

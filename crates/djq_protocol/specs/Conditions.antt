@@ -16,7 +16,7 @@ use Rattle.std.specs.Prelude.{
 use Rattle.djq_protocol.specs.declared.answer.Refusal.{Refusal}
 use Rattle.djq_protocol.specs.declared.answer.Refusal.TheVariants.{NoMemory}
 use Rattle.djq_protocol.specs.declared.reason.Reason.{Reason}
-use Rattle.djq_protocol.specs.Why.{refused_as}
+use Rattle.djq_protocol.specs.Why.{reason_refusal}
 
 -- A command's conditions, in the order in which they are tried, each with what it is about.
 abbrev pub Conditions : Type 0
@@ -30,7 +30,7 @@ first_reason (c ∷ cs) = if c.0 then Some c.1 else first_reason cs
 -- its refusal
 abbrev pub first_refusal : Conditions → Option Refusal
 first_refusal [] = None
-first_refusal (c ∷ cs) = if c.0 then Some (refused_as c.1) else first_refusal cs
+first_refusal (c ∷ cs) = if c.0 then Some (reason_refusal c.1) else first_refusal cs
 
 -- A command answers the refusal of a condition that holds. Where none does, it is done,
 -- or refused late: for what shows only while it is done.

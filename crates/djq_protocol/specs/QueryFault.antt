@@ -16,7 +16,7 @@ use Rattle.djq_protocol.specs.declared.reason.Limited.TheVariants.{Queries}
 use Rattle.djq_protocol.specs.declared.reason.Reason.TheVariants.{Taken, Limit}
 use Rattle.djq_protocol.specs.Columns.{columns_of}
 use Rattle.djq_protocol.specs.Conditions.{Conditions, first_refusal}
-use Rattle.djq_protocol.specs.Why.{passes}
+use Rattle.djq_protocol.specs.Why.{passing_limit}
 use Rattle.djq_protocol.specs.Variables.{stands_in, variables_of}
 pub use Rattle.djq_protocol.specs.Places.{is_misfit, is_clash, has_order, is_miscompared}
 use Rattle.djq_protocol.specs.QueryReasons.{unknown_reason, arity_reason, misfit_reason, clash_reason}
@@ -99,7 +99,7 @@ abbrev pub query_conditions : ℕ → List Relation → List Listed → Query �
 query_conditions most relations queries q =
     (is_some (listed_of queries q.name), Taken q.name)
     ∷ query_faults relations q
-    ++ (nat_le most (length queries), Limit (passes Queries (length queries + 1) most))
+    ++ (nat_le most (length queries), Limit (passing_limit Queries (length queries + 1) most))
     ∷ []
 
 -- why it isn't

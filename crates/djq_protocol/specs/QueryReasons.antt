@@ -31,7 +31,7 @@ use Rattle.djq_protocol.specs.declared.reason.Reason.TheVariants.{
 use Rattle.djq_protocol.specs.Columns.{columns_of}
 use Rattle.djq_protocol.specs.Variables.{is_variable, stands_in, variables_of, constants_of}
 use Rattle.djq_protocol.specs.Places.{TermPlace, column_number, places_of, is_misfit, is_clash, is_miscompared}
-use Rattle.djq_protocol.specs.Why.{passes}
+use Rattle.djq_protocol.specs.Why.{passing_limit}
 
 -- a name that was looked for; nothing where there is none
 abbrev pub name_found : Option Bytes → Bytes
@@ -126,11 +126,11 @@ head_reason q = HeadUnbound (name_found (find (λ x. not (stands_in q.atoms x)) 
 -- the first limit that a query passes
 abbrev pub size_reason : Query → Reason
 size_reason q =
-    if nat_lt ATOMS (length q.atoms) then Limit (passes Atoms (length q.atoms) ATOMS)
+    if nat_lt ATOMS (length q.atoms) then Limit (passing_limit Atoms (length q.atoms) ATOMS)
     else (if nat_lt VARIABLES (length (variables_of q.atoms))
-    then Limit (passes Variables (length (variables_of q.atoms)) VARIABLES)
-    else (if nat_lt HEAD_VARIABLES (length q.head) then Limit (passes Head (length q.head) HEAD_VARIABLES)
-    else Limit (passes Comparisons (length q.comparisons) COMPARISONS)))
+    then Limit (passing_limit Variables (length (variables_of q.atoms)) VARIABLES)
+    else (if nat_lt HEAD_VARIABLES (length q.head) then Limit (passing_limit Head (length q.head) HEAD_VARIABLES)
+    else Limit (passing_limit Comparisons (length q.comparisons) COMPARISONS)))
 
 -- the literals of a command, in the order in which they stand in its line
 abbrev pub literals_of : Command → Tuple

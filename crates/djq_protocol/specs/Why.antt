@@ -79,8 +79,8 @@ use Rattle.djq_protocol.specs.Reply.{line}
 use Rattle.djq_protocol.specs.QuestionReply.{spaced}
 
 -- a limit that would be passed: of these there would be so many, and so many there may be
-abbrev pub passes : Limited → ℕ → ℕ → Passed
-passes of given most = record { of = of; given = given; most = most }
+abbrev pub passing_limit : Limited → ℕ → ℕ → Passed
+passing_limit of given most = record { of = of; given = given; most = most }
 
 abbrev pub limited_text : Limited → Bytes
 limited_text Columns = codes "columns"
@@ -146,34 +146,34 @@ why_line None = line (codes "ok why")
 why_line (Some r) = line (codes "ok why " ++ reason_text r)
 
 -- the refusal that has this reason
-abbrev pub refused_as : Reason → Refusal
-refused_as (Syntax at) = ErrSyntax
-refused_as (Taken name) = ErrTaken
-refused_as (NoRelation name) = ErrNoRelation
-refused_as (NoQuery name) = ErrNoQuery
-refused_as (NoCursor name) = ErrNoCursor
-refused_as (Arity name wanted given) = ErrArity
-refused_as (PastLimit literal) = ErrWrongType
-refused_as (WrongType name column) = ErrWrongType
-refused_as (Miscompared variable) = ErrWrongType
-refused_as (HeadUnbound variable) = ErrHeadUnbound
-refused_as (HeadRepeated variable) = ErrHeadRepeated
-refused_as (VariableType variable first other) = ErrVariableType
-refused_as (Limit p) = ErrLimit
-refused_as (HeldLimit p number) = ErrLimit
-refused_as LastChange = ErrLimit
-refused_as NoMemory = ErrNoMemory
-refused_as (InUse cursors watches members) = ErrInUse
-refused_as (Unbound variable) = ErrUnbound
-refused_as (MemberTwice name) = ErrMember
-refused_as (MemberUnion name) = ErrMember
-refused_as (MemberHeads first other) = ErrMember
-refused_as BatchOpen = ErrMisplaced
-refused_as NoBatch = ErrMisplaced
-refused_as (NoCopy number) = ErrNoCopy
-refused_as (OtherCount held digits) = ErrOtherCount
-refused_as (NoSession digits) = ErrNoSession
-refused_as NotAllowed = ErrNotAllowed
+abbrev pub reason_refusal : Reason → Refusal
+reason_refusal (Syntax at) = ErrSyntax
+reason_refusal (Taken name) = ErrTaken
+reason_refusal (NoRelation name) = ErrNoRelation
+reason_refusal (NoQuery name) = ErrNoQuery
+reason_refusal (NoCursor name) = ErrNoCursor
+reason_refusal (Arity name wanted given) = ErrArity
+reason_refusal (PastLimit literal) = ErrWrongType
+reason_refusal (WrongType name column) = ErrWrongType
+reason_refusal (Miscompared variable) = ErrWrongType
+reason_refusal (HeadUnbound variable) = ErrHeadUnbound
+reason_refusal (HeadRepeated variable) = ErrHeadRepeated
+reason_refusal (VariableType variable first other) = ErrVariableType
+reason_refusal (Limit p) = ErrLimit
+reason_refusal (HeldLimit p number) = ErrLimit
+reason_refusal LastChange = ErrLimit
+reason_refusal NoMemory = ErrNoMemory
+reason_refusal (InUse cursors watches members) = ErrInUse
+reason_refusal (Unbound variable) = ErrUnbound
+reason_refusal (MemberTwice name) = ErrMember
+reason_refusal (MemberUnion name) = ErrMember
+reason_refusal (MemberHeads first other) = ErrMember
+reason_refusal BatchOpen = ErrMisplaced
+reason_refusal NoBatch = ErrMisplaced
+reason_refusal (NoCopy number) = ErrNoCopy
+reason_refusal (OtherCount held digits) = ErrOtherCount
+reason_refusal (NoSession digits) = ErrNoSession
+reason_refusal NotAllowed = ErrNotAllowed
 
 -- Why a command is refused, if it is: for the first of its conditions that holds, if one does. Else
 -- it is refused late: out of memory, or for the one late limit.

@@ -19,7 +19,7 @@ use Rattle.djq_protocol.specs.declared.reason.Limited.TheVariants.{Copies, Rows,
 use Rattle.djq_protocol.specs.declared.reason.Passed.{Passed}
 use Rattle.djq_protocol.specs.declared.reason.Reason.{Reason}
 use Rattle.djq_protocol.specs.declared.reason.Reason.TheVariants.{HeldLimit, LastChange, NoMemory, NoCopy, OtherCount}
-use Rattle.djq_protocol.specs.Why.{passes}
+use Rattle.djq_protocol.specs.Why.{passing_limit}
 use Rattle.djq_store_spec.specs.Held.{HeldLine, no_line}
 use Rattle.djq_store_spec.specs.Lines.{copies_after}
 use Rattle.djq_store_spec.specs.Judging.{texts_added, texts_after, is_new, rows_reached}
@@ -39,10 +39,10 @@ digits_in l = last_word (tokens l)
 abbrev pub line_limit : List Relation → List Bytes → List HeldLine → HeldLine → Passed
 line_limit relations texts front h =
     if nat_le COPIES (copies_after relations front h)
-    then passes Copies (copies_after relations front h + 1) COPIES
+    then passing_limit Copies (copies_after relations front h + 1) COPIES
     else (if is_new relations front h && nat_le ROWS (rows_reached relations front h.relation)
-    then passes Rows (rows_reached relations front h.relation + 1) ROWS
-    else passes Texts (length (all_learned (texts_after texts front) (texts_added h))) TEXTS)
+    then passing_limit Rows (rows_reached relations front h.relation + 1) ROWS
+    else passing_limit Texts (length (all_learned (texts_after texts front) (texts_added h))) TEXTS)
 
 -- what the refusal of the line at a place is about; lines are counted from 1
 abbrev pub line_reason : List Relation → List Bytes → List HeldLine → ℕ → LineRefusal → Reason

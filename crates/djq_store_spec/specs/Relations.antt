@@ -12,7 +12,7 @@ use Rattle.djq_protocol.specs.declared.answer.Refusal.TheVariants.{Limit as ErrL
 use Rattle.djq_protocol.specs.declared.reason.Limited.TheVariants.{Columns, Relations as MadeRelations, Texts}
 use Rattle.djq_protocol.specs.declared.reason.Reason.{Reason}
 use Rattle.djq_protocol.specs.declared.reason.Reason.TheVariants.{Taken, Limit}
-use Rattle.djq_protocol.specs.Why.{passes}
+use Rattle.djq_protocol.specs.Why.{passing_limit}
 use Rattle.djq_store_spec.specs.Store.{Store}
 use Rattle.djq_protocol.specs.Conditions.{Conditions, first_refusal, Answers, OutOfMemoryWhere}
 
@@ -56,7 +56,7 @@ RefusedByTexts old texts new _ = ⊥
 
 -- the limit that these texts pass, where they find no place
 abbrev pub texts_reason : List Bytes → List Bytes → Reason
-texts_reason known texts = Limit (passes Texts (length (all_learned known texts)) TEXTS)
+texts_reason known texts = Limit (passing_limit Texts (length (all_learned known texts)) TEXTS)
 
 -- `rel`
 
@@ -64,10 +64,10 @@ texts_reason known texts = Limit (passes Texts (length (all_learned known texts)
 abbrev pub rel_conditions : Store → Bytes → List ColumnType → Conditions
 rel_conditions st name types =
     (is_some (relation_of st.relations name), Taken name)
-    ∷ (nat_lt COLUMNS (length types), Limit (passes Columns (length types) COLUMNS))
+    ∷ (nat_lt COLUMNS (length types), Limit (passing_limit Columns (length types) COLUMNS))
     ∷ (
       nat_le RELATIONS (length st.relations),
-      Limit (passes MadeRelations (length st.relations + 1) RELATIONS),
+      Limit (passing_limit MadeRelations (length st.relations + 1) RELATIONS),
     )
     ∷ []
 

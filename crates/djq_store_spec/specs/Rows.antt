@@ -11,7 +11,7 @@ use Rattle.djq_protocol.specs.declared.limits.TheConstants.{ROWS, COPIES, LAST_S
 use Rattle.djq_protocol.specs.declared.answer.Refusal.{Refusal}
 use Rattle.djq_protocol.specs.declared.reason.Limited.TheVariants.{Copies, Rows}
 use Rattle.djq_protocol.specs.declared.reason.Reason.TheVariants.{NoRelation, Arity, WrongType, Limit, LastChange}
-use Rattle.djq_protocol.specs.Why.{passes}
+use Rattle.djq_protocol.specs.Why.{passing_limit}
 use Rattle.djq_protocol.specs.declared.answer.AddOutcome.{AddOutcome}
 use Rattle.djq_protocol.specs.declared.answer.AddOutcome.TheVariants.{First, More}
 use Rattle.djq_protocol.specs.declared.answer.DeleteOutcome.{DeleteOutcome}
@@ -48,8 +48,8 @@ with_copies_of relations name row n =
 -- the conditions under which a row isn't added, but for its texts
 abbrev pub add_conditions : Store → Bytes → Tuple → Conditions
 add_conditions st name row = let rows = rows_of st.relations name in row_refusals st name row
-    ++ (nat_le COPIES (copies_of st name row), Limit (passes Copies (copies_of st name row + 1) COPIES))
-    ∷ (not (has_row rows row) && nat_le ROWS (length rows), Limit (passes Rows (length rows + 1) ROWS))
+    ++ (nat_le COPIES (copies_of st name row), Limit (passing_limit Copies (copies_of st name row + 1) COPIES))
+    ∷ (not (has_row rows row) && nat_le ROWS (length rows), Limit (passing_limit Rows (length rows + 1) ROWS))
     ∷ (not (has_row rows row) && nat_le LAST_SEQ st.seq, LastChange)
     ∷ []
 

@@ -11,7 +11,7 @@ use Rattle.djq_protocol.specs.declared.limits.TheConstants.{HELD, HELD_BYTES}
 use Rattle.djq_protocol.specs.declared.reason.Limited.TheVariants.{Held as HeldLines, Bytes as HeldBytes}
 use Rattle.djq_protocol.specs.declared.reason.Reason.{Reason}
 use Rattle.djq_protocol.specs.declared.reason.Reason.TheVariants.{Limit as LimitReason}
-use Rattle.djq_protocol.specs.Why.{passes}
+use Rattle.djq_protocol.specs.Why.{passing_limit}
 use Rattle.djq_protocol.specs.declared.held.DoneRefusal.{DoneRefusal}
 use Rattle.djq_protocol.specs.Conditions.{Conditions, first_refusal, Answers, OutOfMemoryWhere}
 use Rattle.djq_protocol.specs.Reply.{done_word}
@@ -34,8 +34,8 @@ suit_refusal st name row = first_refusal (row_refusals st name row)
 -- the limit that a batch passes with one more line, of so many bytes
 abbrev pub room_reason : HeldTransaction → ℕ → Reason
 room_reason t line =
-    if nat_le HELD (length t.lines) then LimitReason (passes HeldLines (length t.lines + 1) HELD)
-    else LimitReason (passes HeldBytes (sum_by (λ l. length l) t.logged + line) HELD_BYTES)
+    if nat_le HELD (length t.lines) then LimitReason (passing_limit HeldLines (length t.lines + 1) HELD)
+    else LimitReason (passing_limit HeldBytes (sum_by (λ l. length l) t.logged + line) HELD_BYTES)
 
 -- the conditions under which a line isn't held: its row doesn't suit a relation, or the batch has no room
 -- for it

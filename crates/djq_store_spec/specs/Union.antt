@@ -12,7 +12,7 @@ use Rattle.djq_protocol.specs.declared.reason.Limited.TheVariants.{Members, Quer
 use Rattle.djq_protocol.specs.declared.reason.Reason.{Reason}
 use Rattle.djq_protocol.specs.declared.reason.Reason.TheVariants.{Taken, NoQuery, Limit, MemberTwice, MemberUnion, MemberHeads}
 use Rattle.djq_protocol.specs.QueryReasons.{name_found, first_repeated}
-use Rattle.djq_protocol.specs.Why.{passes}
+use Rattle.djq_protocol.specs.Why.{passing_limit}
 use Rattle.djq_store_spec.specs.Store.{Store}
 use Rattle.djq_protocol.specs.Conditions.{Conditions, first_refusal, Answers, OutOfMemoryWhere}
 use Rattle.djq_store_spec.specs.Registering.{answer_steps, registering}
@@ -70,8 +70,8 @@ union_conditions most st name members =
           || types_differ st members,
       member_reason st members,
     )
-    ∷ (nat_lt MEMBERS (length members), Limit (passes Members (length members) MEMBERS))
-    ∷ (nat_le most (length st.queries), Limit (passes Queries (length st.queries + 1) most))
+    ∷ (nat_lt MEMBERS (length members), Limit (passing_limit Members (length members) MEMBERS))
+    ∷ (nat_le most (length st.queries), Limit (passing_limit Queries (length st.queries + 1) most))
     ∷ []
 
 -- why it isn't, but for memory
