@@ -11,7 +11,7 @@ use Rattle.djq_mirror.specs.Mirror.{Act, Acted, Follows, IsOutside, SeenMirror, 
 abbrev pub set_texts : {A : Type 0} → BTreeSet (Vec ℕ A) → List Bytes
 set_texts s = map (λ v. v.items) s.keys
 
--- An act is done where it may be; where it may not, or out of memory, the texts are as before.
+-- An act is done if it may be; if it may not, or out of memory, the texts are as before.
 abbrev pub ActsOn : {A : Type 0} → List Bytes → Act → Result A MirrorRefusal → List Bytes → Type 0
 ActsOn old act (Ok u) new = (may_act old act ≡ true) × Acted old act new
 ActsOn old act (Err Outside) new = (may_act old act ≡ false) × (new ≡ old)
@@ -24,7 +24,7 @@ MirrorTurns old turn (Ok u) new =
 MirrorTurns old turn (Err Outside) new = (may_turn old.held.texts turn ≡ false) × (new ≡ old)
 MirrorTurns old turn (Err NoMem) new = new ≡ old
 
--- A line is taken where it is allowed, and `Outside` is answered exactly where it isn't. After a
+-- A line is followed if it is allowed, and `Outside` is answered if and only if it isn't. After a
 -- refusal, and out of memory, all is as before.
 abbrev pub LineEnds : {A : Type 0} → SeenMirror → Bytes → Result A MirrorRefusal → SeenMirror → Type 0
 LineEnds old bytes (Ok u) new = Follows old.name old.held bytes new.held × (new.name ≡ old.name)
@@ -36,7 +36,7 @@ abbrev pub AppendsOrKeeps : {A E : Type 0} → Bytes → Bytes → Result A E �
 AppendsOrKeeps old text (Ok a) new = new ≡ old ++ text
 AppendsOrKeeps old text (Err e) new = new ≡ old
 
--- A text is appended whole; or out of memory some bytes stand behind what was there.
+-- A text is appended whole; or out of memory some bytes follow what was there.
 abbrev pub AppendsText : {A E : Type 0} → Bytes → Bytes → Result A E → Bytes → Type 0
 AppendsText old text (Ok a) new = new ≡ old ++ text
 AppendsText old text (Err e) new = take (length old) new ≡ old

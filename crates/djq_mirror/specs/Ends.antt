@@ -19,16 +19,16 @@ use Rattle.djq_mirror.specs.declared.command.Mirrored.TheVariants.{Done, Outside
 use Rattle.djq_mirror.specs.declared.command.Mirrored.TheVariants.{WriteFault, TooMany, NoMemory}
 use Rattle.djq_mirror.specs.Follow.{HasGivenAll, StopsAt, AreFollowed}
 
--- the line that says which line can't be followed
+-- the line that reports which line can't be followed
 abbrev pub unfollowed_line : ℕ → Bytes
 unfollowed_line n = numbered_line (codes "mirror ") n
 
--- What is to be written where a mirror can't follow any further, if something is.
+-- What is to be written if a mirror can't follow any further, if something is.
 abbrev pub HaltIsTold : Halt → Bytes → Mirrored → Type 0
 HaltIsTold (HaltsOutside n) text answer = (text ≡ unfollowed_line n) × (answer ≡ Outside n)
 HaltIsTold _ text answer = ⊥
 
--- What is answered where nothing is to be written, though a mirror can't follow any further.
+-- What is answered if nothing is to be written, though a mirror can't follow any further.
 abbrev pub IsUntold : Halt → Mirrored → Type 0
 IsUntold (HaltsOutside n) answer = answer ≡ NoMemory
 IsUntold HaltsFull answer = answer ≡ TooMany
@@ -65,8 +65,8 @@ pub record LeavesNone (answer : Mirrored) (name : Bytes) (before now : Option So
   pub gave : Gave before now bytes
   pub stops : StopsFor answer name bytes faults faults'
 
--- The sink took all of the text; or a first part that isn't the whole, and then a write failed, which
--- was the last.
+-- The sink accepted all of the text; or a first part that isn't the whole, and then a write failed,
+-- which was the last.
 abbrev pub WritesOf : Mirrored → Mirrored → Bytes → Option (List Write) → Option (List Write) → ℕ → ℕ → Type 0
 WritesOf answer whole text writing writing' faults faults' =
     ((answer ≡ whole) × GainsBytes writing writing' text × (faults' ≡ faults))
@@ -83,9 +83,9 @@ pub record MirrorsText (answer : Mirrored) (name : Bytes) (reading reading' : Op
   pub writes : WritesOf answer whole text writing writing' faults faults'
 
 -- **The theorem of `mirror`.** What was read was followed to its end, or to the first line that can't
--- be, and what it leaves was written: the answers that it tells are all that is held, or that they
+-- be, and what it leaves was written: the answers that it writes are all that is held, or that they
 -- aren't known whole, or the number of that line. Else nothing is written, for the reason that the
--- answer says.
+-- answer gives.
 abbrev pub MirrorEnds : Mirrored → Bytes → Option SourceReading → Option SourceReading → ℕ → ℕ
     → Option (List Write) → Option (List Write) → ℕ → ℕ → Type 0
 MirrorEnds answer name reading reading' read_faults read_faults' writing writing' faults faults' =

@@ -1,4 +1,4 @@
--- What a mirror comes to that follows, piece by piece, what a session was sent.
+-- A mirror that follows, piece by piece, what a session was sent.
 use Rattle.std.specs.Prelude.{ℕ, List, [], ◌∷◌, ◌++◌, ◌≡◌, ◌≢◌, ◌+◌, ◌<◌, ◌≤◌, ◌⊎◌, Option, None}
 use Rattle.std.specs.Prelude.{Some, IfSome, Result, Ok, Err, length}
 use Rattle.djq_io.specs.Faults.{Counted}
@@ -37,13 +37,13 @@ pub record TakesLines (old : Following) (bytes : Bytes) (new : Following) : Type
   pub count : new.count ≡ old.count + length lines
   pub name : new.name ≡ old.name
 
--- Bytes without an LF can't be followed, with these behind them: they are ended and no line that is
+-- Bytes without an LF can't be followed, with these after them: they are ended and no line that is
 -- allowed, or too long already.
 abbrev pub Stopping : Bytes → Held → Bytes → Bytes → Type 0
 Stopping name held bad behind = ((tail : Bytes) × (behind ≡ 10 ∷ tail) × IsOutside name held bad)
     ⊎ ((behind ≡ []) × (REPLY_LINE_BYTES < length bad))
 
--- Behind lines that are followed, one comes that can't be.
+-- Lines are followed, and after them there is one that can't be.
 pub record Halts (old : Following) (bytes : Bytes) (n : ℕ) : Type 0 where
   pub lines : List Bytes
   pub held : Held
@@ -64,7 +64,7 @@ pub record CountsOut (old : Following) (bytes : Bytes) : Type 0 where
   pub takes : TakesLines old front mid
   pub full : mid.count ≡ most_lines
 
--- What becomes of a piece, by why it isn't taken to its end, if it isn't.
+-- What a piece does, by why it isn't followed to its end, if it isn't.
 abbrev pub TakesPiece : Following → Bytes → Option Halt → Following → Type 0
 TakesPiece old piece None new = TakesLines old piece new
 TakesPiece old piece (Some (Outside n)) new = Halts old piece n
@@ -87,7 +87,7 @@ FollowsLine old last (Ok _) new = Follows old.name old.held (old.begun ++ last) 
 FollowsLine old last (Err IsOutsideHere) new = IsOutside old.name old.held (old.begun ++ last)
 FollowsLine old last (Err NoMemHere) new = Unit {0}
 
--- The front of a line is kept, unless it is too long.
+-- The front of a line waits for the rest, unless it is too long.
 abbrev pub KeepsFront : Following → Bytes → Option Halt → Following → Type 0
 KeepsFront old front None new = new ≡ record old { begun = old.begun ++ front }
 KeepsFront old front (Some (Outside n)) new = (n ≡ old.count + 1)
@@ -95,7 +95,7 @@ KeepsFront old front (Some (Outside n)) new = (n ≡ old.count + 1)
 KeepsFront old front (Some TooMany) new = old.count ≡ most_lines
 KeepsFront old front (Some NoMem) new = Unit {0}
 
--- the line behind so many, as the first that can't be followed
+-- the line after so many, as the first that can't be followed
 abbrev pub IsHaltLine : ℕ → Halt → Type 0
 IsHaltLine count (Outside n) = n ≡ count + 1
 IsHaltLine count TooMany = count ≡ most_lines
@@ -106,7 +106,7 @@ abbrev pub HaltsAtEnd : Following → Option Halt → Type 0
 HaltsAtEnd f None = f.begun ≡ []
 HaltsAtEnd f (Some halt) = (f.begun ≢ []) × IsHaltLine f.count halt
 
--- It has nothing left, where it tells.
+-- It has nothing left, if it shows its record.
 abbrev pub HasGivenAll : Option SourceReading → Type 0
 HasGivenAll reading = IfSome reading (λ r. r.left ≡ [])
 
@@ -119,13 +119,13 @@ pub record AreFollowed (name bytes : Bytes) : Type 0 where
   pub own : HasNoLf begun
   pub follows : FollowsAll name at_first lines held
 
--- Whatever comes behind these bytes, the line of this number is the first that can't be followed; or
--- so it is where nothing comes, and nothing does.
+-- Whatever follows these bytes, the line of this number is the first that can't be followed; or so
+-- it is if nothing follows, and nothing does.
 abbrev pub StopsAt : Bytes → Bytes → Option SourceReading → ℕ → Type 0
 StopsAt name bytes now n = ((more : Bytes) → FirstIsRefused name (bytes ++ more) n)
     ⊎ (HasGivenAll now × FirstIsRefused name bytes n)
 
--- What the bytes that were read come to.
+-- The result of the bytes that were read.
 abbrev pub FollowedAs : Followed → Bytes → Bytes → Option SourceReading → Held → Type 0
 FollowedAs Whole name bytes now held = HasGivenAll now × HoldsAtEnd name bytes held
 FollowedAs (Halted (Outside n)) name bytes now held = StopsAt name bytes now n
@@ -133,7 +133,7 @@ FollowedAs (Halted TooMany) name bytes now held = MOST_READS ≤ length bytes
 FollowedAs (Halted NoMem) name bytes now held = Unit {0}
 FollowedAs ReadFault name bytes now held = AreFollowed name bytes
 
--- The count of the source's faults rises where a read failed, and stays else.
+-- The count of the source's faults rises if a read failed, and else stays.
 abbrev pub FaultsAs : Followed → ℕ → ℕ → Type 0
 FaultsAs ReadFault faults faults' = Counted faults faults'
 FaultsAs _ faults faults' = faults' ≡ faults

@@ -1,4 +1,4 @@
--- What a whole input comes to in a mirror.
+-- The result of a whole input in a mirror.
 use Rattle.std.specs.Prelude.{◌≡◌, ◌≢◌, ℕ, ◌+◌, List, [], ◌∷◌, ◌++◌, All, length}
 use Rattle.std.specs.List.{flat_map}
 use Rattle.djq_model.specs.Data.{Bytes}
@@ -13,7 +13,7 @@ lines_text lines = flat_map line lines
 abbrev pub HasNoLf : Bytes → Type 0
 HasNoLf bytes = All (λ b. b ≢ 10) bytes
 
--- Lines, one after the other, are allowed, and this is held behind them.
+-- Lines, one after the other, are allowed, and this is held after them.
 abbrev pub FollowsAll : Bytes → Held → List Bytes → Held → Type 0
 FollowsAll name old [] new = new ≡ old
 FollowsAll name old (l ∷ ls) new =
@@ -25,7 +25,7 @@ pub record HoldsAtEnd (name input : Bytes) (held : Held) : Type 0 where
   pub is : input ≡ lines_text lines
   pub follows : FollowsAll name at_first lines held
 
--- a line that isn't allowed, or a last line without its LF, and what is behind it
+-- a line that isn't allowed, or a last line without its LF, and what follows it
 abbrev pub StopsMirror : Bytes → Held → Bytes → Bytes → Type 0
 StopsMirror name held l [] = l ≢ []
 StopsMirror name held l (b ∷ behind) = (b ≡ 10) × IsOutside name held l

@@ -1,4 +1,4 @@
--- A mirror: which answers of one query the lines tell that a session was sent.
+-- A mirror: the answers of one query, by the lines that a session was sent.
 use Rattle.std.specs.Prelude.{◌≡◌, ◌≤◌, List, [], ◌∷◌, ◌++◌, ◌&&◌, ◌||◌, Bool, true, false, not}
 use Rattle.std.specs.Prelude.{Option, None, Some, if◌then◌else◌, codes, length}
 use Rattle.std.specs.List.{flat_map, list_any}
@@ -14,7 +14,7 @@ use Rattle.djq_mirror.specs.declared.mode.Mode.TheVariants.{Idle, Listing, Live}
 use Rattle.djq_mirror.specs.declared.mode.TheConstants.{REPLY_LINE_BYTES}
 use Rattle.djq_mirror.specs.Replies.{Reply, opened, answer, more, last, stale, changed, counted, IsReply}
 
--- What a mirror holds: its mode, and the texts of answers, which are their values, each behind a
+-- What a mirror holds: its mode, and the texts of answers, which are their values, each after a
 -- space.
 pub record Held : Type 0 where
   pub mode : Mode
@@ -29,14 +29,14 @@ pub record SeenMirror : Type 0 where
 abbrev pub at_first : Held
 at_first = record { mode = Idle; texts = [] }
 
--- what a line does to the texts: nothing; all are dropped; one is put in; one is taken out
+-- what a line does to the texts: nothing; all are dropped; one is inserted; one is removed
 pub data Act : Type 0 where
   keep : Act
   clear : Act
   put : Bytes → Act
   take_out : Bytes → Act
 
--- what an answer that came or went does in each mode: the mode behind it, and what becomes of the
+-- what an answer that was added or removed does in each mode: the next mode, and the act on the
 -- texts
 abbrev pub turn_of_change : Mode → Sign → Bytes → Mode × Act
 turn_of_change Idle s t = (Idle, keep)
@@ -50,7 +50,7 @@ turn_of_count Idle = (Idle, keep)
 turn_of_count Listing = (Idle, keep)
 turn_of_count Live = (Live, keep)
 
--- What a line of each form does in each mode; none where it is not allowed there. Lines of other
+-- What a line of each form does in each mode; none if it is not allowed there. Lines of other
 -- names and of all other forms do nothing, the last lines of a session among them, which begin with
 -- `end` too.
 abbrev pub turn_of : Bytes → Mode → Reply → Option (Mode × Act)
@@ -75,7 +75,7 @@ turn_of name mode r = Some (mode, keep)
 abbrev pub has_text : List Bytes → Bytes → Bool
 has_text texts t = list_any (bytes_eq t) texts
 
--- A text is put in where it isn't, and taken out where it is.
+-- A text is inserted if it isn't there, and removed if it is.
 abbrev pub may_act : List Bytes → Act → Bool
 may_act texts keep = true
 may_act texts clear = true
@@ -91,11 +91,11 @@ may_turn texts (Some turn) = may_act texts turn.1
 abbrev pub allows : Bytes → Held → Reply → Bool
 allows name held r = may_turn held.texts (turn_of name held.mode r)
 
--- Texts stand in byte order, each once.
+-- Texts are in byte order, each once.
 abbrev pub IsInOrder : List Bytes → Type 0
 IsInOrder texts = IsStrictlySortedBy (slice_cmp nat_cmp) texts
 
--- the texts behind an act, by which texts are among them
+-- the texts after an act, by which texts are among them
 abbrev pub Acted : List Bytes → Act → List Bytes → Type 0
 Acted old keep new = new ≡ old
 Acted old clear new = new ≡ []
@@ -104,7 +104,7 @@ Acted old (put t) new =
 Acted old (take_out t) new =
     IsInOrder new × ((u : Bytes) → has_text new u ≡ (not (bytes_eq t u) && has_text old u))
 
--- what is held behind a line that does this, by what was held
+-- what is held after a line that does this, by what was held
 abbrev pub Turned : Held → Option (Mode × Act) → Held → Type 0
 Turned old None new = ⊥
 Turned old (Some turn) new = (new.mode ≡ turn.0) × Acted old.texts turn.1 new.texts
@@ -114,7 +114,7 @@ pub record IsReplyLine (bytes : Bytes) (r : Reply) : Type 0 where
   pub reply : IsReply bytes r
   pub short : length bytes ≤ REPLY_LINE_BYTES
 
--- Bytes without an LF are a line that is allowed, and this is held behind it.
+-- Bytes without an LF are a line that is allowed, and this is held after it.
 pub record Follows (name : Bytes) (old : Held) (bytes : Bytes) (new : Held) : Type 0 where
   pub reply : Reply
   pub is_line : IsReplyLine bytes reply

@@ -1,4 +1,4 @@
--- What a line tells, read from the bytes by its first word.
+-- What a line reports, read from the bytes by its first word.
 use Rattle.std.specs.Prelude.{ℕ, List, [], ◌∷◌, ◌&&◌, ◌||◌, Bool, false, nat_lt, Option, None, Some}
 use Rattle.std.specs.Prelude.{if◌then◌else◌, codes, decimal, drop, length}
 use Rattle.std.specs.List.{list_all, list_any}
@@ -20,7 +20,7 @@ use Rattle.djq_model.specs.Parts.{before, behind}
 use Rattle.djq_mirror.specs.Parts.{parts, parts_left}
 use Rattle.djq_mirror.specs.Replies.{Reply, opened, answer, more, last, stale, changed, counted, is_printed_variable}
 
--- what a line tells of a listing or of a query
+-- what a line reports of a listing or of a query
 pub data News : Type 0 where
   opens : News
   lists : Bytes → News
@@ -31,7 +31,7 @@ pub data News : Type 0 where
   counts : Bytes → News
   nothing : News
 
--- what a line of each form tells
+-- what a line of each form reports
 abbrev pub news_of : Reply → News
 news_of opened = opens
 news_of (answer t) = lists (cells_text t)
@@ -100,7 +100,7 @@ is_label_word w = bytes_eq w (codes "-") || is_edge_word w
 
 -- Lines by their words.
 
--- behind `ok`: a word and a number, or a word and two
+-- after `ok`: a word and a number, or a word and two
 abbrev pub is_counted : List Bytes → Bool
 is_counted (w ∷ n ∷ []) =
     (bytes_eq w (codes "absent") || bytes_eq w (codes "held") || bytes_eq w (codes "query")
@@ -110,34 +110,34 @@ is_counted (w ∷ n ∷ m ∷ []) =
     && (is_printed_number n && is_printed_number m)
 is_counted ws = false
 
--- behind `no`: a word and edges, of which there is one at least
+-- after `no`: a word and edges, of which there is one at least
 abbrev pub is_rest_told : List Bytes → Bool
 is_rest_told (w ∷ e ∷ es) =
     (bytes_eq w (codes "cyclic") || bytes_eq w (codes "connex")) && list_all is_edge_word (e ∷ es)
 is_rest_told ws = false
 
--- a label, and `out` or nothing behind it
+-- a label, and `out` or nothing after it
 abbrev pub is_label_end : List Bytes → Bool
 is_label_end (l ∷ []) = is_label_word l
 is_label_end (l ∷ o ∷ []) = is_label_word l && bytes_eq o (codes "out")
 is_label_end ws = false
 
--- behind `leaf`: a relation, a label, and `out` or nothing
+-- after `leaf`: a relation, a label, and `out` or nothing
 abbrev pub is_leaf_told : List Bytes → Bool
 is_leaf_told [] = false
 is_leaf_told (r ∷ ws) = is_name r && is_label_end ws
 
--- behind `trim`: the number of a node, a label, and `out` or nothing
+-- after `trim`: the number of a node, a label, and `out` or nothing
 abbrev pub is_trim_told : List Bytes → Bool
 is_trim_told [] = false
 is_trim_told (c ∷ ws) = is_printed_number c && is_label_end ws
 
--- behind `meet`: the numbers of two nodes, a label, and `out` or nothing
+-- after `meet`: the numbers of two nodes, a label, and `out` or nothing
 abbrev pub is_meet_told : List Bytes → Bool
 is_meet_told [] = false
 is_meet_told (g ∷ ws) = is_printed_number g && is_trim_told ws
 
--- behind the number of a node
+-- after the number of a node
 abbrev pub is_node_kind : List Bytes → Bool
 is_node_kind [] = false
 is_node_kind (k ∷ ws) =
@@ -145,27 +145,27 @@ is_node_kind (k ∷ ws) =
     else (if bytes_eq k (codes "trim") then is_trim_told ws
     else (bytes_eq k (codes "meet") && is_meet_told ws))
 
--- behind `n`
+-- after `n`
 abbrev pub is_node_told : List Bytes → Bool
 is_node_told [] = false
 is_node_told (j ∷ ws) = is_printed_number j && is_node_kind ws
 
--- behind `m`
+-- after `m`
 abbrev pub is_member_told : List Bytes → Bool
 is_member_told (n ∷ []) = is_name n
 is_member_told ws = false
 
--- behind `stale`
+-- after `stale`
 abbrev pub is_stale_told : List Bytes → Bool
 is_stale_told (c ∷ r ∷ n ∷ []) = is_name c && (is_name r && is_printed_number n)
 is_stale_told ws = false
 
--- behind `at`
+-- after `at`
 abbrev pub count_told : List Bytes → Option News
 count_told (q ∷ n ∷ []) = if is_name q && is_printed_number n then Some (counts q) else None
 count_told ws = None
 
--- the lines that are always the same and tell nothing
+-- the lines that are always the same and report nothing
 abbrev pub fixed_lines : List Bytes
 fixed_lines =
     codes "ok" ∷ codes "ok batch" ∷ codes "yes" ∷ codes "no" ∷ codes "flat" ∷ codes "linear"
@@ -181,11 +181,11 @@ fixed_lines =
 abbrev pub is_fixed : Bytes → Bool
 is_fixed line = list_any (λ fixed. bytes_eq fixed line) fixed_lines
 
--- news where a test holds
+-- news if a test holds
 abbrev pub told_if : Bool → News → Option News
 told_if test news = if test then Some news else None
 
--- a line that tells nothing, by its first word and those behind it
+-- a line that reports nothing, by its first word and those after it
 abbrev pub is_worded : Bytes → List Bytes → Bool
 is_worded first ws =
     if bytes_eq first (codes "ok") then is_counted ws
@@ -193,7 +193,7 @@ is_worded first ws =
     else (if bytes_eq first (codes "n") then is_node_told ws
     else (bytes_eq first (codes "m") && is_member_told ws)))
 
--- a line of words alone, where it is none of a listing
+-- a line of words alone, if it is none of a listing
 abbrev pub word_told : Bytes → Bytes → List Bytes → Option News
 word_told line first ws =
     if bytes_eq first (codes "at") then count_told ws
@@ -207,14 +207,14 @@ words_told line first ws =
     else (if bytes_eq line (codes "more") then Some goes_on
     else (if bytes_eq line (codes "end") then Some ends else word_told line first ws))
 
--- behind the sign of an answer that came or went: the query, and the values
+-- after the sign of an answer that was added or removed: the query, and the values
 abbrev pub change_told : Sign → Option Bytes → Option News
 change_told s None = None
 change_told s (Some rest) =
     told_if (is_name (before 32 rest) && are_cells_in (drop (length (before 32 rest)) rest))
     (changes s (before 32 rest) (drop (length (before 32 rest)) rest))
 
--- a line by its first word and what is behind that
+-- a line by its first word and what follows that
 abbrev pub line_told : Bytes → Bytes → Option Bytes → Option News
 line_told line first rest =
     if bytes_eq first (codes "=") then told_if (are_cells_in (drop 1 line)) (lists (drop 1 line))
@@ -222,6 +222,6 @@ line_told line first rest =
     else (if bytes_eq first (codes "-") then change_told Went rest
     else words_told line first (parts_left 32 rest)))
 
--- What a line tells; none where it is of no form.
+-- What a line reports; none if it is of no form.
 abbrev pub news_in : Bytes → Option News
 news_in line = line_told line (before 32 line) (behind 32 line)

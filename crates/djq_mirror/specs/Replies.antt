@@ -1,6 +1,5 @@
--- The lines that a session is sent, by their forms. A form says what is printed and how, and not
--- which numbers, names and values are possible where: `ok query 4` is a line of the forms, though no
--- query costs 4.
+-- The lines that a session is sent, by their forms. A form defines what is printed and how, and not which
+-- numbers, names and values are possible: `ok query 4` is a line of the forms, though no query costs 4.
 use Rattle.std.specs.Prelude.{◌≡◌, ℕ, ◌<◌, ◌^◌, List, [], ◌∷◌, ◌++◌, ◌&&◌, ◌||◌, Bool, true, false, Ok, codes, decimal}
 use Rattle.std.specs.List.{list_all, flat_map}
 use Rattle.std.specs.Str.{is_utf8}
@@ -37,7 +36,7 @@ pub data Node : Type 0 where
   trim : ℕ → Node
   meet : ℕ → ℕ → Node
 
--- the form of a line that a session is sent, with what the line tells
+-- the form of a line that a session is sent, with what the line reports
 pub data Reply : Type 0 where
   -- a command was done, or a cursor opened
   done : Reply
@@ -46,7 +45,7 @@ pub data Reply : Type 0 where
   added : ℕ → ℕ → Reply
   removed : ℕ → ℕ → Reply
   absent : ℕ → Reply
-  -- a batch: opened; lines that it holds; or done, with the number of changes and of the rows that came and went
+  -- a batch: opened; lines that it holds; or done, with the number of changes and of the rows that were inserted and deleted
   batch_opened : Reply
   lines_held : ℕ → Reply
   batch_done : ℕ → ℕ → Reply
@@ -54,7 +53,7 @@ pub data Reply : Type 0 where
   registered : ℕ → Reply
   cyclic : List (List Bytes) → Reply
   not_connex : List (List Bytes) → Reply
-  -- a listing: an answer; `more`, or `end` where no answer is left; or a cursor that a change of a
+  -- a listing: an answer; `more`, or `end` if no answer is left; or a cursor that a change of a
   -- relation made stale
   answer : Tuple → Reply
   more : Reply
@@ -66,7 +65,7 @@ pub data Reply : Type 0 where
   -- whether a tuple is an answer, and the shape of a query
   had : Bool → Reply
   shaped : Shape → Reply
-  -- a watch: begun; an answer of a query that came or went; and the number of the change
+  -- a watch: begun; an answer of a query that was added or removed; and the number of the change
   watched : ℕ → Reply
   changed : Sign → Bytes → Tuple → Reply
   counted : Bytes → ℕ → Reply
@@ -83,11 +82,11 @@ abbrev pub joined : List Bytes → Bytes
 joined [] = []
 joined (x ∷ xs) = x ++ flat_map (λ y. 44 ∷ y) xs
 
--- words, then edges, each behind a space
+-- words, then edges, each after a space
 abbrev pub edges_line : Bytes → List (List Bytes) → Bytes
 edges_line words edges = line (words ++ flat_map (λ e. 32 ∷ joined e) edges)
 
--- a label: a dash where it has no variable
+-- a label: a dash if it has no variable
 abbrev pub label_of : List Bytes → Bytes
 label_of [] = codes "-"
 label_of (x ∷ xs) = joined (x ∷ xs)
@@ -139,7 +138,7 @@ abbrev pub is_text : Value → Bool
 is_text (Int i) = true
 is_text (Text t) = is_utf8 t
 
--- a value that is printed: within its limit, and UTF-8 where it is a text
+-- a value that is printed: within its limit, and UTF-8 if it is a text
 abbrev pub is_cell : Value → Bool
 is_cell v = is_small_value v && is_text v
 

@@ -14,10 +14,10 @@ pub record Spells (c : Command) (line : Bytes) : Type 0 where
   pub says : SaysCommand c tokens
   pub spelled : IsSpelling tokens line
 
--- Tokens are read as a command exactly where they say it.
+-- Tokens are read as a command if and only if the grammar relates them.
 abbrev pub CommandsAreSaid : Type 0
 CommandsAreSaid = (ts : List Token) (c : Command) → (command_in ts ≡ Some c) ↔ SaysCommand c ts
 
--- A line says a command exactly where it spells it.
+-- A line is read as a command if and only if it spells it.
 abbrev pub CommandsAreSpelled : Type 0
 CommandsAreSpelled = (line : Bytes) (c : Command) → (command_of line ≡ Some c) ↔ Spells c line

@@ -11,7 +11,7 @@ use Rattle.djq_parser.specs.declared.refusal.LineRefusal.{LineRefusal}
 use Rattle.djq_parser.specs.declared.refusal.LineRefusal.TheVariants.{Syntax, Range, NoMem}
 
 -- Nothing is there to be read, and `Syntax` is answered; or something is. Then the answer is `Range`
--- where it isn't in range, else it or out of memory.
+-- if it isn't in range, else it or out of memory.
 abbrev pub ReadsAs : {A : Type 0} → (A → Bool) → Option A → Result A LineRefusal → Type 0
 ReadsAs in_range None r = r ≡ Err Syntax
 ReadsAs in_range (Some a) (Ok b) = (b ≡ a) × (in_range a ≡ true)
@@ -19,7 +19,7 @@ ReadsAs in_range (Some a) (Err Range) = in_range a ≡ false
 ReadsAs in_range (Some a) (Err NoMem) = in_range a ≡ true
 ReadsAs in_range (Some a) (Err _) = ⊥
 
--- The same of what stands in front of other tokens: these are left.
+-- The same of what is in front of other tokens: these are left.
 abbrev pub ReadsPart : {A : Type 0} → (A → Bool) → Option (A × List Token) → Result A LineRefusal
     → List Token → Type 0
 ReadsPart in_range None r left = r ≡ Err Syntax
@@ -55,7 +55,7 @@ is_outside (Ok a) = false
 is_outside (Err Syntax) = true
 is_outside (Err _) = false
 
--- Out of memory comes only where reading takes memory.
+-- Reading may be out of memory only if it allocates.
 abbrev pub ReadingTakesMemory : Option Command → Result Command LineRefusal → Type 0
 ReadingTakesMemory (Some c) (Err NoMem) = takes_memory_to_read c ≡ true
 ReadingTakesMemory o r = Unit {0}

@@ -6,7 +6,7 @@ use Rattle.djq_value.specs.declared.literal.LiteralRefusal.TheVariants.{NoMem as
 use Rattle.djq_parser.specs.declared.refusal.LineRefusal.{LineRefusal}
 use Rattle.djq_parser.specs.declared.refusal.LineRefusal.TheVariants.{Syntax, Range, NoMem}
 
--- the one that comes first
+-- the first of both
 abbrev pub earlier_of : LineRefusal → LineRefusal → LineRefusal
 earlier_of Syntax r = Syntax
 earlier_of Range Syntax = Syntax

@@ -21,7 +21,7 @@ use Rattle.djq_parser.specs.declared.row.RowLine.TheVariants.{Add, Del, Refused,
 use Rattle.djq_parser.specs.declared.row.RowWord.{RowWord}
 use Rattle.djq_parser.specs.declared.row.RowWord.TheVariants.{Add as Adds, Del as Deletes}
 
--- what a keyword does with a row, where it is one of a row
+-- what a keyword does with a row, if it is one of a row
 abbrev pub row_word_of : Option Keyword → Option RowWord
 row_word_of (Some AddWord) = Some Adds
 row_word_of (Some DelWord) = Some Deletes
@@ -41,7 +41,7 @@ abbrev pub may_begin : Bytes → Bool
 may_begin [] = false
 may_begin (b ∷ bs) = b == 32 || b == 97 || b == 100
 
--- Such a keyword is taken from those tokens; none is given where they don't begin with one.
+-- Such a keyword is removed from those tokens; none is given if they don't begin with one.
 abbrev pub TakesRowWord : List Token → Option RowWord → List Token → Type 0
 TakesRowWord old None new = row_word_in old ≡ None
 TakesRowWord old (Some Adds) new = old ≡ word (codes "add") ∷ new
@@ -52,13 +52,13 @@ abbrev pub BeginsRow : List Token → Option (RowWord × List Token) → Type 0
 BeginsRow old None = row_word_in old ≡ None
 BeginsRow old (Some r) = TakesRowWord old (Some r.0) r.1
 
--- Such a keyword is the first bytes of a line, and a space is behind it. Where none is given, the line may begin in
+-- Such a keyword is the first bytes of a line, and a space follows it. If none is given, the line may begin in
 -- another way.
 abbrev pub IsCloseRowWord : Bytes → Option RowWord → Type 0
 IsCloseRowWord line None = Unit {0}
 IsCloseRowWord line (Some verb) = (4 ≤ length line) × TakesRowWord (tokens line) (Some verb) (tokens (drop 4 line))
 
--- The name in front is taken; none is given where no name is in front.
+-- The name in front is removed; none is given if no name is in front.
 abbrev pub TakesNameInFront : List Token → Option (Bor Bytes × List Token) → Type 0
 TakesNameInFront old None = has_name_first old ≡ false
 TakesNameInFront old (Some r) = (old ≡ word r.0.now ∷ r.1) × (is_name r.0.now ≡ true)
@@ -68,7 +68,7 @@ abbrev pub is_integer_value : Value → Bool
 is_integer_value (Int i) = true
 is_integer_value (Text t) = false
 
--- Integers of 64 bits were taken from the front of tokens, and put behind a row.
+-- Integers of 64 bits were removed from the front of tokens, and appended to a row.
 abbrev pub ReadsNumbers : List Token → Tuple → List Token → Tuple → Type 0
 ReadsNumbers old row new more =
     (xs : Tuple) × (more ≡ row ++ xs) × (list_all is_integer_value xs ≡ true)
@@ -79,7 +79,7 @@ ReadsNumbers old row new more =
 abbrev pub IsRefused : Option Tuple → LineRefusal → Type 0
 IsRefused o refusal = ReadsAs (list_all is_small_value) o (Err refusal)
 
--- Where values are refused for the one reason, they are for the other with those that tokens say.
+-- If values are refused for the one reason, they are for the other with those of the tokens.
 abbrev pub RefusesOn : List Token → LineRefusal → LineRefusal → Type 0
 RefusesOn ts refusal result =
     (xs : Tuple) → IsRefused (Some xs) refusal → IsRefused (onto xs (all_of literal_of ts)) result
@@ -103,17 +103,16 @@ abbrev pub named_with : {A : Type 0} → Bytes → Result A LineRefusal → Tupl
 named_with name (Ok a) row = Ok (name, row)
 named_with name (Err refusal) row = Err refusal
 
--- Where a keyword and a name are in front of a line, and then the integers of a row, the row is completed by what is
--- behind them.
+-- If a line begins with a keyword and a name, and then the integers of a row, the row is completed by what follows
+-- them.
 abbrev pub ReadsOthers : {A : Type 0} → Bytes → List Token → Tuple → Result A LineRefusal → Tuple → Type 0
 ReadsOthers line ts row result new =
     (verb : RowWord) (named values : List Token) (name : Bytes) → TakesRowWord (tokens line) (Some verb) named
     → named ≡ word name ∷ values → is_name name ≡ true → ReadsNumbers values [] ts row
     → ReadsAs (λ p. list_all is_small_value p.1) (named_in line named) (named_with name result new)
 
--- What reading the line of a row answers, where these values are left: it is read as any line is. Of
--- a line that is refused it is told with which keyword it begins. A line that begins with another word
--- is told apart, and the values stay.
+-- The answer of reading the line of a row, if these values are left: it is read as any line is. Of a line that is
+-- refused its keyword is reported. A line that begins with another word is reported apart, and the values stay.
 abbrev pub ReadsRow : Bytes → RowLine → Tuple → Tuple → Type 0
 ReadsRow line (Add name) old new = LineReadsAs line (Ok (AddRow name.now new))
 ReadsRow line (Del name) old new = LineReadsAs line (Ok (DeleteRow name.now new))

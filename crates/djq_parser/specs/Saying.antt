@@ -1,4 +1,4 @@
--- What tokens say a command: the grammar as a relation, told without reading.
+-- The tokens of a command: the grammar as a relation, stated without reading.
 use Rattle.std.specs.Prelude.{◌≡◌, ℕ, ℤ, pos, ◌-◌, ◌+◌, ◌*◌, ◌^◌, ◌<◌, ◌≤◌, ◌⊎◌, neg_ℤ, List, [], ◌∷◌, ◌++◌, true, codes, length, min, None, Some}
 use Rattle.std.specs.List.{AllZip, list_all}
 use Rattle.djq_model.specs.Data.{Bytes, Tuple}
@@ -54,29 +54,29 @@ abbrev pub IsInteger : Bytes → ℤ → Type 0
 IsInteger w i = ((n : ℕ) × IsNumeral w n × (i ≡ pos n)) ⊎
     ((ds : Bytes) × (n : ℕ) × (w ≡ codes "-" ++ ds) × IsNumeral ds n × (i ≡ neg_ℤ (pos n)))
 
--- Which token says an item.
+-- The token of each item.
 
--- a name is said by itself, as a word
+-- a name is written as itself, as a word
 abbrev pub SaysName : Bytes → Token → Type 0
 SaysName n t = IsName n × (t ≡ word n)
 
--- a column's type is said by the word `int` or `text`
+-- a column's type is written as the word `int` or `text`
 abbrev pub SaysType : ColumnType → Token → Type 0
 SaysType IntColumn t = t ≡ word (codes "int")
 SaysType TextColumn t = t ≡ word (codes "text")
 
--- an integer is said by a word that denotes it, a text by a token of its bytes
+-- an integer is written as a word that denotes it, a text by a token of its bytes
 abbrev pub SaysValue : Value → Token → Type 0
 SaysValue (Int i) t = (w : Bytes) × (t ≡ word w) × IsInteger w i
 SaysValue (Text s) t = t ≡ text s
 
--- a variable is said by its name, a hole by `_`, and a constant as a value is
+-- a variable is written as its name, a hole by `_`, and a constant as a value is
 abbrev pub SaysTerm : Term → Token → Type 0
 SaysTerm (Variable x) t = SaysName x t
 SaysTerm Hole t = t ≡ word (codes "_")
 SaysTerm (Constant v) t = SaysValue v t
 
--- the tokens of a list behind its first item, with its `)`
+-- the tokens of a list after its first item, with its `)`
 abbrev pub more_tokens : List Token → List Token
 more_tokens [] = close_paren ∷ []
 more_tokens (u ∷ us) = comma ∷ u ∷ more_tokens us
@@ -97,12 +97,12 @@ SaysComparison c ts =
     (t : Token) × IsName c.variable × SaysValue c.constant t
     × (ts ≡ word c.variable ∷ operator c.operator ∷ t ∷ [])
 
--- an item that stands behind so many atoms: an atom, or a comparison that keeps this number
+-- an item after so many atoms: an atom, or a comparison that stores this number
 abbrev pub SaysItem : ℕ → Item → List Token → Type 0
 SaysItem n (atom a) ts = SaysAtom a ts
 SaysItem n (comparison c) ts = SaysComparison c ts × (c.behind ≡ n)
 
--- items, one at least, with commas between, behind so many atoms; an atom counts for what is behind it
+-- items, one at least, with commas between, after so many atoms; an atom counts for what follows it
 abbrev pub SaysItems : ℕ → List Item → List Token → Type 0
 SaysItems n [] ts = ⊥
 SaysItems n (i ∷ []) ts = SaysItem n i ts
@@ -142,7 +142,7 @@ SaysOne keyword n ts = IsName n × (ts ≡ word keyword ∷ word n ∷ [])
 abbrev pub SaysRow : Bytes → Bytes → Tuple → List Token → Type 0
 SaysRow keyword n vs ts = (us : List Token) × IsName n × AllZip SaysValue vs us × (ts ≡ word keyword ∷ word n ∷ us)
 
--- the tokens that say a command
+-- the tokens of a command
 abbrev pub SaysCommand : Command → List Token → Type 0
 SaysCommand (Rel n cs) ts = (us : List Token) × IsName n × (0 < length cs) × AllZip SaysType cs us
     × (ts ≡ word (codes "rel") ∷ word n ∷ us)

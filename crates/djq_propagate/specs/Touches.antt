@@ -1,4 +1,4 @@
--- Tuples are marked where they stand.
+-- Tuples are marked in place.
 use Rattle.std.specs.Prelude.{◌≡◌, ◌≢◌, ℕ, ◌+◌, ◌*◌, ◌<◌, ◌≤◌, Bool, true, false, cond, ◌==◌, List, [], ◌∷◌, length}
 use Rattle.djq_index.specs.Tuple.{same, pick, one_if}
 use Rattle.djq_index.specs.Entries.{Entry, supports_of, count_of, group_size, group_of, marks, plain}
@@ -20,8 +20,8 @@ pub record IsTouched (t : Tree) (old new : List Table) (k : ℕ) (f : List ℕ �
   pub comes : (v : List ℕ) → 0 < count_of (entries_at old k) v → 0 < f v → 0 < count_of (marks (entries_at new k)) v
   pub only : (v : List ℕ) → 0 < count_of (marks (entries_at new k)) v → 0 < count_of (marks (entries_at old k)) v + f v
 
--- whether a trim's tuple with so many unmarked ones of its child is to be marked: where tuples are to go,
--- only if all of them are
+-- whether a trim's tuple with so many unmarked ones of its child is to be marked: if tuples are to be
+-- removed, only if all of them are
 unfoldable pub is_marked_by : Bool → ℕ → Bool
 is_marked_by false n = true
 is_marked_by true n = n == 0
@@ -72,7 +72,7 @@ pub record IsTouchedUp (t : Tree) (old new : List Table) (a : ℕ) : Type 0 wher
 pub record IsCovered (n : Node) (ts : List Table) (j k : ℕ) : Type 0 where
   pub each : (w : List ℕ) → 0 < count_of (marks (entries_at ts k)) w → 0 < agreeing n j ts (marks (entries_at ts j)) w
 
--- marks can be made along the path from the leaf a: those that stand above it follow from marks below, and
+-- marks can be made along the path from the leaf a: those above it follow from marks below, and
 -- before a removal there are none above it
 pub record CanWalk (t : Tree) (ts : List Table) (a : ℕ) (removal : Bool) : Type 0 where
   pub reduced : AreReduced t ts 0

@@ -12,7 +12,7 @@ use Rattle.djq_reduct.specs.Marks.{on_path, IsOff, IsBare, AreMarks, IsWithout}
 use Rattle.djq_propagate.specs.Walks.{Fewer}
 use Rattle.djq_propagate.specs.Touches.{HaveMarksOnlyAt}
 
--- the tuple u came to the leaf a, and is the marked one there
+-- the tuple u was inserted into the leaf a, and is the marked one there
 pub record HasInserted (old new : Reducts) (a : ℕ) (u : List ℕ) : Type 0 where
   pub sound : IsReducts new
   pub without : IsWithout new old a
@@ -39,7 +39,7 @@ pub record HasMarkedMore (old new : Reducts) (a : ℕ) (u : List ℕ) : Type 0 w
       → length (marks (entries_at old.tables a)) + 1 ≤ length (marks (entries_at new.tables a))
   pub only : HaveMarksOnlyAt new.tables a
 
--- what goes with the marked tuples of the leaf a is marked, and all tables hold what they held
+-- what depends on the marked tuples of the leaf a is marked, and all tables hold what they held
 pub record HasMarkedAbove (old new : Reducts) (a : ℕ) : Type 0 where
   pub sound : IsReducts new
   pub tree : new.tree ≡ old.tree
@@ -55,13 +55,13 @@ pub record HasKept (old new : Reducts) : Type 0 where
   pub tables : SameTables old new
   pub bare : IsBare new.tables
 
--- the marked tuples of the leaf a went, and no mark is left
+-- the marked tuples of the leaf a were removed, and no mark is left
 pub record HasDropped (old new : Reducts) (a : ℕ) : Type 0 where
   pub sound : IsReducts new
   pub without : IsWithout old new a
   pub bare : IsBare new.tables
 
--- the tuple u came to the leaf a, each other leaf holds what it held, and no tuple is marked
+-- the tuple u was inserted into the leaf a, each other leaf holds what it held, and no tuple is marked
 pub record HasGained (old new : Reducts) (a : ℕ) (u : List ℕ) : Type 0 where
   pub sound : IsReducts new
   pub tree : new.tree ≡ old.tree
@@ -71,7 +71,7 @@ pub record HasGained (old new : Reducts) (a : ℕ) (u : List ℕ) : Type 0 where
       ≡ count_of (entries_at old.tables j) v
   pub bare : IsBare new.tables
 
--- the tuple u went from the leaf a, each other leaf holds what it held, and no tuple is marked
+-- the tuple u was deleted from the leaf a, each other leaf holds what it held, and no tuple is marked
 pub record HasLost (old new : Reducts) (a : ℕ) (u : List ℕ) : Type 0 where
   pub sound : IsReducts new
   pub tree : new.tree ≡ old.tree
@@ -81,7 +81,7 @@ pub record HasLost (old new : Reducts) (a : ℕ) (u : List ℕ) : Type 0 where
       ≡ count_of (entries_at old.tables j) v
   pub bare : IsBare new.tables
 
--- the marked tuples of the leaf a went from its table, and from those above what stood by them
+-- the marked tuples of the leaf a were removed from its table, and from those above what depended on them
 pub record HasTaken (old new : Reducts) (a : ℕ) : Type 0 where
   pub sound : IsReducts new
   pub without : IsWithout old new a

@@ -35,7 +35,7 @@ pub record InsertedUpwards (t : Tree) (old new : List Table) (j : ℕ) (u : List
   pub below : (i : ℕ) → IsBelowParent t j i → entries_at new i ≡ entries_at old i
   pub reduced : AreReduced t new (j + 1)
 
--- the node j has lost the tuple u, and those above it what it took away
+-- the node j has lost the tuple u, and those above it what depended on it
 pub record RemovedUpwards (t : Tree) (old new : List Table) (j : ℕ) (u : List ℕ) : Type 0 where
   pub family : IsFamily t new
   pub loses : Removed (entries_at old j) (entries_at new j) u
@@ -53,16 +53,14 @@ pub record ChangedOnlyAt (t : Tree) (was now : List Table) (j : ℕ) : Type 0 wh
   pub ready : Ready t was j
   pub changed : ChangedOneTable was now j
 
--- the table of the node j has gained the tuple u, and those above it were right before
--- the node j has just gained the tuple u, and those above it have nothing of what it brings
+-- the node j has just gained the tuple u: those above it were right before, and have nothing yet of what follows from it
 pub record Gaining (t : Tree) (now : List Table) (j : ℕ) (u : List ℕ) : Type 0 where
   pub was : List Table
   pub began : ChangedOnlyAt t was now j
   pub mark : Bool
   pub gains : InsertedAs mark (key_at was j) (entries_at was j) (entries_at now j) u
 
--- the table of the node j has lost the tuple u, and those above it were right before
--- the node j has just lost the tuple u, and those above it still have what it takes away
+-- the node j has just lost the tuple u: those above it were right before, and still have what depends on it
 pub record Losing (t : Tree) (now : List Table) (j : ℕ) (u : List ℕ) : Type 0 where
   pub was : List Table
   pub began : ChangedOnlyAt t was now j
@@ -99,7 +97,7 @@ pub record IsGrown (t : Tree) (old new : List Table) (k : ℕ) (es : List Entry)
   pub came : (v : List ℕ) → supports_of (entries_at new k) v ≡ supports_of (entries_at old k) v + count_of es v
   pub reduced : AreReduced t new (k + 1)
 
--- the node k has lost the tuples of es, which had one support each, and those above it what they took away
+-- the node k has lost the tuples of es, which had one support each, and those above it what depended on them
 pub record IsEmptied (t : Tree) (old new : List Table) (k : ℕ) (es : List Entry) : Type 0 where
   pub family : IsFamily t new
   pub low : (i : ℕ) → i < k → entries_at new i ≡ entries_at old i
@@ -111,24 +109,24 @@ abbrev pub unlike : Bool → List Entry → List Entry
 unlike true es = plain es
 unlike false es = marks es
 
--- what came has this mark, and no mark changed
+-- what was inserted has this mark, and no mark changed
 pub record CameAs (mark : Bool) (old new : List Table) : Type 0 where
   pub same : (i : ℕ) (v : List ℕ) → count_of (unlike mark (entries_at new i)) v ≡ count_of
       (unlike mark (entries_at old i)) v
 
--- tuples went, none came, and no mark changed
+-- tuples were removed, none was inserted, and no mark changed
 pub record Fewer (old new : List Table) : Type 0 where
   pub unmarked : (i : ℕ) (v : List ℕ) → count_of (plain (entries_at new i)) v ≤ count_of (plain (entries_at old i)) v
   pub marked : (i : ℕ) (v : List ℕ) → count_of (marks (entries_at new i)) v ≤ count_of (marks (entries_at old i)) v
 
--- what stood by a tuple that the node j lost went from the tables above, at a count that went from before to after
+-- what depended on a tuple that the node j lost was removed from the tables above, at a count that rose from before to after
 pub record RemovedAbove (t : Tree) (old new : List Table) (j before after : ℕ) : Type 0 where
   pub righted : ReducedAbove t old new j
   pub fewer : Fewer old new
   pub counted : after + 5 * size new ≤ before + 2 + 5 * size old
 
--- what a tuple that the node j gained brings came to the tables above with this mark, or was refused and taken back,
--- at a count that went from before to after
+-- what follows from a tuple that the node j gained was inserted into the tables above with this mark, or was refused
+-- and undone, at a count that rose from before to after
 pub record InsertedAbove {A E : Type 0} (t : Tree) (old new : List Table) (j : ℕ) (mark : Bool) (r : Result A E)
     (before after : ℕ) : Type 0 where
   pub ok : IfOk r (λ _. ReducedAbove t old new j)

@@ -15,6 +15,6 @@ clashes_with x c (Variable y) d = bytes_eq y x && not (same_type d c)
 clashes_with x c Hole d = false
 clashes_with x c (Constant v) d = false
 
--- a term whose variable stands at a column of another type
+-- a term whose variable is at a column of another type
 unfoldable pub mixes : List Relation → List Atom → Term → ColumnType → Bool
 mixes relations atoms t c = any_place (is_clash t c) relations atoms

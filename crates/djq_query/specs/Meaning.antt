@@ -1,4 +1,4 @@
--- What the numbers of a query mean, said without the way in which they are given out.
+-- The meaning of a query's numbers, stated without the way in which they are given out.
 use Rattle.std.specs.Prelude.{ℕ, ◌+◌, ◌≤◌, List, [], ◌∷◌, ◌++◌, ◌≡◌, None, Some, map, slice_get}
 use Rattle.djq_model.specs.declared.relation.Relation.{Relation}
 use Rattle.djq_model.specs.declared.query.Query.{Query}
@@ -15,8 +15,8 @@ use Rattle.djq_query.specs.declared.numbered.NumberedAtom.{NumberedAtom}
 use Rattle.djq_query.specs.declared.numbered.NumberedComparison.{NumberedComparison}
 use Rattle.djq_query.specs.Numbered.{Numbered, IsNumbered, labels, number_of}
 
--- A term and the term that stands for it: a name's number has that name, a hole's has none, and a
--- constant is itself.
+-- A term and its term by number: a name's number has that name, a hole's has none, and a constant is
+-- itself.
 abbrev pub TermIsShown : List Label → Term → NumberedTerm → Type 0
 TermIsShown ls (Named x) (Number k) = slice_get ls k ≡ Some (Some x)
 TermIsShown ls Hole (Number k) = slice_get ls k ≡ Some None
@@ -41,7 +41,7 @@ AreAtomsShown rs ls (a ∷ atoms) (n ∷ ns) =
 AreAtomsShown rs ls [] (n ∷ ns) = ⊥
 AreAtomsShown rs ls (a ∷ atoms) [] = ⊥
 
--- A comparison and the one that stands for it: its number has the variable's name, and the operator
+-- A comparison and its comparison by number: its number has the variable's name, and the operator
 -- and the constant are the same.
 pub record IsComparisonShown (ls : List Label) (c : Comparison) (n : NumberedComparison) : Type 0
   where
@@ -78,8 +78,8 @@ unfoldable pub Rise : ℕ → List ℕ → Type 0
 Rise from [] = Unit {0}
 Rise from (k ∷ ks) = (from ≤ k) × Rise (k + 1) ks
 
--- The numbers stand for the query: its variables are those of its body in the order in which they
--- first stand; term by term, each name has one number, each hole has one of its own, each comparison
+-- The numbers represent the query: its variables are those of its body in the order in which they
+-- first occur; term by term, each name has one number, each hole has one of its own, each comparison
 -- is of the number of its variable, and the head's numbers have the head's names.
 pub record QueryIsShown (rs : List Relation) (q : Query) (n : Numbered) : Type 0 where
   pub variables : labels n.variables ≡ variables_of q.atoms
@@ -90,7 +90,7 @@ pub record QueryIsShown (rs : List Relation) (q : Query) (n : Numbered) : Type 0
   pub fresh : Rise 0 (holes_in q.atoms n.atoms)
   pub head : map (slice_get (labels n.variables)) n.head ≡ map (λ x. Some (Some x)) q.head
 
--- The numbers of a query without a fault stand for it.
+-- The numbers of a query without a fault represent it.
 abbrev pub NumbersAreShown : Type 0
 NumbersAreShown = (rs : List Relation) (q : Query) (n : Numbered) → query_fault rs q ≡ None → IsNumbered rs q n
     → QueryIsShown rs q n

@@ -33,13 +33,13 @@ pub record Numbered : Type 0 where
 abbrev pub labels : List Variable → List Label
 labels known = map (λ v. v.name) known
 
--- a term by number, where these variables are known in front of it
+-- a term by number, if these variables are known before it
 abbrev pub numbered : List Label → Term → NumberedTerm
 numbered known (Named x) = Number (number_of known x)
 numbered known Hole = Number (length known)
 numbered known (Constant v) = Fixed v
 
--- terms by number, where these are known in front of them
+-- terms by number, if these are known before them
 unfoldable pub numbered_terms : List Label → List Term → List NumberedTerm
 numbered_terms known [] = []
 numbered_terms known (t ∷ ts) = numbered known t ∷ numbered_terms (with_term known t) ts
@@ -49,7 +49,7 @@ abbrev pub IsNumberedAtom : List Relation → List Label → Atom → NumberedAt
 IsNumberedAtom relations known a n =
     (slice_get relations n.relation ≡ relation_of relations a.relation) × (n.terms ≡ numbered_terms known a.terms)
 
--- Atoms by number, one by one, where these variables are known in front of them.
+-- Atoms by number, one by one, if these variables are known before them.
 unfoldable pub AreNumbered : List Relation → List Label → List Atom → List NumberedAtom → Type 0
 AreNumbered relations known [] [] = Unit {0}
 AreNumbered relations known (a ∷ atoms) (n ∷ ns) =
@@ -57,22 +57,22 @@ AreNumbered relations known (a ∷ atoms) (n ∷ ns) =
 AreNumbered relations known [] (n ∷ ns) = ⊥
 AreNumbered relations known (a ∷ atoms) [] = ⊥
 
--- The variables with their types: that of the column where each first stands.
+-- The variables with their types: that of the column of each one's first place.
 
--- the variables that are known behind a term in a column of this type
+-- the variables that are known after a term in a column of this type
 unfoldable pub with_place : List Variable → Term → ColumnType → List Variable
 with_place known (Named x) c =
     if is_known (labels known) x then known else known ++ record { name = Some x; column = c } ∷ []
 with_place known Hole c = known ++ record { name = None; column = c } ∷ []
 with_place known (Constant v) c = known
 
--- the variables that are known behind terms in columns of these types
+-- the variables that are known after terms in columns of these types
 unfoldable pub with_places : List Variable → List Term → List ColumnType → List Variable
 with_places known [] cs = known
 with_places known (t ∷ ts) [] = known
 with_places known (t ∷ ts) (c ∷ cs) = with_places (with_place known t c) ts cs
 
--- the variables that are known behind an atom, with their types
+-- the variables that are known after an atom, with their types
 abbrev pub with_columns : List Relation → List Variable → Atom → List Variable
 with_columns relations known a = with_places known a.terms (columns_of relations a.relation)
 

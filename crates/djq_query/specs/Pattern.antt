@@ -22,7 +22,7 @@ use Rattle.djq_query.specs.declared.pattern.Slot.{Slot}
 use Rattle.djq_query.specs.declared.pattern.Slot.TheVariants.{Place, Cell}
 use Rattle.djq_index.specs.declared.cells.TheConstants.{CELLS}
 
--- how many variables there are, what stands at each column, and what has to hold of the variables
+-- how many variables there are, the slot of each column, and what has to hold of the variables
 pub record Shape : Type 0 where
   pub width : ℕ
   pub slots : List Slot
@@ -41,7 +41,7 @@ filled u slots = map (cell_of u) slots
 abbrev pub integer : ℕ → ℤ
 integer cell = cast_signed w64 cell
 
--- Whether a cell stands to a constant's cell as the operator says. Equal values have equal cells; an
+-- Whether an operator holds of a cell and a constant's cell. Equal values have equal cells; an
 -- order is that of the cells' integers.
 abbrev pub passes : Operator → ℕ → ℕ → Bool
 passes Equal cell constant = cell == constant
@@ -62,7 +62,7 @@ pub record GivesRow (p : Shape) (u row : List ℕ) : Type 0 where
   pub fills : filled u p.slots ≡ row
   pub passes : All (Passes u) p.tests
 
--- a tuple with the cell of a row's column, where a variable stands at the column
+-- a tuple with the cell of a row's column, if the column has a variable
 unfoldable pub put_cell : List ℕ → Slot → ℕ → List ℕ
 put_cell u (Place p) c = slice_set u p c
 put_cell u (Cell d) c = u
@@ -84,7 +84,7 @@ pub record IsPattern (p : Shape) : Type 0 where
   pub all : (x : ℕ) → x < p.width → list_any (is_place x) p.slots ≡ true
   pub tested : list_all (λ t. nat_lt t.place p.width) p.tests ≡ true
 
--- A row of the atom is the tuple that gives it: the variables stand at its columns in their order.
+-- A row of the atom is the tuple that gives it: the variables are at its columns in their order.
 pub record IsPlain (width : ℕ) (slots : List Slot) : Type 0 where
   pub long : length slots ≡ width
   pub same : (u : List ℕ) → length u ≡ width → filled u slots ≡ u
@@ -94,20 +94,20 @@ pub record PatternIsMade (p : Shape) (plain : Bool) : Type 0 where
   pub pattern : IsPattern p
   pub straight : plain ≡ true → IsPlain p.width p.slots
 
--- What stands at the columns of an atom over these variables: the place of a variable among them,
--- and the cell of a constant.
+-- The slot of a column of an atom over these variables: the place of a variable among them, and the
+-- cell of a constant.
 unfoldable pub slot_of : List ℕ → NumberedTerm → ℕ → Slot
 slot_of label (Number x) c = Place (position_or_len (λ y. y == x) label)
 slot_of label (Fixed v) c = Cell c
 
--- what stands at the columns of these terms, one by one
+-- the slots of the columns of these terms, one by one
 unfoldable pub bound : List ℕ → List NumberedTerm → List ℕ → List Slot
 bound label [] cs = []
 bound label (t ∷ ts) [] = []
 bound label (t ∷ ts) (c ∷ cs) = slot_of label t c ∷ bound label ts cs
 
--- The test that a comparison is for a tuple over these variables, given its constant's cell: none
--- where its variable isn't among them.
+-- The test that a comparison is for a tuple over these variables, given its constant's cell: none if
+-- its variable isn't among them.
 unfoldable pub test_of : List ℕ → NumberedComparison → ℕ → List Test
 test_of label c cell =
     if member c.variable label then (record {

@@ -5,7 +5,7 @@ use Rattle.djq_model.specs.declared.relation.Relation.{Relation}
 use Rattle.djq_model.specs.Data.{Bytes, relation_of}
 use Rattle.djq_protocol.specs.Columns.{types_of}
 
--- The number of the relation of a name; none where no relation has it.
+-- The number of the relation of a name; none if no relation has it.
 abbrev pub IsId : List Relation → Bytes → Option ℕ → Type 0
 IsId relations name None = relation_of relations name ≡ None
 IsId relations name (Some id) =

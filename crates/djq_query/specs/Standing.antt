@@ -14,7 +14,7 @@ is_fresh before beside (Variable x) = not (stands_in before x || list_any (is_va
 is_fresh before beside Hole = true
 is_fresh before beside (Constant v) = false
 
--- a count that is exact up to the limit, and above the limit where there are more
+-- a count that is right up to the limit, and above the limit if there are more
 pub record CountsUpTo (number count : ℕ) : Type 0 where
   pub few : count ≤ VARIABLES → count ≡ number
   pub many : VARIABLES < count → VARIABLES < number

@@ -24,7 +24,7 @@ use Rattle.djq_store_spec.specs.Registering.{atoms_of}
 
 -- `has`
 
--- the type of the first column where a variable stands among the terms of an atom
+-- the type of the first column of a variable among the terms of an atom
 abbrev pub type_among : List ColumnType → List Term → Bytes → Option ColumnType
 type_among (c ∷ cs) (Variable y ∷ ts) x = if bytes_eq y x then Some c else type_among cs ts x
 type_among (c ∷ cs) (Hole ∷ ts) x = type_among cs ts x
@@ -32,8 +32,7 @@ type_among (c ∷ cs) (Constant v ∷ ts) x = type_among cs ts x
 type_among (c ∷ cs) [] x = None
 type_among [] ts x = None
 
--- the type of a variable: that of the first column of a body where it stands; each variable of a
--- head stands in one
+-- the type of a variable: that of its first column in a body; each variable of a head has one
 abbrev pub variable_type : List Relation → List Atom → Bytes → ColumnType
 variable_type relations [] x = IntColumn
 variable_type relations (a ∷ more) x =
@@ -58,7 +57,7 @@ misfit types t = first_refusal (
     ∷ (not (fits types t), WrongType)
     ∷ [])
 
--- why it isn't told whether a tuple is an answer
+-- why it isn't answered whether a tuple is an answer
 abbrev pub has_refusal : Store → Bytes → Tuple → Option Refusal
 has_refusal st name t =
     let types = listed_types st.relations (listed_of st.queries name) in first_refusal (
@@ -67,19 +66,19 @@ has_refusal st name t =
     ∷ (not (fits types t), WrongType)
     ∷ [])
 
--- Something holds or doesn't, as is told.
+-- An answer of yes or no is right: something holds or doesn't.
 abbrev pub Tells : Type 0 → Bool → Type 0
 Tells P true = P
 Tells P false = P → ⊥
 
--- Whether a tuple is an answer of a query is told. It takes no memory.
+-- It is answered whether a tuple is an answer of a query. That needs no memory.
 pub record TellsWhether (st : Store) (name : Bytes) (t : Tuple)
     (result : Result Bool Refusal) : Type 0 where
   pub answer : Answers (has_refusal st name t) result
       (λ yes. IsSomeAnd (listed_of st.queries name) (λ q. Tells (AnswersOf st.relations q t) yes))
       (OutOfMemoryWhere ⊥)
 
--- the most lookups that it takes: one for each atom, of a union of each of its members
+-- the most lookups that it costs: one for each atom, of a union of each of its members
 abbrev pub has_steps : Option Listed → ℕ
 has_steps None = 0
 has_steps (Some (a_query q)) = length q.atoms
@@ -87,8 +86,8 @@ has_steps (Some (a_union name qs)) = atoms_of qs
 
 -- `shape`
 
--- What is told of its updates, by what is registered: those of a query are flat exactly where the query
--- is, and those of a union are its members'.
+-- The answer of `shape`, by what is registered: the updates of a query are flat if and only if the
+-- query is, and those of a union are its members'.
 abbrev pub IsShapeOf : Listed → Shape → Type 0
 IsShapeOf (a_query q) Flat = IsFlat (edges_of q) (head_of q)
 IsShapeOf (a_query q) Linear = IsFlat (edges_of q) (head_of q) → ⊥
@@ -96,7 +95,7 @@ IsShapeOf (a_query q) Union = ⊥
 IsShapeOf (a_union name qs) Union = ⊤
 IsShapeOf (a_union name qs) _ = ⊥
 
--- The shape of what is registered is told. It takes no memory.
+-- The shape of what is registered is answered. That needs no memory.
 pub record TellsShape (st : Store) (name : Bytes) (result : Result Shape Refusal) : Type 0 where
   pub answer : Answers (first_refusal ((is_none (listed_of st.queries name), NoQuery) ∷ [])) result
       (λ shape. IsSomeAnd (listed_of st.queries name) (λ q. IsShapeOf q shape))

@@ -1,4 +1,4 @@
--- What a change of rows is, and what comes of a command that may make one.
+-- What a change of rows is, and the outcome of a command that may make one.
 use Rattle.std.specs.Prelude.{List, Bool, true, false, Option, None, Some, is_some, Result, Ok, Err}
 use Rattle.djq_model.specs.declared.relation.Relation.{Relation}
 use Rattle.djq_model.specs.declared.relation.CountedRow.{CountedRow}
@@ -20,8 +20,8 @@ pub record Halves : Type 0 where
   -- whether rows of a relation of this name are inserted and others deleted
   pub both : Bytes → Bool
 
--- What a change of rows is, of one relation or of several: rows come that weren't there, or go with
--- their last copy.
+-- What a change of rows is, of one relation or of several: rows are inserted that weren't there, or
+-- deleted with their last copy.
 pub record RowsChange : Type 0 where
   -- the relations after it
   pub after : List Relation
@@ -29,10 +29,10 @@ pub record RowsChange : Type 0 where
   pub outdater : Listed → Option Bytes
   -- whether it changes the rows of a relation of this name
   pub touches : Bytes → Bool
-  -- its halves, if rows may come and others go
+  -- its halves, if rows may be inserted and others deleted
   pub halves : Option Halves
 
--- the change of one relation, with the relations after it: rows come, or rows go
+-- the change of one relation, with the relations after it: rows are inserted, or rows are deleted
 abbrev pub one_change : Bytes → List Relation → RowsChange
 one_change name after = record {
   after = after;
@@ -45,31 +45,31 @@ one_change name after = record {
 abbrev pub new_rows : List Relation → Bytes → List CountedRow → RowsChange
 new_rows relations name rows = one_change name (with_rows relations name rows)
 
--- the change by which a row comes
+-- the change by which a row is inserted
 abbrev pub row_in : List Relation → Bytes → Tuple → RowsChange
 row_in relations name row = new_rows relations name (with_row (counted_of relations name) row)
 
--- the change by which a row goes, with all its copies
+-- the change by which a row is deleted, with all its copies
 abbrev pub row_out : List Relation → Bytes → Tuple → RowsChange
 row_out relations name row = new_rows relations name (without_copies (counted_of relations name) row)
 
--- What comes of a command that may change rows.
+-- The outcome of a command that may change rows.
 pub data RowsOutcome : Type 0 where
   -- they change so
   accepted : RowsChange → RowsOutcome
   -- they were to change so, and memory was refused once the line was read
   out_of_memory : RowsChange → RowsOutcome
-  -- no row was to come or go, or the command was refused before
+  -- no row was to be inserted or deleted, or the command was refused before
   unchanged : RowsOutcome
 
--- A row that came is a change; a further copy of one is none.
+-- A row that was inserted is a change; a further copy of one is none.
 abbrev pub add_outcome : RowsChange → Result AddOutcome Refusal → RowsOutcome
 add_outcome change (Ok First) = accepted change
 add_outcome change (Ok (More copies)) = unchanged
 add_outcome change (Err NoMemory) = out_of_memory change
 add_outcome change (Err _) = unchanged
 
--- A row whose last copy went is one, and a row goes without memory.
+-- A row whose last copy was deleted is one, and a row is deleted without memory.
 abbrev pub delete_outcome : RowsChange → Result DeleteOutcome Refusal → RowsOutcome
 delete_outcome change (Ok Last) = accepted change
 delete_outcome change (Ok (Left copies)) = unchanged

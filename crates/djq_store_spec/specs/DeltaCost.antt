@@ -28,8 +28,8 @@ pub record Delta : Type 0 where
 abbrev pub is_touched : RowsChange → Query → Bool
 is_touched change q = list_any (λ a. change.touches a.relation) q.atoms
 
--- So many answers of a query were listed: those that came with the rows that are inserted, and those that went with the
--- rows that are deleted.
+-- So many answers of a query were listed: those added by the rows that are inserted, and those removed by the rows that
+-- are deleted.
 pub record ListsHalves (before mid after : List Relation) (q : Query) (listed : ℕ) : Type 0 where
   pub came : List Change
   pub went : List Change
@@ -37,7 +37,7 @@ pub record ListsHalves (before mid after : List Relation) (q : Query) (listed : 
   pub deletes : IsDelta (IsAnswer mid q) (IsAnswer after q) went
   pub count : listed ≡ length came + length went
 
--- So many answers of a query were listed, of which these changed: no others, if rows only come or only go.
+-- So many answers of a query were listed, of which these changed: no others, if rows are only inserted or only deleted.
 abbrev pub ListsAnswers : List Relation → RowsChange → Query → List Change → ℕ → Type 0
 ListsAnswers before change q changes listed = MatchOption change.halves
     (listed ≡ length changes) (λ h. ListsHalves before h.mid change.after q listed)
@@ -66,20 +66,21 @@ pub record AreDeltas (before : List Relation) (change : RowsChange) (queries : L
   pub have_parts : All (ArePartsOf before change) deltas
   pub list : All (ListsDelta before change) deltas
 
--- The deltas of the queries that a change affects, made or only tried; none where there was none.
+-- The deltas of the queries that a change affects, made or only tried; none if there was none.
 abbrev pub ListsDeltas : List Relation → (RowsChange → List Listed) → Option RowsChange → List Delta
     → Type 0
 ListsDeltas before affected None deltas = deltas ≡ []
 ListsDeltas before affected (Some change) deltas =
     AreDeltas before change (affected change) deltas
 
--- how many atoms of a query are over a relation of which rows come and others go
+-- how many atoms of a query are over a relation of which rows are inserted and others deleted
 abbrev pub atoms_both : Option Halves → Query → ℕ
 atoms_both None q = 0
 atoms_both (Some h) q = length (filter (λ a. h.both a.relation) q.atoms)
 
--- The most lookups and links that listing this many answers of a query takes: as many as an answer for each of them;
--- for each atom over a relation that changes; and again for each atom over one of which rows come and others go.
+-- The most lookups and links that listing this many answers of a query costs: as many as an answer for each of them;
+-- for each atom over a relation that changes; and again for each atom over one of which rows are inserted and others
+-- deleted.
 abbrev pub changes_steps : RowsChange → Query → ℕ → ℕ
 changes_steps change q count =
     (count + length (filter (λ a. change.touches a.relation) q.atoms) + atoms_both change.halves q)
@@ -91,16 +92,16 @@ parts_steps change asking [] = 0
 parts_steps change asking (p ∷ ps) = changes_steps change p.query p.listed
     + p.listed * asking + parts_steps change asking ps
 
--- the most that listing a delta takes, by whose it is
+-- the most that listing a delta costs, by whose it is
 abbrev pub listed_steps : RowsChange → Listed → ℕ → List Part → ℕ
 listed_steps change (a_query q) count parts = changes_steps change q count
 listed_steps change (a_union name qs) count parts = parts_steps change (atoms_of qs) parts
 
--- the most that listing this delta takes
+-- the most that listing this delta costs
 abbrev pub delta_steps : RowsChange → Delta → ℕ
 delta_steps change d = listed_steps change d.query d.listed d.parts
 
--- the most that listing all of them takes
+-- the most that listing all of them costs
 abbrev pub deltas_steps : Option RowsChange → List Delta → ℕ
 deltas_steps None deltas = 0
 deltas_steps (Some change) deltas = sum_by (delta_steps change) deltas

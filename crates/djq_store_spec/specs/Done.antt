@@ -12,16 +12,16 @@ use Rattle.djq_protocol.specs.declared.held.DoneRefusal.TheVariants.{OtherNumber
 use Rattle.djq_store_spec.specs.Lines.{lines_come, lines_go, line_comes, line_goes}
 use Rattle.djq_store_spec.specs.Judging.{UnlessMemory, RefusesLines, lines_refusal, texts_after}
 
--- how many rows come and go
+-- how many rows are inserted and deleted
 abbrev pub rows_changed : List Relation → List HeldLine → ℕ
 rows_changed relations lines = length (lines_come relations lines) + length (lines_go relations lines)
 
--- whether a row of a relation of this name comes or goes
+-- whether a row of a relation of this name is inserted or deleted
 abbrev pub has_changed : List Relation → List HeldLine → Bytes → Bool
 has_changed relations lines name = list_any
     (λ h. bytes_eq h.relation name && (line_comes relations lines h || line_goes relations lines h)) lines
 
--- the number of changes after `done`: where rows come or go it is one more
+-- the number of changes after `done`: one more if rows are inserted or deleted
 abbrev pub seq_after : List Relation → ℕ → List HeldLine → ℕ
 seq_after relations seq lines = if nat_lt 0 (rows_changed relations lines) then seq + 1 else seq
 
@@ -45,7 +45,7 @@ done_refusal relations texts seq lines given =
     (option_or (option_map (λ r. Line r) (lines_refusal relations texts lines))
     (seq_refusal relations seq lines))
 
--- `done` is answered by its refusal, and done exactly if it has none. But memory may be refused: at a line, if its
+-- `done` is answered by its refusal, and done if it has none. But memory may be refused: at a line, if its
 -- number isn't another; or once all has passed.
 abbrev pub AnswersDone : {A : Type 0} → Bool → Option DoneRefusal → Result A DoneRefusal → Type 0
 AnswersDone other refusal (Ok a) = refusal ≡ None

@@ -14,7 +14,7 @@ pub record HeldLine : Type 0 where
   pub relation : Bytes
   pub row : Tuple
 
--- the lines that a transaction holds, and their bytes as they came
+-- the lines that a transaction holds, and their bytes as they arrived
 pub record HeldTransaction : Type 0 where
   pub lines : List HeldLine
   pub logged : List Bytes
@@ -30,7 +30,7 @@ holding t verb name row l = record {
   logged = t.logged ++ l ∷ [];
 }
 
--- the line that says that lines which a batch holds are dropped, if it holds any
+-- the line that reports that lines which a batch holds are dropped, if it holds any
 abbrev pub lost_line : Option HeldTransaction → Bytes
 lost_line None = []
 lost_line (Some held) = lost_of held.lines
@@ -44,7 +44,7 @@ abbrev pub has_room : HeldTransaction → ℕ → Bool
 has_room t line = nat_lt (length t.lines) HELD
     && nat_le (sum_by (λ l. length l) t.logged + line) HELD_BYTES
 
--- what stands for a line past the last one
+-- a line in place of one past the last
 abbrev pub no_line : HeldLine
 no_line = record { verb = Add; relation = []; row = [] }
 

@@ -69,7 +69,7 @@ line_refusal relations texts front h =
 abbrev pub refused_at : ℕ → Option LineRefusal → Option RefusedLine
 refused_at at refusal = option_map (λ r. record { at = at; refusal = r }) refusal
 
--- the first line that has a refusal, of lines that stand behind others
+-- the first line that has a refusal, of lines that follow others
 abbrev pub refusal_behind : List Relation → List Bytes → List HeldLine → List HeldLine → Option RefusedLine
 refusal_behind relations texts front [] = None
 refusal_behind relations texts front (h ∷ rest) =
@@ -86,14 +86,14 @@ UnlessMemory Limit holds = holds
 UnlessMemory Absent holds = holds
 UnlessMemory NoMemory holds = ⊤
 
--- Lines are answered as the first that has a refusal: exactly if none has one they pass. But memory may be
+-- Lines are answered as the first that has a refusal: if none has one they pass. But memory may be
 -- refused at an earlier line.
 abbrev pub AnswersAs : {A : Type 0} → Option RefusedLine → Result A RefusedLine → Type 0
 AnswersAs refusal (Ok a) = refusal ≡ None
 AnswersAs refusal (Err r) = UnlessMemory r.refusal (refusal ≡ Some r)
 
--- Why lines go no further than one of them, before which these texts are known: its row has no place, or a
--- text of it finds none; or memory is refused, which is asked for only where no line before names the row.
+-- Why lines pass only up to one of them, before which these texts are known: its row has no place, or a
+-- text of it finds none; or memory is refused, which is asked for only if no line before names the row.
 -- The first of its texts have become known.
 abbrev pub StopsAtLine : List Relation → List HeldLine → List Bytes → HeldLine → List Bytes → LineRefusal
     → Type 0

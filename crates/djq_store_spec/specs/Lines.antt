@@ -37,7 +37,7 @@ abbrev pub copies_after : List Relation → List HeldLine → HeldLine → ℕ
 copies_after relations lines h =
     fold (λ n g. if same_row g h then after_verb g.verb n else n) (copies_before relations h) lines
 
--- A row comes if there was no copy of it and there is one; it goes the other way round.
+-- A row is inserted if there was no copy of it and there is one; it is deleted the other way round.
 abbrev pub line_comes : List Relation → List HeldLine → HeldLine → Bool
 line_comes relations lines h =
     (copies_before relations h == 0) && nat_lt 0 (copies_after relations lines h)
@@ -46,14 +46,14 @@ abbrev pub line_goes : List Relation → List HeldLine → HeldLine → Bool
 line_goes relations lines h =
     nat_lt 0 (copies_before relations h) && (copies_after relations lines h == 0)
 
--- the rows that come, and those that go, each by the line that names it first
+-- the rows that are inserted, and those that are deleted, each by the line that names it first
 abbrev pub lines_come : List Relation → List HeldLine → List HeldLine
 lines_come relations lines = filter (line_comes relations lines) (first_lines lines)
 
 abbrev pub lines_go : List Relation → List HeldLine → List HeldLine
 lines_go relations lines = filter (line_goes relations lines) (first_lines lines)
 
--- The rows with so many copies of one: without any it is gone, and if it wasn't there it is last.
+-- The rows with so many copies of one: without any it isn't there, and if it wasn't there it is last.
 abbrev pub with_so_many : List CountedRow → Tuple → ℕ → List CountedRow
 with_so_many rows row zero = without_copies rows row
 with_so_many rows row (suc n) =
@@ -65,7 +65,7 @@ abbrev pub with_copies_left : List Relation → List HeldLine → List Relation 
 with_copies_left relations lines now h = with_rows now h.relation
     (with_so_many (counted_of now h.relation) h.row (copies_after relations lines h))
 
--- The relations between: those before, with the rows that come.
+-- The relations between: those before, with the rows that are inserted.
 abbrev pub relations_between : List Relation → List HeldLine → List Relation
 relations_between relations lines = fold (with_copies_left relations lines) relations (lines_come relations lines)
 

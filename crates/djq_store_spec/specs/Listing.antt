@@ -13,8 +13,8 @@ IsLeft Answer given t = Answer t × (Contains given t → ⊥)
 abbrev pub AreAll : (Tuple → Type 0) → List Tuple → Type 0
 AreAll Answer ts = (t : Tuple) → Answer t → Contains ts t
 
--- These are told behind the answers that were given, at most as many as asked for; with the end
--- exactly where none is left, and else all that was asked for.
+-- These are listed after the answers that were given, at most as many as asked for; with the end if
+-- and only if none is left, and else all that was asked for.
 pub record TellsAnswers (Answer : Tuple → Type 0) (given : List Tuple) (count : ℕ)
     (told : List Tuple) (end : Bool) : Type 0 where
   pub answers : All Answer told

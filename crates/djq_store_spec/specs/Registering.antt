@@ -23,11 +23,11 @@ use Rattle.djq_store_spec.specs.Relations.{RefusedByTexts}
 
 -- `query`
 
--- why a query isn't registered: its name is taken, it has a fault, or there are too many
+-- why a query isn't registered: its name is in use, it has a fault, or there are too many
 abbrev pub query_refusal : Store → Query → Option Refusal
 query_refusal st q = whole_query_refusal st.relations st.queries q
 
--- the most lookups and links that one answer takes, and the end too, for as many head variables
+-- the most lookups and links that one answer costs, and the end too, for as many head variables
 abbrev pub most_steps : ℕ → ℕ
 most_steps h = 2 * h + 1
 
@@ -41,15 +41,15 @@ abbrev pub atoms_of : List Query → ℕ
 atoms_of [] = 0
 atoms_of (q ∷ qs) = length q.atoms + atoms_of qs
 
--- the most that one answer of what is registered takes, and the end too: of a union what each of its
--- members takes, and for each but the last a test of whether the others have it
+-- the most that one answer of what is registered costs, and the end too: of a union what each of its members
+-- costs, and for each but the last a test of whether the others have it
 abbrev pub answer_steps : Listed → ℕ
 answer_steps (a_query q) = most_steps (length q.head)
 answer_steps (a_union name qs) =
     length qs * most_steps (width_of qs) + (length qs - 1) * atoms_of qs
 
--- A free-connex query is registered behind the others, and its texts are known. Of another one a
--- rest is told that shows what it lacks, and nothing changes.
+-- A free-connex query is registered after the others, and its texts are known. Of another one a rest is returned
+-- that shows what it lacks, and nothing changes.
 abbrev pub RegistersAs : Store → Query → Store → QueryOutcome → Type 0
 RegistersAs old q new (Registered most) =
     IsFreeConnex (edges_of q) (head_of q)
@@ -65,7 +65,7 @@ RegistersAs old q new (NotConnex rest) =
     ((R : List (List ℕ)) × IsNotConnex (edges_of q) (head_of q) R × IsNamedRest q R rest)
     × (new ≡ old)
 
--- A query is refused late by its texts, which are asked for only where it is free-connex; or before
+-- A query is refused late by its texts, which are asked for only if it is free-connex; or before
 -- that is known, out of memory.
 abbrev pub RefusedLate : Store → Query → Store → Refusal → Type 0
 RefusedLate old q new r =
@@ -73,7 +73,7 @@ RefusedLate old q new r =
     × RefusedByTexts old (texts_in (constants_of q)) new r)
     ⊎ ((r ≡ NoMemory) × (new ≡ old))
 
--- A query is registered, or its rest is told; or it is refused, and nothing changes but the texts.
+-- A query is registered, or its rest is returned; or it is refused, and nothing changes but the texts.
 pub record RegistersQuery (old : Store) (q : Query) (result : Result QueryOutcome Refusal)
     (new : Store) : Type 0 where
   pub answer : Answers (query_refusal old q) result (RegistersAs old q new) (RefusedLate old q new)
@@ -92,8 +92,8 @@ drop_refusal st used name = first_refusal (
     ∷ (used || is_member st.queries name, InUse)
     ∷ [])
 
--- What isn't used, nor a member of a union, is registered no more, and the others stay in their order. It takes no
--- memory.
+-- What isn't used, nor a member of a union, is registered no more, and the others stay in their order. That needs
+-- no memory.
 pub record DropsQuery (old : Store) (used : Bool) (name : Bytes) (result : Result ⊤ Refusal)
     (new : Store) : Type 0 where
   pub answer : Answers (drop_refusal old used name) result

@@ -45,8 +45,8 @@ add_refusal st name row = let rows = rows_of st.relations name in first_refusal 
     ∷ (not (has_row rows row) && nat_le LAST_SEQ st.seq, Limit)
     ∷ [])
 
--- A row that isn't there goes in with one copy, as a further change, and its texts are known; one
--- that is there has a copy more, and nothing else changes.
+-- A row that isn't there is inserted with one copy, as a further change, and its texts are known;
+-- one that is there has a copy more, and nothing else changes.
 abbrev pub AddsAs : Store → Bytes → Tuple → Store → AddOutcome → Type 0
 AddsAs old name row new First =
     (has_row (rows_of old.relations name) row ≡ false)
@@ -75,8 +75,8 @@ delete_refusal st name row = first_refusal (row_refusals st name row
     ++ ((copies_of st name row == 1) && nat_le LAST_SEQ st.seq, Limit)
     ∷ [])
 
--- A row with one copy goes out, as a further change; one with several has a copy less, and nothing
--- else changes; one that isn't there changes nothing.
+-- A row with one copy is deleted, as a further change; one with several has a copy less, and
+-- nothing else changes; one that isn't there changes nothing.
 abbrev pub DeletesAs : Store → Bytes → Tuple → Store → DeleteOutcome → Type 0
 DeletesAs old name row new Last =
     (has_row (rows_of old.relations name) row ≡ true)
@@ -92,7 +92,7 @@ DeletesAs old name row new (Left copies) =
     × (new ≡ record old { relations = with_copies_of old.relations name row copies })
 DeletesAs old name row new Absent = (has_row (rows_of old.relations name) row ≡ false) × (new ≡ old)
 
--- Deleting takes no memory.
+-- Deleting needs no memory.
 pub record DeletesRow (old : Store) (name : Bytes) (row : Tuple)
     (result : Result DeleteOutcome Refusal) (new : Store) : Type 0 where
   pub answer : Answers (delete_refusal old name row) result (DeletesAs old name row new)

@@ -15,13 +15,13 @@ abbrev pub listed_reads : Listed → Bytes → Bool
 listed_reads (a_query q) relation = reads q relation
 listed_reads (a_union name qs) relation = list_any (λ q. reads q relation) qs
 
--- An open cursor that a relation outdates becomes stale by its change; a stale one keeps the change that made it so.
+-- An open cursor that a relation outdates becomes stale by its change; a stale one has still the change that made it so.
 abbrev pub outdated : Option Bytes → ℕ → Position → Position
 outdated None n p = p
 outdated (Some relation) n (open_at given ended) = stale relation n
 outdated (Some relation) n (stale r m) = stale r m
 
--- the relation that outdates the answers of a query of this name, where one does
+-- the relation that outdates the answers of a query of this name, if one does
 abbrev pub outdater_of : List Listed → (Listed → Option Bytes) → Bytes → Option Bytes
 outdater_of queries outdater name = outdater_in (listed_of queries name)
   where

@@ -1,10 +1,10 @@
--- What is kept of the data, whoever changes it, and how far a cursor has come.
+-- The data of a store, whoever changes it, and how far a cursor is.
 use Rattle.std.specs.Prelude.{ℕ, List, [], Bool}
 use Rattle.djq_model.specs.declared.relation.Relation.{Relation}
 use Rattle.djq_model.specs.Data.{Bytes, Tuple}
 use Rattle.djq_model.specs.Listed.{Listed}
 
--- What is kept of the data, whoever changes it.
+-- The data, whoever changes it.
 pub record Store : Type 0 where
   pub relations : List Relation
   -- the texts that are known
@@ -14,7 +14,7 @@ pub record Store : Type 0 where
   -- the number of accepted changes of rows
   pub seq : ℕ
 
--- How far a cursor has come.
+-- How far a cursor is.
 pub data Position : Type 0 where
   -- the answers that it has given, and whether it was answered `end` last
   open_at : List Tuple → Bool → Position

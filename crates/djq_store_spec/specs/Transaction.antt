@@ -31,7 +31,7 @@ abbrev pub hold_refusal : Store → HeldTransaction → Bytes → Bytes → Tupl
 hold_refusal st held l name row =
     first_refusal (row_refusals st name row ++ (not (has_room held (length l)), Limit) ∷ [])
 
--- Whether a row suits a relation is told. It takes no memory.
+-- It is answered whether a row suits a relation. That needs no memory.
 abbrev pub TellsSuits : Store → Bytes → Tuple → Result ⊤ Refusal → Type 0
 TellsSuits st name row result = Answers (suit_refusal st name row) result (λ _. ⊤) (OutOfMemoryWhere ⊥)
 
@@ -42,7 +42,7 @@ SuitAll st lines = All (λ h. suit_refusal st h.relation h.row ≡ None) lines
 -- `done`
 
 -- The store after all lines: their rows have the copies that they leave, the texts that they add are known, and if a
--- row came or went that is one change.
+-- row was inserted or deleted that is one change.
 abbrev pub store_after : Store → List HeldLine → Store
 store_after st lines = record st {
   relations = relations_after st.relations lines;
@@ -50,7 +50,7 @@ store_after st lines = record st {
   seq = seq_after st.relations st.seq lines;
 }
 
--- All lines are carried out, and the answer is how many rows came and went; or none is, and texts became known.
+-- All lines are carried out, and the answer is how many rows were inserted and deleted; or none is, and texts became known.
 abbrev pub CarriesOut : Store → List HeldLine → Result ℕ DoneRefusal → Store → Type 0
 CarriesOut old lines (Ok n) new = (n ≡ rows_changed old.relations lines) × (new ≡ store_after old lines)
 CarriesOut old lines (Err r) new =
@@ -61,7 +61,7 @@ abbrev pub HaveCopies : List Relation → List HeldLine → Type 0
 HaveCopies relations lines = All
     (λ h. has_row (rows_of relations h.relation) h.row ≡ true → 1 ≤ copies_before relations h) lines
 
--- `done` is refused exactly if it has a refusal, or for want of memory. The rows that are there have copies.
+-- `done` is refused if it has a refusal, or for want of memory, and for nothing else. The rows that are there have copies.
 pub record DoesAll (old : Store) (lines : List HeldLine) (given : Option ℕ) (result : Result ℕ DoneRefusal)
     (new : Store) : Type 0 where
   pub answer : AnswersDone (is_other given (length lines))
@@ -73,15 +73,15 @@ pub record DoesAll (old : Store) (lines : List HeldLine) (given : Option ℕ) (r
 abbrev pub first_read : List HeldLine → (Bytes → Bool) → Listed → Option Bytes
 first_read lines test q = find (λ name. test name && listed_reads q name) (map (λ (h : HeldLine). h.relation) lines)
 
--- whether a row of a relation of this name comes, and whether one goes
+-- whether a row of a relation of this name is inserted, and whether one is deleted
 abbrev pub has_inserted : List Relation → List HeldLine → Bytes → Bool
 has_inserted relations lines name = list_any (λ h. bytes_eq h.relation name && line_comes relations lines h) lines
 
 abbrev pub has_deleted : List Relation → List HeldLine → Bytes → Bool
 has_deleted relations lines name = list_any (λ h. bytes_eq h.relation name && line_goes relations lines h) lines
 
--- The change that lines are: of each relation of which a row comes or goes. It outdates a query by the first of them
--- that the query reads. Rows are inserted first, and then others are deleted.
+-- The change that lines are: of each relation of which a row is inserted or deleted. It outdates a query by the first
+-- of them that the query reads. Rows are inserted first, and then others are deleted.
 abbrev pub lines_change : List Relation → List HeldLine → RowsChange
 lines_change relations lines = record {
   after = relations_after relations lines;
@@ -94,7 +94,7 @@ lines_change relations lines = record {
 }
 
 -- The change that lines were to be, if memory was refused: none of their rows was deleted. It outdates a query by the
--- first relation that lines name and the query reads, whether a row of it comes or goes or not.
+-- first relation that lines name and the query reads, whether a row of it is inserted or deleted or not.
 abbrev pub lines_tried : List Relation → List HeldLine → RowsChange
 lines_tried relations lines = record {
   after = relations_between relations lines;
@@ -103,7 +103,8 @@ lines_tried relations lines = record {
   halves = None;
 }
 
--- What comes of `done`: rows that came or went are a change; lines that leave each row there or not there are none.
+-- The outcome of `done`: rows that were inserted or deleted are a change; lines that leave each row there or not there are
+-- none.
 abbrev pub lines_outcome : List Relation → List HeldLine → Result ℕ DoneRefusal → RowsOutcome
 lines_outcome relations lines (Ok zero) = unchanged
 lines_outcome relations lines (Ok (suc n)) = accepted (lines_change relations lines)

@@ -38,7 +38,7 @@ use Rattle.djq_protocol.specs.Conditions.{first_refusal, Answers, OutOfMemoryWhe
 use Rattle.djq_store_spec.specs.Registering.{answer_steps}
 use Rattle.djq_store_spec.specs.Asking.{listed_types}
 
--- whether a name stands among these twice
+-- whether a name occurs among these twice
 abbrev pub stands_twice : List Bytes → Bool
 stands_twice [] = false
 stands_twice (n ∷ ns) = list_any (λ m. bytes_eq m n) ns || stands_twice ns
@@ -81,7 +81,7 @@ union_refusal st name members = first_refusal (
 abbrev pub AreUnder : List Listed → List Bytes → List Query → Type 0
 AreUnder listed names qs = map (λ n. listed_of listed n) names ≡ map (λ q. Some (a_query q)) qs
 
--- A union is registered behind what is there, and it is told what its answers take; or nothing changes.
+-- A union is registered after what is there, and the cost of its answers is returned; or nothing changes.
 pub record RegistersUnion (old : Store) (name : Bytes) (members : List Bytes)
     (result : Result ℕ Refusal) (new : Store) : Type 0 where
   pub answer : Answers (union_refusal old name members) result
