@@ -1,4 +1,4 @@
--- Changes by which rows only come, or only go: what they do to answers.
+-- Changes by which rows are only inserted, or only deleted: what they do to answers.
 use Rattle.std.specs.Prelude.{List, ◌≡◌, ◌↔◌, false, All, Contains}
 use Rattle.djq_model.specs.declared.relation.Relation.{Relation}
 use Rattle.djq_model.specs.declared.query.Query.{Query}
@@ -15,27 +15,27 @@ abbrev pub HaveRows : List Relation → List Relation → Type 0
 HaveRows few many = (name : Bytes) (row : Tuple) → Contains (rows_of few name) row
     → Contains (rows_of many name) row
 
--- Where rows only come, an answer stays one.
+-- If rows are only inserted, an answer stays one.
 abbrev pub AnswersStay : Type 0
 AnswersStay = (few many : List Relation) (q : Listed) (t : Tuple) → HaveRows few many → AnswersOf few q t
     → AnswersOf many q t
 
--- Where rows only come, answers only come: each change of a delta is one that came.
+-- If rows are only inserted, answers are only added: each change of a delta is one that was added.
 abbrev pub AnswersCome : Type 0
 AnswersCome = (before after : List Relation) (q : Listed) (changes : List Change) → HaveRows before after
     → IsDelta (AnswersOf before q) (AnswersOf after q) changes → All (λ c. c.sign ≡ Came) changes
 
--- Where rows only go, answers only go.
+-- If rows are only deleted, answers are only removed.
 abbrev pub AnswersGo : Type 0
 AnswersGo = (before after : List Relation) (q : Listed) (changes : List Change) → HaveRows after before
     → IsDelta (AnswersOf before q) (AnswersOf after q) changes → All (λ c. c.sign ≡ Went) changes
 
--- By a row that comes, rows only come.
+-- By a row that is inserted, rows are only inserted.
 abbrev pub RowComes : Type 0
 RowComes = (relations : List Relation) (name : Bytes) (row : Tuple)
     → HaveRows relations (row_in relations name row).after
 
--- By a row that goes, rows only go.
+-- By a row that is deleted, rows are only deleted.
 abbrev pub RowGoes : Type 0
 RowGoes = (relations : List Relation) (name : Bytes) (row : Tuple)
     → HaveRows (row_out relations name row).after relations
@@ -45,12 +45,12 @@ abbrev pub SparesOthers : List Relation → RowsChange → Type 0
 SparesOthers before change = (name : Bytes) → change.touches name ≡ false
     → rows_of change.after name ≡ rows_of before name
 
--- A row that comes or goes leaves each other relation as it was.
+-- A row that is inserted or deleted leaves each other relation as it was.
 abbrev pub ChangesSpareOthers : Type 0
 ChangesSpareOthers = (relations : List Relation) (name : Bytes) (row : Tuple)
     → SparesOthers relations (row_in relations name row) × SparesOthers relations (row_out relations name row)
 
--- A query that reads no relation that a change touches keeps its answers.
+-- A query that reads no relation that a change touches has the same answers.
 abbrev pub AnswersRest : Type 0
 AnswersRest = (before : List Relation) (change : RowsChange) (q : Query) → SparesOthers before change
     → is_touched change q ≡ false → (t : Tuple) → IsAnswer before q t ↔ IsAnswer change.after q t

@@ -1,4 +1,4 @@
--- Changes by which rows come and others go at once: what is left of both is the delta.
+-- Changes by which rows are inserted and others deleted at once: what is left of both is the delta.
 use Rattle.std.specs.Prelude.{List, ◌++◌, ◌↔◌, ◌⊎◌, All, Any, Contains, map}
 use Rattle.djq_model.specs.declared.relation.Relation.{Relation}
 use Rattle.djq_model.specs.Answer.{IsAnswer, AreDifferent}
@@ -25,8 +25,8 @@ pub record CancelsOut (old new : List Change) : Type 0 where
   pub alone : (c : Change) → Contains new c → Contains old (opposite c) → ⊥
   pub complete : (c : Change) → Contains old c → (Contains old (opposite c) → ⊥) → Contains new c
 
--- Rows come, up to relations between, and from there rows go: the answers that came and those that
--- went, settled, are the delta of the whole change.
+-- Rows are inserted, up to relations between, and from there rows are deleted: the answers that
+-- were added and those that were removed, settled, are the delta of the whole change.
 abbrev pub NetDelta : Type 0
 NetDelta = (before between after : List Relation) (q : Listed)
     → HaveRows before between → HaveRows after between → (come gone new : List Change)
@@ -38,17 +38,17 @@ NetDelta = (before between after : List Relation) (q : Listed)
 abbrev pub IsMemberDelta : (before after : List Relation) → Part → Type 0
 IsMemberDelta before after p = IsDelta (IsAnswer before p.query) (IsAnswer after p.query) p.changes
 
--- A member agrees with a change of the union: nothing in its delta is the opposite, and where its
+-- A member agrees with a change of the union: nothing in its delta is the opposite, and if its
 -- delta doesn't have the change, the answer isn't its own afterwards.
 abbrev pub MemberAgrees : List Relation → Change → Part → Type 0
 MemberAgrees after c p = (Contains p.changes (opposite c) → ⊥)
     × (Contains p.changes c ⊎ (IsAnswer after p.query c.answer → ⊥))
 
--- What is reported of a union: what stands in the delta of a member, and all members agree with.
+-- What is reported of a union: what is in the delta of a member, and all members agree with.
 abbrev pub IsReportedByMembers : List Relation → List Part → Change → Type 0
 IsReportedByMembers after parts c = Any (λ p. Contains p.changes c) parts × All (MemberAgrees after c) parts
 
--- That is exactly what came to the union, and what went.
+-- That is what was added to the union, and what was removed, and nothing else.
 abbrev pub UnionsReport : Type 0
 UnionsReport = (before after : List Relation) (name : Bytes) (parts : List Part) (c : Change)
     → All (IsMemberDelta before after) parts → IsReportedByMembers after parts c

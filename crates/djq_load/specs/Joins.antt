@@ -9,7 +9,7 @@ use Rattle.djq_store_spec.specs.Store.{Store}
 use Rattle.djq_machine.specs.State.{State}
 use Rattle.djq_machine.specs.Gives.{CursorsGive}
 
--- the query that a load's lines say
+-- the query of a load's lines
 abbrev pub join : Query
 join = record {
   name = codes "q";

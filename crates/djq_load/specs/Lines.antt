@@ -1,4 +1,4 @@
--- What lines that come to session 1 of a machine make of it.
+-- The effect of lines that are fed to session 1 of a machine.
 use Rattle.std.specs.Prelude.{List, [], ◌∷◌, ◌≡◌, ◌≢◌, ◌++◌, ◌<◌, ◌⊎◌, None, Option, Some}
 use Rattle.std.specs.Prelude.{length, codes, Bool, false, All}
 use Rattle.djq_model.specs.Data.{Bytes, Tuple}
@@ -13,14 +13,14 @@ use Rattle.djq_machine.specs.Call.{IsOpen, Makes, MakesCounted, Counts, cause_of
 use Rattle.djq_run_laws.specs.Course.{RunNext, ListsStep}
 use Rattle.djq_run_laws.specs.Watched.{batch_of}
 
--- What was done didn't tell session 1 that memory is wanting.
+-- What was done didn't report to session 1 that memory is wanting.
 abbrev pub HadMemory : Did → Type 0
 HadMemory d = to_session 1 d.effect.queued ≢ refusal_line NoMemory
 
--- **A run of the join machine in which one session, of id 1, is fed these lines**, one after
--- another: each comes where none is left to be run and nothing is pending. No line is answered that
--- memory is wanting, so each did what it says or was refused for what it says. Each step of it counts no
--- more of listings than that step may cost.
+-- **A run of the join machine in which one session, of id 1, is fed these lines**, one after another:
+-- each is fed when none is left to be run and nothing is pending. No line is answered that memory is
+-- wanting, so each was carried out or refused for its content. Each step of it counts no more of
+-- listings than that step may cost.
 pub record FeedsLines (lines : List Bytes) (old : State) (before : Counts) (new : State)
     (now : Counts) : Type 0 where
   pub done : List Did
@@ -51,7 +51,7 @@ pub record LoadBreaksOff (lines : List Bytes) (old : State) (before : Counts) (n
   pub loads : FeedsLines earlier old before mid between
   pub feeds : Feeds (line ∷ []) mid between new now
 
--- Session 1 is open and goes on, holds nothing and has nothing pending; and no session sent `stop`.
+-- Session 1 is open and not ended, holds nothing and has nothing pending; and no session sent `stop`.
 pub record SessionIsIdle (st : State) : Type 0 where
   pub going : st.stopped ≡ false
   pub is_open : IsOpen st 1
@@ -59,7 +59,7 @@ pub record SessionIsIdle (st : State) : Type 0 where
   pub pending : pending_of st 1 ≡ []
   pub running : cause_of st 1 ≡ None
 
--- A line comes and is run, or dropped where it is blank, and the session goes on.
+-- A line is fed and is run, or dropped if it is blank, and the session isn't ended.
 pub record LineRuns (line : Bytes) (old : State) (before : Counts) (new : State)
     (now : Counts) : Type 0 where
   pub mid : State
@@ -69,12 +69,12 @@ pub record LineRuns (line : Bytes) (old : State) (before : Counts) (new : State)
   pub makes : MakesCounted mid (stepped 1 outcome) new before now
   pub running : cause_of new 1 ≡ None
 
--- All that is pending is taken, where there is any.
+-- All that is pending is sent, if there is any.
 abbrev pub TakesAll : State → State → Type 0
 TakesAll old new = ((pending_of old 1 ≡ []) × (new ≡ old))
     ⊎ ((0 < length (pending_of old 1)) × Makes old (took 1 (pending_of old 1)) new)
 
--- the cursors of a session; none where there is no session
+-- the cursors of a session; none if there is no session
 abbrev pub session_cursors : Option Session → List Cursor
 session_cursors None = []
 session_cursors (Some x) = x.cursors

@@ -11,15 +11,15 @@ opening_lines = codes "rel r int int\n" ∷ codes "rel s int int\n" ∷ codes "q
 abbrev pub reading_lines : List (List ℕ)
 reading_lines = codes "open c q\n" ∷ codes "next c 10\n" ∷ codes "close c\n" ∷ []
 
--- a change takes a row out where half of its first draw is a multiple of four, and else puts one in
+-- a change deletes a row if half of its first draw is a multiple of four, and else inserts one
 abbrev pub verb : ℕ → List ℕ
 verb a = if a / 2 % 4 == 0 then codes "del " else codes "add "
 
--- it is one of r where the draw is even, and else of s
+-- it is one of r if the draw is even, and else of s
 abbrev pub relation : ℕ → List ℕ
 relation a = if a % 2 == 0 then codes "r " else codes "s "
 
--- the line of a change, from its three draws, where so many different values are in use
+-- the line of a change, from its three draws, if so many different values are in use
 abbrev pub change : ℕ → ℕ → ℕ → ℕ → List ℕ
 change values a b c = verb a ++ relation a ++ decimal (b % values) ++ codes " " ++ decimal (c % values) ++ codes "\n"
 
@@ -27,7 +27,7 @@ change values a b c = verb a ++ relation a ++ decimal (b % values) ++ codes " " 
 abbrev pub pause : ℕ → List (List ℕ)
 pause number = if number % 100 == 0 then reading_lines else []
 
--- the lines of so many further changes, where so many are done and the draws have left a state
+-- the lines of so many further changes, if so many are done and the draws have left a state
 abbrev pub changes : ℕ → ℕ → ℕ → ℕ → List (List ℕ)
 changes values state done zero = []
 changes values state done (suc left) =

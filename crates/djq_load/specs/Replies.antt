@@ -18,11 +18,11 @@ at_line_front r b =
     else (if b == 10 then r
     else reading r.answers r.sum (b == 101) Other)
 
--- a line that is no answer goes on to its LF
+-- a line that is no answer extends to its LF
 abbrev pub in_other : Reading → ℕ → Reading
 in_other r b = if b == 10 then record r { place = Front } else r
 
--- a number modulo 2^64, behind a minus or not
+-- a number modulo 2^64, after a minus or not
 abbrev pub signed : Bool → ℕ → ℕ
 signed false n = n
 signed true n = (2 ^ 64 - n) % 2 ^ 64
@@ -37,13 +37,13 @@ in_answer r below n b =
     else (if b == 45 then record r { place = Answer true n }
     else record r { place = Answer below ((n * 10 % 2 ^ 64 + (b - 48)) % 2 ^ 64) })))
 
--- a text ends at a quote that no backslash stands before
+-- a text ends at a quote that no backslash precedes
 abbrev pub within_text : Reading → ℕ → Reading
 within_text r b =
     if b == 92 then record r { place = Escape }
     else (if b == 34 then record r { place = Answer false 0 } else r)
 
--- what was read, behind a byte
+-- what was read, after a byte
 abbrev pub read_at : Place → Reading → ℕ → Reading
 read_at Front r b = at_line_front r b
 read_at Other r b = in_other r b
@@ -51,11 +51,11 @@ read_at (Answer below n) r b = in_answer r below n b
 read_at Text r b = within_text r b
 read_at Escape r b = record r { place = Text }
 
--- what was read, behind a further byte, by the place at which it stands
+-- what was read, after a further byte, by its place
 abbrev pub read_byte : Reading → ℕ → Reading
 read_byte r b = read_at r.place r b
 
--- behind these bytes
+-- after these bytes
 abbrev pub read_bytes : Reading → Bytes → Reading
 read_bytes r [] = r
 read_bytes r (b ∷ bs) = read_bytes (read_byte r b) bs

@@ -1,4 +1,4 @@
--- What of a load is still to come.
+-- What of a load is still to be run.
 use Rattle.std.specs.Prelude.{ℕ, List, ◌++◌, drop}
 use Rattle.djq_load.specs.declared.load.Due.{Due}
 use Rattle.djq_load.specs.declared.load.Due.TheVariants.{FirstRelation, SecondRelation, Query, Change, Open, Read}

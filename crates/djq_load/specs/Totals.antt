@@ -1,4 +1,4 @@
--- What a load comes to.
+-- The totals of a load.
 use Rattle.std.specs.Prelude.{ℕ, ℤ, pos, negsuc, List, [], ◌∷◌, ◌≡◌, ◌+◌, ◌-◌, ◌*◌, ◌++◌, ◌/◌, ◌%◌}
 use Rattle.std.specs.Prelude.{◌^◌, ◌<◌, ◌⊎◌, Bool, true, false, Option, None, Some, IsSomeAnd}
 use Rattle.std.specs.Prelude.{length, replicate, codes, sum_by}
@@ -19,13 +19,13 @@ use Rattle.djq_load.specs.declared.reading.Reading.{Reading}
 use Rattle.djq_load.specs.Replies.{reading}
 use Rattle.djq_load.specs.Lines.{FeedsLines, Feeds, LoadBreaksOff, CursorStands}
 
--- an integer modulo 2^64; nothing where there is none
+-- an integer modulo 2^64; nothing if there is none
 abbrev pub residue : Option ℤ → ℕ
 residue None = 0
 residue (Some (pos n)) = n % 2 ^ 64
 residue (Some (negsuc n)) = (2 ^ 64 - (n + 1) % 2 ^ 64) % 2 ^ 64
 
--- the integer that a value is printed as, modulo 2^64; nothing where it is a text
+-- the integer that a value is printed as, modulo 2^64; nothing if it is a text
 abbrev pub amount : Value → ℕ
 amount v = residue (integer_of (value_text v))
 
@@ -37,8 +37,8 @@ amount_of ts = sum_by (λ t. sum_by amount t) ts
 abbrev pub so_far : List Tuple → Bool → Reading
 so_far given ended = reading (length given % 2 ^ 64) (amount_of given % 2 ^ 64) ended Front
 
--- how often a cursor is read, a thousand answers at a time, until it is told the end of so many
--- answers: once where there are none, and no more where the last read is full
+-- how often a cursor is read, a thousand answers at a time, until it is sent the end of so many
+-- answers: once if there are none, and no more if the last read is full
 abbrev pub reads_for : ℕ → ℕ
 reads_for count = 1 + (count - 1) / 1000
 
@@ -47,9 +47,9 @@ abbrev pub HasLeft : Store → List Tuple → Type 0
 HasLeft store given = IsSomeAnd (listed_of store.queries (codes "q"))
     (λ q. (t : Tuple) × IsLeft (AnswersOf store.relations q) given t)
 
--- What was read, by so many reads, is what the cursor has given. Where it wasn't told the end, each
--- read gave a thousand answers, and behind the first read some are left; else the last read alone
--- was told the end.
+-- What was read, by so many reads, is what the cursor has given. If it wasn't sent the end, each
+-- read gave a thousand answers, and after the first read some are left; else the last read alone
+-- was sent the end.
 pub record ReadsSoFar (st : State) (r : Reading) (reads : ℕ) : Type 0 where
   pub given : List Tuple
   pub stands : CursorStands st given r.ended
@@ -58,8 +58,8 @@ pub record ReadsSoFar (st : State) (r : Reading) (reads : ℕ) : Type 0 where
   pub left : r.ended ≡ false → 0 < reads → HasLeft st.store given
   pub last : r.ended ≡ true → reads ≡ reads_for (length given)
 
--- A cursor that was told the end, by the last of so many reads, has given answers that come to
--- these totals.
+-- A cursor that was sent the end, by the last of so many reads, has given answers with these
+-- totals.
 pub record TotalsAreTold (st : State) (totals : Totals) (reads : ℕ) : Type 0 where
   pub given : List Tuple
   pub stands : CursorStands st given true
@@ -85,9 +85,10 @@ pub record AreTotals (st : State) (answers : List Tuple) (totals : Totals) : Typ
   pub sum : totals.sum ≡ amount_of answers % 2 ^ 64
 
 -- **The theorem of a load.** Session 1 was fed the load's lines, then one that opens a cursor over
--- the query, and then as many that read it as it takes until the end is told, and none behind that.
--- The cursor has given these answers and stands at their end, and the session hasn't ended. And the
--- totals are those of these answers, which are all answers over the rows that this run leads to.
+-- the query, and then as many that read it as are needed until the end is sent, and none after
+-- that. The cursor has given these answers and is at their end, and the session hasn't ended. And
+-- the totals are those of these answers, which are all answers over the rows that this run leads
+-- to.
 pub record RunsLoad (n seed : ℕ) (totals : Totals) (old : State) (before : Counts) (new : State)
     (now : Counts) : Type 0 where
   pub answers : List Tuple
@@ -98,8 +99,8 @@ pub record RunsLoad (n seed : ℕ) (totals : Totals) (old : State) (before : Cou
   pub totals_are : AreTotals new answers totals
 
 -- **How reading stops out of memory.** Session 1 was fed these lines, and then some that read the
--- cursor: each was answered a thousand answers, each of them once, and the cursor stands before its
--- end. Then one more came that reads it, at which memory was wanting.
+-- cursor: each was answered a thousand answers, each of them once, and the cursor is before its
+-- end. Then one more was fed that reads it, at which memory was wanting.
 pub record BreaksReading (lines : List Bytes) (old : State) (before : Counts) (new : State)
     (now : Counts) : Type 0 where
   pub nexts : ℕ

@@ -26,16 +26,16 @@ abbrev pub cause_in : Option Session → Option EndCause
 cause_in None = None
 cause_in (Some x) = x.cause
 
--- the end cause of a session; none where it isn't open
+-- the end cause of a session; none if it isn't open
 abbrev pub cause_of : State → ℕ → Option EndCause
 cause_of st s = cause_in (session_of st s)
 
--- the bytes of a session that aren't run; none where there is no session
+-- the bytes of a session that aren't run; none if there is no session
 abbrev pub held_in : Option Session → Bytes
 held_in None = []
 held_in (Some x) = x.held
 
--- the bytes of a session that aren't run; none where it isn't open
+-- the bytes of a session that aren't run; none if it isn't open
 abbrev pub held_of : State → ℕ → Bytes
 held_of st s = held_in (session_of st s)
 
@@ -74,12 +74,12 @@ OpenGives old s (Ok _) new = Makes old (opened s) new × IsOpen new s
 OpenGives old s (Err Full) new = (SESSIONS ≤ length old.sessions) × (new ≡ old)
 OpenGives old s (Err NoMem) new = (length old.sessions < SESSIONS) × (new ≡ old)
 
--- What bytes that came are answered: they are held; or the session had ended, or ended out of memory.
+-- The answer to bytes that arrived: they are held; or the session had ended, or ended out of memory.
 abbrev pub FedGives : State → ℕ → Fed → State → Type 0
 FedGives old s Held new = cause_of new s ≡ None
 FedGives old s (HadEnded c) new = (cause_of new s ≡ Some c) × MatchOption (cause_of old s) (c ≡ Memory) (λ d. d ≡ c)
 
--- A line of a session may be run: no session said `stop`, this one hasn't ended, and it holds a line, or a front that
+-- A line of a session may be run: no session sent `stop`, this one hasn't ended, and it holds a line, or a front that
 -- is too long for one.
 abbrev pub may_run : State → ℕ → Bool
 may_run st s = not st.stopped && (is_none (cause_of st s) && not (is_dry (held_of st s)))
@@ -88,7 +88,7 @@ may_run st s = not st.stopped && (is_none (cause_of st s) && not (is_dry (held_o
 abbrev pub first_ready : State → ℕ → Option ℕ
 first_ready st from = find (λ s. nat_le from s && may_run st s) (state_ids st)
 
--- One step of a session's line. What it logs stands behind the lines of the commit.
+-- One step of a session's line. What it logs follows the lines of the commit.
 pub record StepsLine (old : State) (s : ℕ) (new : State) (before now : Counts) (commit commit' : List Bytes) : Type 0
   where
     pub outcome : LineOutcome

@@ -126,7 +126,7 @@ pub record RelStep (old : State) (s : ℕ) (makes : Store → Result ⊤ Refusal
   pub effect : e ≡ answers s (ok_reply (codes "ok") result) (is_done result)
   pub state : new ≡ record old { store = store }
 
--- `add`: a copy of a row goes in, and the first one is told those who watch.
+-- `add`: a copy of a row is inserted, and the first one is published to those who watch.
 pub record AddStep (old : State) (s : ℕ) (name : Bytes) (row : Tuple) (e : Effect)
     (new : State) : Type 0 where
   pub result : Result AddOutcome Refusal
@@ -136,7 +136,7 @@ pub record AddStep (old : State) (s : ℕ) (name : Bytes) (row : Tuple) (e : Eff
       (add_reply result store.seq) e new
   pub kept : e.kept ≡ kept_where (is_done result)
 
--- `del`: a copy goes out, and the last one is told them.
+-- `del`: a copy is deleted, and the last one is published to them.
 pub record DeleteStep (old : State) (s : ℕ) (name : Bytes) (row : Tuple) (e : Effect)
     (new : State) : Type 0 where
   pub result : Result DeleteOutcome Refusal
@@ -154,8 +154,8 @@ pub record QueryStep (old : State) (s : ℕ) (q : Query) (e : Effect) (new : Sta
   pub effect : e ≡ answers s (query_reply result) (is_registration result)
   pub state : new ≡ record old { store = store }
 
--- Out of memory in a reply to `query` above the bytes that were kept for it, which tells a rest:
--- none of its one line is told, and the session ends.
+-- Out of memory in a reply to `query` above the bytes that were reserved for it, which has a rest: none of its one
+-- line is sent, and the session ends.
 pub record QueryCutStep (old : State) (s : ℕ) (q : Query) (e : Effect) (new : State) : Type 0 where
   pub result : Result QueryOutcome Refusal
   pub store : Store
@@ -217,7 +217,7 @@ abbrev pub OpensTo : State → ℕ → Bytes → Bytes → State → Result ⊤ 
 OpensTo old s c q new (Ok _) = new ≡ with_session old s (with_cursor c q)
 OpensTo old s c q new (Err _) = new ≡ old
 
--- `open`: a cursor stands in front of a query's answers.
+-- `open`: a cursor is before the first of a query's answers.
 pub record OpenStep (old : State) (s : ℕ) (x : Session) (c q : Bytes) (e : Effect)
     (new : State) : Type 0 where
   pub result : Result ⊤ Refusal
@@ -225,7 +225,7 @@ pub record OpenStep (old : State) (s : ℕ) (x : Session) (c q : Bytes) (e : Eff
   pub effect : e ≡ says s (ok_reply (codes "ok open") result)
   pub state : OpensTo old s c q new result
 
--- `next` is told whole: a line an answer, and the last line.
+-- `next` is answered whole: a line an answer, and the last line.
 pub record NextStep (old : State) (s : ℕ) (c : Bytes) (q : Listed) (given : List Tuple) (count : ℕ)
     (e : Effect) (new : State) : Type 0 where
   pub told : List Tuple
@@ -239,16 +239,14 @@ pub record NextStep (old : State) (s : ℕ) (c : Bytes) (q : Listed) (given : Li
   pub state : new ≡ with_session old s
       (λ x. record x { cursors = with_position x.cursors c (open_at (given ++ told) end) })
 
--- The line that comes behind these answers: of a further one, where more are asked for; or the last
--- one, as it is due.
+-- The line that follows these answers: of a further one, if more are asked for; or the last one, as it is due.
 abbrev pub IsNextLine : (Tuple → Type 0) → List Tuple → ℕ → List Tuple → Bytes → Type 0
 IsNextLine Answer given count told l =
     ((t : Tuple) × IsLeft Answer (given ++ told) t × (length told < count) × (l ≡ answer_line t))
     ⊎ ((end : Bool) × TellsAnswers Answer given count told end × (l ≡ last_line end))
 
--- Out of memory in a reply to `next` above the bytes that were kept for it: its first lines are
--- told, each whole, and the session ends. It costs no more than the lines told and the one that
--- found no memory.
+-- Out of memory in a reply to `next` above the bytes that were reserved for it: its first lines are sent, each
+-- whole, and the session ends. It costs no more than the lines sent and the one that found no memory.
 pub record NextCutStep (old : State) (s : ℕ) (q : Listed) (given : List Tuple) (count : ℕ)
     (e : Effect) (new : State) : Type 0 where
   pub told : List Tuple
@@ -265,14 +263,14 @@ pub record NextCutStep (old : State) (s : ℕ) (q : Listed) (given : List Tuple)
   }
   pub state : new ≡ with_session old s (ended_by Memory)
 
--- `next`, by where its cursor stands
+-- `next`, by its cursor's position
 abbrev pub NextStepAt : State → ℕ → Bytes → Listed → ℕ → Position → Effect → State → Type 0
 NextStepAt old s c q count (open_at given ended) e new =
     NextStep old s c q given count e new ⊎ NextCutStep old s q given count e new
 NextStepAt old s c q count (stale relation n) e new =
     (e ≡ says s (stale_line c relation n)) × (new ≡ old)
 
--- `close`: the cursor is gone.
+-- `close`: the cursor is closed.
 abbrev pub CloseStep : State → ℕ → Bytes → Effect → State → Type 0
 CloseStep old s c e new = (e ≡ says s (line (codes "ok")))
     × (new ≡ with_session old s
@@ -292,7 +290,7 @@ abbrev pub BecomesWhere : {A : Type 0} → State → ℕ → (Session → Sessio
 BecomesWhere old s f new (Ok _) = new ≡ with_session old s f
 BecomesWhere old s f new (Err _) = new ≡ old
 
--- `watch`: the session is told from now on how the answers of a query change.
+-- `watch`: the session is sent from now on how the answers of a query change.
 pub record WatchStep (old : State) (s : ℕ) (x : Session) (q : Bytes) (e : Effect)
     (new : State) : Type 0 where
   pub result : Result ⊤ Refusal
@@ -305,7 +303,7 @@ pub record WatchStep (old : State) (s : ℕ) (x : Session) (q : Bytes) (e : Effe
 abbrev pub without_watch : Bytes → Session → Session
 without_watch q x = record x { watches = drop_first (λ w. bytes_eq w q) x.watches }
 
--- `unwatch`: the session is told no more, where it was. It takes no memory.
+-- `unwatch`: the session is sent nothing more of it, if it was. That needs no memory.
 pub record UnwatchStep (old : State) (s : ℕ) (q : Bytes) (e : Effect) (new : State) : Type 0 where
   pub result : Result ⊤ Refusal
   pub answer : Answers (watch_refusal old.store q) result (λ _. ⊤) (OutOfMemoryWhere ⊥)
@@ -319,7 +317,7 @@ explain_lines q t =
     (numbers_below (length t.nodes))
     ++ line (codes "end") ∷ []
 
--- The lines are told; or, out of memory, those in front of one of them, and the session ends.
+-- The lines are sent; or, out of memory, those before one of them, and the session ends.
 abbrev pub TellsLines : State → ℕ → List Bytes → Effect → State → Type 0
 TellsLines old s lines e new =
     ((e ≡ says s (text_of lines)) × (new ≡ old))
@@ -327,13 +325,13 @@ TellsLines old s lines e new =
     × (lines ≡ told ++ lacking ∷ rest)
     × EndsWith (text_of told ++ end_memory) Memory old s e new)
 
--- The tree of a query that the choice rule names is told.
+-- The tree of a query that the choice rule names is sent.
 pub record ExplainStep (old : State) (s : ℕ) (q : Query) (e : Effect) (new : State) : Type 0 where
   pub tree : Tree
   pub named : IsTreeOf (edges_of q) (head_of q) tree
   pub tells : TellsLines old s (explain_lines q tree) e new
 
--- `shape`: whether what an update costs stays constant as rows come.
+-- `shape`: whether what an update costs stays constant as rows are inserted.
 pub record ShapeStep (old : State) (s : ℕ) (q : Bytes) (e : Effect) (new : State) : Type 0 where
   pub result : Result Shape Refusal
   pub tells : TellsShape old.store q result
@@ -400,7 +398,7 @@ is_misplaced (Some held) Quit = false
 is_misplaced (Some held) Stop = false
 is_misplaced (Some held) _ = true
 
--- A command of a session, said by this line, is done, or refused by the first condition that holds.
+-- A command of a session, on this line, is done, or refused by the first condition that holds.
 abbrev pub CommandStep : State → ℕ → Session → Bytes → Command → Effect → State → Type 0
 CommandStep old s x l (Rel name types) e new = RelStep old s (λ st. MakesRelation st name types) e new
 CommandStep old s x l (Add name row) e new = MatchOption x.batch

@@ -13,7 +13,7 @@ pub record Gives (Answer : Tuple → Type 0) (given : List Tuple) (finished : Bo
   pub answers : All Answer given
   pub listing : finished ≡ true → IsListing Answer given
 
--- where a cursor over a query stands, it has given what it should; nothing is said of a stale one
+-- a cursor over a query has given what it should, by its position; nothing is stated of a stale one
 abbrev pub PositionGives : List Relation → Option Listed → Position → Type 0
 PositionGives relations q (open_at given finished) = IsSomeAnd q (λ p. Gives (AnswersOf relations p) given finished)
 PositionGives relations q (stale r n) = Unit {0}

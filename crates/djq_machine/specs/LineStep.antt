@@ -13,9 +13,8 @@ use Rattle.djq_machine.specs.State.{Session, State, with_session}
 use Rattle.djq_machine.specs.Effect.{Effect, nothing, EndsWith, RefusedStep}
 use Rattle.djq_machine.specs.Command.{CommandStep, is_misplaced}
 
--- What becomes of the front of a session's bytes: it is too long; or its line is taken, and is blank, or isn't run
--- since
--- too much is pending or no room for its reply is to be had, or is run.
+-- The outcome of the front of a session's bytes: it is too long; or its line is removed, and is blank, or isn't
+-- run since too much is pending or no room for its reply is to be had, or is run.
 pub data LineOutcome : Type 0 where
   long : LineOutcome
   blank : Bytes → LineOutcome
@@ -28,9 +27,9 @@ abbrev pub past_limit_refusal : Bool → Refusal
 past_limit_refusal true = Misplaced
 past_limit_refusal false = WrongType
 
--- A line is run as what it is read as. It is refused where it is outside the grammar; then where its
--- command isn't for a session with a batch open, or only for one; then where a literal of the command
--- is past its limit. Else the command is carried out, unless memory is out while it is read.
+-- A line is run as what it is read as. It is refused if it is outside the grammar; then if its command isn't for a
+-- session with a batch open, or only for one; then if a literal of the command is past its limit. Else the command
+-- is carried out, unless memory is out while it is read.
 abbrev pub ReadStep : State → ℕ → Session → Bytes → Reading → Effect → State → Type 0
 ReadStep old s x l outside e new = RefusedStep old s Syntax e new
 ReadStep old s x l (past_limit c) e new =
@@ -49,13 +48,13 @@ ReadStep old s x l (says_command c) e new = CarriedOut (is_misplaced x.batch c)
 abbrev pub behind_line : Bytes → Session → Session
 behind_line rest x = record x { held = rest }
 
--- A line is taken, whatever becomes of it.
+-- A line is removed from the input, whatever its outcome.
 pub record TakenLine (old : State) (s : ℕ) (x : Session) (l : Bytes) (P : State → Session → Type 0) : Type 0 where
   pub rest : Bytes
   pub front : front_of x.held ≡ a_line l rest
   pub then : P (with_session old s (behind_line rest)) (behind_line rest x)
 
--- The front of a session's bytes comes to this.
+-- The front of a session's bytes has this outcome.
 abbrev pub FrontStep : State → ℕ → Session → LineOutcome → Effect → State → Type 0
 FrontStep old s x long e new = (front_of x.held ≡ too_long) × EndsWith end_long Long old s e new
 FrontStep old s x (blank l) e new = (is_blank l ≡ true) × TakenLine old s x l (λ mid y. (e ≡ nothing) × (new ≡ mid))

@@ -1,4 +1,4 @@
--- What loading lines that were kept does to a store in which no session is open.
+-- What loading lines that were logged does to a store in which no session is open.
 use Rattle.std.specs.Prelude.{ℕ, List, ◌≡◌, ◌⊎◌, Bool, true, false, Option, None, Some, Result, Ok, Err, if◌then◌else◌, ⊤}
 use Rattle.djq_model.specs.declared.relation.Relation.{Relation}
 use Rattle.djq_model.specs.Data.{Bytes, Tuple}
@@ -46,22 +46,22 @@ use Rattle.djq_machine.specs.Keeping.{is_done, is_removal, is_registration}
 use Rattle.djq_machine.specs.Step.{SameRelations}
 use Rattle.djq_machine.specs.Walk.{Walk}
 
--- what a refusal comes to
+-- the result of a refusal
 abbrev pub refused_by : Refusal → Loaded
 refused_by NoMemory = no_memory
 refused_by _ = refused
 
--- A line runs where the result of its command is one for which it is kept.
+-- A line runs if the result of its command is one for which it is logged.
 abbrev pub loaded_by : {A : Type 0} → (Result A Refusal → Bool) → Result A Refusal → Loaded
 loaded_by kept (Ok a) = if kept (Ok a) then ran else refused
 loaded_by kept (Err r) = refused_by r
 
--- `done` runs where it isn't refused.
+-- `done` runs if it isn't refused.
 abbrev pub done_loaded : Result ℕ DoneRefusal → Loaded
 done_loaded (Ok rows) = ran
 done_loaded (Err r) = refused_by (done_word r)
 
--- Where the loading of lines has come to: the store, and what the batch of these lines holds, if one is open.
+-- How far the loading of lines is: the store, and what the batch of these lines holds, if one is open.
 pub record Loading : Type 0 where
   pub store : Store
   pub batch : Option HeldTransaction
@@ -125,7 +125,7 @@ ReadingLoads old l (past_limit c) how new = (how ≡ refused) × (new ≡ old)
 ReadingLoads old l (says_command c) how new = CommandLoads old l c how new
     ⊎ ((takes_memory_to_read c ≡ true) × (is_misplaced old.batch c ≡ false) × (how ≡ no_memory) × (new ≡ old))
 
--- A line is loaded. The rows, each with its copies, may be kept in another order from then on.
+-- A line is loaded. The rows, each with its copies, may be stored in another order from then on.
 pub record LoadStep (old : Loading) (line : Bytes) (how : Loaded) (new : Loading) : Type 0 where
   pub mid : Loading
   pub loads : ReadingLoads old line (reading_of line) how mid

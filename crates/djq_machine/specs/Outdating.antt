@@ -18,13 +18,13 @@ abbrev pub outdated_sessions : List Listed → (Listed → Option Bytes) → ℕ
 outdated_sessions queries outdater n xs = map
     (λ (x : Session). record x { cursors = map (outdated_cursor queries outdater n) x.cursors }) xs
 
--- the sessions behind a change of this number that was made or tried, where there was one
+-- the sessions after a change of this number that was made or tried, if there was one
 abbrev pub sessions_behind : State → Option RowsChange → ℕ → List Session
 sessions_behind old None n = old.sessions
 sessions_behind old (Some change) n =
     outdated_sessions old.store.queries change.outdater n old.sessions
 
--- the state behind it, with this store
+-- the state after it, with this store
 abbrev pub changed : State → Option RowsChange → Store → State
 changed old o store =
     record old { store = store; sessions = sessions_behind old o store.seq }

@@ -1,4 +1,4 @@
--- Runs of the machine, and what they queue, take and cost.
+-- Runs of the machine, and what they queue, send and cost.
 use Rattle.std.specs.Prelude.{ℕ, List, [], ◌∷◌, ◌++◌, ◌==◌, ◌≡◌, Option, None, Some, sum_by, codes, if◌then◌else◌}
 use Rattle.std.specs.List.{flat_map}
 use Rattle.djq_model.specs.Data.{Bytes}
@@ -27,12 +27,12 @@ to_session s queued = flat_map (λ q. if q.0 == s then q.1 else []) queued
 abbrev pub out : ℕ → List Did → Bytes
 out s done = flat_map (λ d. to_session s d.effect.queued) done
 
--- what an event takes of a session's pending bytes, as sent to it
+-- what an event removes from a session's pending bytes, as sent to it
 abbrev pub taken_from : ℕ → Event → Bytes
 taken_from s (took t bytes) = if t == s then bytes else []
 taken_from s _ = []
 
--- all that was taken
+-- all that was sent
 abbrev pub all_taken : ℕ → List Did → Bytes
 all_taken s done = flat_map (λ d. taken_from s d.event) done
 
@@ -54,7 +54,7 @@ piece_of _ = []
 abbrev pub pieces_of : List Did → List Bytes
 pieces_of done = flat_map (λ d. piece_of d.event) done
 
--- the line that an outcome takes
+-- the line that an outcome removes
 abbrev pub line_in : LineOutcome → List Bytes
 line_in long = []
 line_in (blank l) = l ∷ []
@@ -62,16 +62,16 @@ line_in (slow l) = l ∷ []
 line_in (no_room l) = l ∷ []
 line_in (run l) = l ∷ []
 
--- the line that an event takes of a session
+-- the line that an event removes from a session's input
 abbrev pub line_by : ℕ → Event → List Bytes
 line_by s (stepped t outcome) = if t == s then line_in outcome else []
 line_by s _ = []
 
--- the lines that were taken of a session, in order
+-- the lines that were removed from a session's input, in order
 abbrev pub lines_of : ℕ → List Did → List Bytes
 lines_of s done = flat_map (λ d. line_by s d.event) done
 
--- Bytes are cut into these lines, and the rest behind them.
+-- Bytes are cut into these lines, and the rest after them.
 abbrev pub CutsInto : Bytes → List Bytes → Bytes → Type 0
 CutsInto bytes [] rest = bytes ≡ rest
 CutsInto bytes (l ∷ ls) rest = (behind : Bytes) × (front_of bytes ≡ a_line l behind) × CutsInto behind ls rest
@@ -80,31 +80,31 @@ CutsInto bytes (l ∷ ls) rest = (behind : Bytes) × (front_of bytes ≡ a_line 
 abbrev pub cost_of : List Did → ℕ
 cost_of done = sum_by (λ d. d.effect.cost) done
 
--- what is pending for a session; nothing where it isn't open
+-- what is pending for a session; nothing if it isn't open
 abbrev pub pending_in : Option Session → Bytes
 pending_in None = []
 pending_in (Some x) = x.pending
 
--- what is pending for the session of an id; nothing where it isn't open
+-- what is pending for the session of an id; nothing if it isn't open
 abbrev pub pending_of : State → ℕ → Bytes
 pending_of st s = pending_in (session_of st s)
 
--- what is kept as one: the lines that are loaded all or none
+-- what is logged as one: the lines that are loaded all or none
 abbrev pub Group : Type 0
 Group = List Bytes
 
--- the group that is kept where this line is run: the line, or the batch that it ends, whole
+-- the group that is logged if this line is run: the line, or the batch that it ends, whole
 abbrev pub groups_in : Bytes → Keeping → List Group
 groups_in l no_line = []
 groups_in l the_line = (l ∷ []) ∷ []
 groups_in l (the_batch held) = (codes "batch" ∷ held ++ codes "done" ∷ []) ∷ []
 
--- the group that a step keeps
+-- the group that a step logs
 abbrev pub kept_group : Event → Keeping → List Group
 kept_group (stepped s (run l)) keeping = groups_in l keeping
 kept_group _ _ = []
 
--- the groups that a run keeps, in order
+-- the groups that a run logs, in order
 abbrev pub groups_of : List Did → List Group
 groups_of done = flat_map (λ d. kept_group d.event d.effect.kept) done
 

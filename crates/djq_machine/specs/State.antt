@@ -11,14 +11,14 @@ pub record Cursor : Type 0 where
   pub query : Bytes
   pub position : Position
 
--- What is kept of a session.
+-- The state of a session.
 pub record Session : Type 0 where
   pub id : ℕ
-  -- bytes that came and aren't run
+  -- bytes that arrived and aren't run
   pub held : Bytes
-  -- bytes that were queued and aren't taken
+  -- bytes that were queued and aren't sent
   pub pending : Bytes
-  -- why it takes no further commands
+  -- why it accepts no further commands
   pub cause : Option EndCause
   pub cursors : List Cursor
   -- the names of the queries that it watches
@@ -26,10 +26,10 @@ pub record Session : Type 0 where
   -- the lines that its batch holds, if one is open
   pub batch : Option HeldTransaction
 
--- The state of the join machine: the store, and what is kept of each open session.
+-- The state of the join machine: the store, and the state of each open session.
 pub record State : Type 0 where
   pub store : Store
-  -- whether a session said `stop`
+  -- whether a session sent `stop`
   pub stopped : Bool
   -- the open sessions, by rising id
   pub sessions : List Session
@@ -67,6 +67,6 @@ abbrev pub with_position : List Cursor → Bytes → Position → List Cursor
 with_position cursors name position = change_first (λ c. bytes_eq c.name name) (λ c. record c { position = position })
     cursors
 
--- A session that has ended keeps why, and gives up its cursors, its watches and its batch.
+-- A session that has ended stores why, and loses its cursors, its watches and its batch.
 abbrev pub ended_by : EndCause → Session → Session
 ended_by cause x = record x { cause = Some cause; cursors = []; watches = []; batch = None }

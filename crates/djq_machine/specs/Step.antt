@@ -12,19 +12,19 @@ use Rattle.djq_machine.specs.State.{Session, State, fresh, session_of, with_sess
 use Rattle.djq_machine.specs.Effect.{Effect, nothing, says_any, lost_line, EndsWith, queue_all}
 use Rattle.djq_machine.specs.LineStep.{LineOutcome, FrontStep}
 
--- An event: what comes to the machine.
+-- An event: what is fed to the machine.
 pub data Event : Type 0 where
   -- a session opens
   opened : ℕ → Event
-  -- bytes of it come
+  -- bytes of it arrive
   fed : ℕ → Bytes → Event
-  -- the front of its bytes comes to this
+  -- the front of its bytes has this outcome
   stepped : ℕ → LineOutcome → Event
-  -- bytes for it are taken
+  -- bytes for it are sent
   took : ℕ → Bytes → Event
   -- its input has ended
   ended : ℕ → Event
-  -- it is gone, and these bytes for it
+  -- it is closed, and these bytes for it are dropped
   closed : ℕ → Bytes → Event
 
 -- whether bytes hold no whole line and aren't too long for one
@@ -35,26 +35,26 @@ is_dry held = dry_front (front_of held)
     dry_front dry = true
     dry_front _ = false
 
--- A session opens with an id above the others, where fewer than the limit are open; else, and out of memory, nothing
+-- A session opens with an id above the others, if fewer than the limit are open; else, and out of memory, nothing
 -- changes.
 abbrev pub OpenedStep : State → ℕ → Effect → State → Type 0
 OpenedStep old s e new = (e ≡ nothing) × All (λ x. x.id < s) old.sessions
     × (((length old.sessions < SESSIONS) × (new ≡ record old { sessions = old.sessions ++ fresh s ∷ [] })) ⊎
     (new ≡ old))
 
--- Bytes are held behind those of the session, or it ends out of memory. Where it has ended they are dropped.
+-- Bytes are held after those of the session, or it ends out of memory. If it has ended they are dropped.
 abbrev pub FedStep : State → ℕ → Bytes → Session → Effect → State → Type 0
 FedStep old s bytes x e new = MatchOption x.cause
     (((e ≡ nothing) × (new ≡ with_session old s (λ y. record y { held = y.held ++ bytes }))) ⊎ EndsWith end_memory
     Memory old s e new)
     (λ _. (e ≡ nothing) × (new ≡ old))
 
--- The first of the bytes that are pending are taken.
+-- The first of the bytes that are pending are sent.
 abbrev pub TookStep : State → ℕ → Bytes → Session → Effect → State → Type 0
 TookStep old s bytes x e new = (e ≡ nothing)
     × ((rest : Bytes) × (x.pending ≡ bytes ++ rest) × (new ≡ with_session old s (λ y. record y { pending = rest })))
 
--- A session whose input ends ends with it. That bytes of a line are held is said, and that lines of a batch are.
+-- A session whose input ends ends with it. It is reported if bytes of a line are held, and if lines of a batch are.
 abbrev pub EndedStep : State → ℕ → Session → Effect → State → Type 0
 EndedStep old s x e new = MatchOption x.cause
     ((is_dry x.held ≡ true) × (e ≡ says_any s (cut_line x.held ++ lost_line x.batch))
@@ -84,7 +84,7 @@ SameRelations (r ∷ rs) [] = ⊥
 abbrev pub with_relations : State → List Relation → State
 with_relations st relations = record st { store = record st.store { relations = relations } }
 
--- One step of the machine: an event acts, and its bytes are queued. The rows may be kept in another order from then on.
+-- One step of the machine: an event acts, and its bytes are queued. The rows may be stored in another order from then on.
 pub record Step (old : State) (event : Event) (e : Effect) (new : State) : Type 0 where
   pub mid : State
   pub acts : Acts old event e mid

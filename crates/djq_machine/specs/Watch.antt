@@ -1,4 +1,4 @@
--- What a change of rows tells the sessions that watch queries.
+-- What is published of a change of rows to the sessions that watch queries.
 use Rattle.std.specs.Prelude.{ℕ, List, [], ◌∷◌, ◌==◌, ◌≡◌, ◌++◌, ◌<◌, ◌≤◌, ◌⊎◌, ◌&&◌, Bool, true, Option, None}
 use Rattle.std.specs.Prelude.{Some, IsSomeAnd, MatchOption, if◌then◌else◌, length, filter}
 use Rattle.std.specs.List.{list_any}
@@ -26,7 +26,7 @@ abbrev pub affected : State → RowsChange → List Listed
 affected st change =
     filter (λ q. is_outdated change q && list_any (is_watching (listed_name q)) st.sessions) st.store.queries
 
--- How far a change has been told: the state, and the parts that this step has queued so far.
+-- How far a change has been published: the state, and the parts that this step has queued so far.
 pub record Telling : Type 0 where
   pub state : State
   pub queued : List (ℕ × Bytes)
@@ -40,16 +40,16 @@ abbrev pub ends_more : ℕ → Bytes → EndCause → Telling → Telling
 ends_more s text cause m =
     record { state = with_session m.state s (ended_by cause); queued = m.queued ++ (s, text) ∷ [] }
 
--- a session, where it is there and watches a query
+-- a session, if it is there and watches a query
 abbrev pub watching : Bytes → Option Session → Option Session
 watching q None = None
 watching q (Some x) = if is_watching q x then Some x else None
 
--- the session of an id, where it watches a query: what this step has queued so far is pending for it
+-- the session of an id, if it watches a query: what this step has queued so far is pending for it
 abbrev pub watcher_of : Telling → Bytes → ℕ → Option Session
 watcher_of m q s = watching q (session_of (queue_all m.state m.queued) s)
 
--- A watching session that too much is pending for ends. Else it is told the delta; or, out of
+-- A watching session that too much is pending for ends. Else it is sent the delta; or, out of
 -- memory, answers from its front, each in a whole line, and ends.
 abbrev pub TellsWatcher : Delta → ℕ → ℕ → Bytes → Telling → Telling → Type 0
 TellsWatcher d n s pending m new =
@@ -60,16 +60,16 @@ TellsWatcher d n s pending m new =
     × (told : List Change) × (rest : List Change) × (d.changes ≡ told ++ rest)
     × (new ≡ ends_more s (text_of (change_lines (listed_name d.query) told) ++ end_memory) Memory m))
 
--- A session is told a delta where it watches the query.
+-- A session is sent a delta if it watches the query.
 abbrev pub TellsSession : Delta → ℕ → Telling → ℕ → Telling → Type 0
 TellsSession d n m s new =
     MatchOption (watcher_of m (listed_name d.query) s) (new ≡ m) (λ x. TellsWatcher d n s x.pending m new)
 
--- The sessions are told a delta, in rising id.
+-- The sessions are sent a delta, in rising id.
 abbrev pub TellsDelta : ℕ → Telling → Delta → Telling → Type 0
 TellsDelta n m d new = Walk (TellsSession d n) m (state_ids m.state) new
 
--- A command's reply comes last, where its session goes on. Behind lines of a delta to that session
+-- A command's reply is the last, if its session isn't ended. After lines of a delta to that session
 -- it may find no memory, and the session ends.
 abbrev pub RepliesLast : ℕ → Bytes → Telling → Telling → Type 0
 RepliesLast s reply m new = IsSomeAnd (session_of m.state s) (λ x. MatchOption x.cause
@@ -78,8 +78,8 @@ RepliesLast s reply m new = IsSomeAnd (session_of m.state s) (λ x. MatchOption 
     (λ c. new ≡ m))
 
 -- A command of a session that may change rows is done, and answered. Cursors over the queries that
--- its change outdates become stale; the deltas of the affected ones are listed, and told where the
--- change was accepted, one after another; then comes the reply.
+-- its change outdates become stale; the deltas of the affected ones are listed, and published if the
+-- change was accepted, one after another; then the reply is queued.
 pub record ChangeStep (old : State) (s : ℕ) (outcome : RowsOutcome) (store : Store)
     (reply : Bytes) (e : Effect) (new : State) : Type 0 where
   pub deltas : List Delta

@@ -9,8 +9,8 @@ use Rattle.djq_mirror.specs.Inputs.{HasNoLf}
 use Rattle.djq_mirror.specs.Replies.{Reply, answer, changed, cyclic, not_connex, explained, joined}
 use Rattle.djq_mirror.specs.Replies.{reply_text, IsPrinted}
 
--- An answer has no more values than a head has variables, and the edges of a rest take no more bytes
--- than a line may have. Of the lines that explain a tree nothing is said.
+-- An answer has no more values than a head has variables, and the edges of a rest have no more bytes
+-- than a line may have. Of the lines that explain a tree nothing is stated.
 abbrev pub IsShort : Reply → Type 0
 IsShort (answer t) = length t ≤ HEAD_VARIABLES
 IsShort (changed s q t) = length t ≤ HEAD_VARIABLES

@@ -38,7 +38,7 @@ use Rattle.djq_mirror_laws.specs.Lines.{IsShort}
 use Rattle.djq_mirror_laws.specs.Told.{replies_text}
 
 -- Replies, one after the other, are allowed in a mirror of the query of a name, and this is held
--- behind them.
+-- after them.
 abbrev pub RepliesPass : Bytes → Held → List Reply → Held → Type 0
 RepliesPass name old [] new = new ≡ old
 RepliesPass name old (r ∷ rs) new =
@@ -67,12 +67,12 @@ MayBeSaid name x (Done given) = Unit {0}
 MayBeSaid name x Abandon = Unit {0}
 MayBeSaid name x _ = ⊥
 
--- A line is none, or says such a command.
+-- A line is none, or is such a command.
 abbrev pub MayBeRead : Bytes → Session → Reading → Type 0
 MayBeRead name x (says_command c) = MayBeSaid name x c
 MayBeRead name x _ = Unit {0}
 
--- What a session says is such.
+-- What a session sends is such.
 abbrev pub ReadsOnly : Bytes → ℕ → State → Event → Type 0
 ReadsOnly name s st (stepped t (run l)) =
     (t == s) ≡ true → IsSomeAnd (session_of st s) (λ x. MayBeRead name x (reading_of l))
@@ -86,7 +86,7 @@ ReadsAlong q s old (d ∷ done) new walk =
     ReadsOnly (listed_name q) s old d.event × ReadsAlong q s walk.0 done new walk.2
 
 -- The replies that are all that is queued to a session are allowed in a mirror of the query, from the
--- first one on; and where the mirror is live behind them, it holds the query's answers over the rows
+-- first one on; and if the mirror is live after them, it holds the query's answers over the rows
 -- of a state.
 pub record IsMirrored (q : Listed) (s : ℕ) (done : List Did) (at : State) : Type 0 where
   pub replies : List Reply
@@ -95,7 +95,7 @@ pub record IsMirrored (q : Listed) (s : ℕ) (done : List Did) (at : State) : Ty
   pub passes : RepliesPass (listed_name q) at_first replies held
   pub live : held.mode ≡ Live → HoldsTextsOf held (AnswersOf at.store.relations q)
 
--- So it is along every run in which a session watches a query, from where it has no cursor yet, if
+-- So it is along every run in which a session watches a query, from a state in which it has no cursor yet, if
 -- it reads the query through one cursor at a time.
 abbrev pub WatchersAreMirrored : Type 0
 WatchersAreMirrored = (q : Listed) (s : ℕ) (old : State) → IsSoundState old → IsSayableState old
@@ -103,7 +103,7 @@ WatchersAreMirrored = (q : Listed) (s : ℕ) (old : State) → IsSoundState old 
     (new : State) (walk : WatchesAlong q s old done new) → ReadsAlong q s old done new walk
     → IsMirrored q s done new
 
--- A session goes on, without a watch or a cursor.
+-- A session isn't ended, and has no watch and no cursor.
 abbrev pub IsWaiting : ℕ → State → Type 0
 IsWaiting s st =
     IsSomeAnd (session_of st s) (λ x. (x.cause ≡ None) × (x.watches ≡ []) × (x.cursors ≡ []))
@@ -120,8 +120,8 @@ abbrev pub SaysNoListing : ℕ → Event → Type 0
 SaysNoListing s (stepped t (run l)) = (t == s) ≡ true → AsksNoListing (reading_of l)
 SaysNoListing s event = Unit {0}
 
--- It waits before a step, in which it may say a line that asks for no listing, as `watch`; and goes on
--- behind it.
+-- It waits before a step, in which it may send a line that asks for no listing, as `watch`; and after it isn't
+-- ended.
 pub record WaitsStep (s : ℕ) (old : State) (d : Did) (new : State) : Type 0 where
   pub before : IsWaiting s old
   pub step : Step old d.event d.effect new
@@ -140,54 +140,54 @@ pub record SessionReads (q : Listed) (s : ℕ) (first : State) (fore : List Did)
   pub walk : WatchesAlong q s old done new
   pub reads : ReadsAlong q s old done new walk
 
--- So it is from the first line on that the session says.
+-- So it is from the first line on that the session sends.
 abbrev pub ReadersAreMirrored : Type 0
 ReadersAreMirrored = (q : Listed) (s : ℕ) (first : State) → IsSoundState first → IsSayableState first
     → CursorsGive first → (fore : List Did) (old : State) (done : List Did) (new : State)
     → SessionReads q s first fore old done new → IsMirrored q s (fore ++ done) new
 
--- So it is in every run from a state to start from whose names and values lines can say.
+-- So it is in every run from a state to start from whose names and values lines can express.
 abbrev pub StartsAreMirrored : Type 0
 StartsAreMirrored = (start : State) → IsStart start → IsSayableStore start.store → (q : Listed) (s : ℕ)
     (earlier : List Did) (first : State) → Run start earlier first → (fore : List Did) (old : State)
     (done : List Did) (new : State) → SessionReads q s first fore old done new
     → IsMirrored q s (fore ++ done) new
 
--- A line says `quit` or `stop`.
+-- A line is `quit` or `stop`.
 abbrev pub SaysItLeaves : Reading → Type 0
 SaysItLeaves (says_command Quit) = Unit {0}
 SaysItLeaves (says_command Stop) = Unit {0}
 SaysItLeaves r = ⊥
 
--- A session says `quit` or `stop`, or its input ends, or it is gone.
+-- A session sends `quit` or `stop`, or its input ends, or it is closed.
 abbrev pub EndsNow : ℕ → Event → Type 0
 EndsNow s (stepped t (run l)) = (t ≡ s) × SaysItLeaves (reading_of l)
 EndsNow s (ended t) = t ≡ s
 EndsNow s (closed t bytes) = t ≡ s
 EndsNow s event = ⊥
 
--- And if it ends so after that, the mirror takes its last lines too: that a line was cut, that lines of a batch are
--- dropped, and `bye`. It holds the answers over the rows as they were when it ended.
+-- And if it ends so after that, the mirror follows its last lines too: that a line was cut, that lines of a batch
+-- are dropped, and `bye`. It holds the answers over the rows as they were when it ended.
 abbrev pub EndsAreMirrored : Type 0
 EndsAreMirrored = (q : Listed) (s : ℕ) (done : List Did) (new : State) → IsMirrored q s done new
     → (d : Did) (last : State) → Step new d.event d.effect last → EndsNow s d.event
     → IsMirrored q s (done ++ d ∷ []) new
 
--- Where these replies are printed, and none is too long, the mirror's whole input
--- comes to what it holds: none of its bytes is refused.
+-- If these replies are printed, and none is too long, the mirror's whole input gives what it holds: none of its
+-- bytes is refused.
 abbrev pub MirroredAreHeld : Type 0
 MirroredAreHeld = (q : Listed) (s : ℕ) (done : List Did) (at : State) (m : IsMirrored q s done at)
     → All (λ r. IsPrinted r × IsShort r) m.replies → HoldsAtEnd (listed_name q) (out s done) m.held
 
--- The whole of what a session was sent comes to what a mirror holds, from the first of its bytes to the
--- last; and where the mirror is live, it holds the query's answers over the rows of a state.
+-- The whole of what a session was sent gives what a mirror holds, from the first of its bytes to the last; and if
+-- the mirror is live, it holds the query's answers over the rows of a state.
 pub record IsReadBack (q : Listed) (s : ℕ) (done : List Did) (at : State) : Type 0 where
   pub held : Held
   pub input : HoldsAtEnd (listed_name q) (out s done) held
   pub live : held.mode ≡ Live → HoldsTextsOf held (AnswersOf at.store.relations q)
 
--- So it is in every run from a state to start from whose names and values lines can say; and after the session's
--- `quit` or `stop`, or the end of its input, or as it is closed, of the rows as they were then.
+-- So it is in every run from a state to start from whose names and values lines can express; and after the
+-- session's `quit` or `stop`, or the end of its input, or as it is closed, of the rows as they were then.
 abbrev pub ReadersAreReadBack : Type 0
 ReadersAreReadBack = (start : State) → IsStart start → IsSayableStore start.store → (q : Listed) (s : ℕ)
     (earlier : List Did) (first : State) → Run start earlier first → (fore : List Did) (old : State)

@@ -1,4 +1,4 @@
--- What lines can say: names, and values within their limits.
+-- What lines can express: names, and values within their limits.
 use Rattle.std.specs.Prelude.{List, ◌≡◌, ◌≤◌, true, IfSome, All}
 use Rattle.std.specs.Str.{is_utf8}
 use Rattle.djq_model.specs.declared.value.Value.{Value}
@@ -20,12 +20,12 @@ use Rattle.djq_machine.specs.State.{State, Session, Cursor, opening}
 use Rattle.djq_machine.specs.Run.{Did, Run}
 use Rattle.djq_run_laws.specs.Sound.{IsWithinLimits, IsStart}
 
--- A text is of UTF-8; nothing is said of an integer.
+-- A text is of UTF-8; nothing is required of an integer.
 abbrev pub HasUtf8 : Value → Type 0
 HasUtf8 (Int i) = Unit {0}
 HasUtf8 (Text t) = is_utf8 t ≡ true
 
--- a value within its limit, of UTF-8 where it is a text
+-- a value within its limit, of UTF-8 if it is a text
 abbrev pub IsSayableValue : Value → Type 0
 IsSayableValue v = (is_small_value v ≡ true) × HasUtf8 v
 
@@ -110,7 +110,7 @@ pub record IsSayableState (st : State) : Type 0 where
   pub store : IsSayableStore st.store
   pub sessions : All IsSayableSession st.sessions
 
--- Every run from such a state comes to one: what is kept, lines have said.
+-- Every run from such a state reaches one: what is stored was read from lines.
 abbrev pub RunsKeepSayable : Type 0
 RunsKeepSayable = (old : State) (done : List Did) (new : State) → Run old done new
     → IsSayableState old → IsSayableState new
@@ -119,7 +119,7 @@ RunsKeepSayable = (old : State) (done : List Did) (new : State) → Run old done
 abbrev pub OpeningIsSayable : Type 0
 OpeningIsSayable = IsSayableState opening
 
--- So is each state that a run comes to from a state to start from whose store is such.
+-- So is each state that a run reaches from a state to start from whose store is such.
 abbrev pub StatesAreSayable : Type 0
 StatesAreSayable = (start : State) → IsStart start → IsSayableStore start.store → (done : List Did)
     (new : State) → Run start done new → IsSayableState new

@@ -1,4 +1,4 @@
--- What a session is told of a query that it watches, among all that it is told.
+-- What a session is sent of a query that it watches, among all that it is sent.
 use Rattle.std.specs.Prelude.{ℕ, List, [], ◌∷◌, ◌++◌, ◌≡◌, ◌<◌, Bool, false, filter, map, AllPairs}
 use Rattle.std.specs.List.{flat_map}
 use Rattle.djq_model.specs.Data.{Bytes, Tuple, bytes_eq}
@@ -14,18 +14,18 @@ use Rattle.djq_run_laws.specs.Watched.{WatchesAlong, numbers_along, Told, all_ad
 abbrev pub replies_text : List Reply → Bytes
 replies_text rs = flat_map reply_text rs
 
--- whether a reply tells of a query's deltas: an answer that came or went, or the number of a change
+-- whether a reply is of a query's deltas: an answer that was added or removed, or the number of a change
 abbrev pub is_told_of : Bytes → Reply → Bool
 is_told_of name (changed s query t) = bytes_eq query name
 is_told_of name (counted query n) = bytes_eq query name
 is_told_of name r = false
 
--- the replies that tell a delta
+-- the replies of a delta
 abbrev pub delta_replies : Bytes → Told → List Reply
 delta_replies name t = map (λ c. changed c.sign name c.answer) t.changes ++ counted name t.number ∷ []
 
 -- Along a run in which a session watches a query, all that is queued to it is whole reply lines. Of
--- these, those that tell of the query are the lines of its deltas, one delta after the other, and no
+-- these, those that are of the query are the lines of its deltas, one delta after the other, and no
 -- others: one delta for each accepted change of a relation that the query reads, by rising number.
 -- They add up from any listing of the answers at the start to a listing of those at the end.
 pub record IsToldExactly (q : Listed) (s : ℕ) (old : State) (done : List Did) (new : State)

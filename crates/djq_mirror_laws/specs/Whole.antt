@@ -15,22 +15,22 @@ use Rattle.djq_run_laws.specs.Silent.{OpensNone}
 use Rattle.djq_mirror_laws.specs.Sayable.{IsSayableStore}
 use Rattle.djq_mirror_laws.specs.Mirrored.{HoldsTextsOf, SessionReads, EndsNow, IsReadBack}
 
--- What comes after a session that reads a query: nothing; or it says `quit` or `stop`, or its input ends, or it is
--- closed, and then whatever comes, but for a session of its id.
+-- What follows a session that reads a query: nothing; or it sends `quit` or `stop`, or its input ends, or it is
+-- closed, and then whatever follows, but for a session of its id.
 abbrev pub LeavesOff : ℕ → State → List Did → State → Type 0
 LeavesOff s old [] new = new ≡ old
 LeavesOff s old (d ∷ later) new = (mid : State) × Step old d.event d.effect mid × EndsNow s d.event
     × Run mid later new × All (λ e. OpensNone s e.event) later
 
--- The same, whatever comes.
+-- The same, whatever follows.
 abbrev pub GoesOnBehind : ℕ → State → List Did → State → Type 0
 GoesOnBehind s old [] new = new ≡ old
 GoesOnBehind s old (d ∷ later) new =
     (mid : State) × Step old d.event d.effect mid × EndsNow s d.event × Run mid later new
 
--- A whole run of a session: nothing is queued to it, until it waits, begins to watch a query, and reads
--- it through one cursor at a time. It does so up to a state, the last one, or the one in which it says `quit` or
--- `stop`, its input ends, or it is closed.
+-- A whole run of a session: nothing is queued to it, until it waits, begins to watch a query, and reads it through
+-- one cursor at a time. It does so up to a state, the last one, or the one in which it sends `quit` or `stop`, its
+-- input ends, or it is closed.
 pub record ReadsWhole (q : Listed) (s : ℕ) (start : State) (whole : List Did) (at new : State) : Type 0
   where
     pub earlier : List Did
@@ -45,15 +45,15 @@ pub record ReadsWhole (q : Listed) (s : ℕ) (start : State) (whole : List Did) 
     pub leaves : LeavesOff s at later new
     pub is : whole ≡ earlier ++ ((fore ++ done) ++ later)
 
--- The whole of what is queued to such a session comes to what a mirror holds: no byte of it is refused.
--- And where the mirror is live, it holds the query's answers over the rows of that state: those that are
--- there now, where the session goes on, and else those that there were as it ended or was closed.
+-- The whole of what is queued to such a session gives what a mirror holds: no byte of it is refused. And if the
+-- mirror is live, it holds the query's answers over the rows of that state: those that are there now, if the session
+-- isn't ended, and else those that there were as it ended or was closed.
 abbrev pub SessionsAreReadBack : Type 0
 SessionsAreReadBack = (start : State) → IsStart start → IsSayableStore start.store → (q : Listed) (s : ℕ)
     (whole : List Did) (at new : State) → ReadsWhole q s start whole at new → IsReadBack q s whole at
 
--- Such a run of a session, from the step on in which it opens; and then it says `quit` or `stop`, its input ends, or
--- it is closed, and whatever comes after that.
+-- Such a run of a session, from the step on in which it opens; and then it sends `quit` or `stop`, its input ends,
+-- or it is closed, and whatever follows that.
 pub record ReadsSinceOpened (q : Listed) (s : ℕ) (start : State) (whole : List Did) (at new : State) : Type 0
   where
     pub earlier : List Did
@@ -81,8 +81,8 @@ OpenedAreReadBack = (start : State) → IsStart start → IsSayableStore start.s
     (whole : List Did) (at new : State) → OpensOnceOnly s whole → ReadsSinceOpened q s start whole at new
     → IsReadBack q s whole at
 
--- What an input comes to in a mirror is all that it comes to: no line of it is refused, and whatever a
--- mirror holds behind it is in the same mode and shows the same answers.
+-- The result of an input in a mirror is the only one: no line of it is refused, and whatever a mirror holds after it
+-- is in the same mode and shows the same answers.
 abbrev pub HeldAlone : Type 0
 HeldAlone = (name input : Bytes) (held : Held) → HoldsAtEnd name input held
     → ((n : ℕ) → FirstIsRefused name input n → ⊥)

@@ -21,7 +21,7 @@ use Rattle.djq_run.specs.declared.status.Status.TheVariants.{LogFull, BadLog, Mi
 abbrev pub Awaits : State → Type 0
 Awaits st = IsSomeAnd (session_of st 1) AwaitsInput
 
--- The source has nothing left, where it tells.
+-- The source has nothing left, if it shows its record.
 abbrev pub IsAtEnd : Option SourceReading → Type 0
 IsAtEnd reading = IfSome reading (λ r. r.left ≡ [])
 
@@ -44,15 +44,15 @@ pub record EndedBy (P : EndCause → Type 0) (st : State) : Type 0 where
   pub written : pending_of st 1 ≡ []
   pub cause : IsSomeAnd (cause_of st 1) P
 
--- Some of what was queued isn't written. Where the session's input has ended, the source is at its
+-- Some of what was queued isn't written. If the session's input has ended, the source is at its
 -- end.
 pub record IsUnsent (reading : Option SourceReading) (st : State) : Type 0 where
   pub some : 0 < length (pending_of st 1)
   pub at_end : cause_of st 1 ≡ Some Input → IsAtEnd reading
 
--- What each status says of the state that the run led to, of the bytes that were fed on its way,
--- and of what is left. With the counts of faults these shut one another out, so each status comes
--- exactly where what it says holds.
+-- What each status means for the state that the run led to, for the bytes that were fed before, and
+-- for what is left. With the counts of faults these exclude one another, so each status is returned
+-- if and only if its meaning holds.
 abbrev pub StatusStands : Status → Bytes → Option SourceReading → State → Type 0
 StatusStands Done fed reading st = EndedBy (IsWellEnded reading st) st
 StatusStands SessionEnded fed reading st = EndedBy IsCutOff st
@@ -79,7 +79,7 @@ abbrev pub StatusCount : Status → ℕ → ℕ → Type 0
 StatusCount WriteFault before now = Counted before now
 StatusCount _ before now = now ≡ before
 
--- whether a status says that a write failed
+-- whether a status reports that a write failed
 abbrev pub is_write_fault : Status → Bool
 is_write_fault WriteFault = true
 is_write_fault _ = false
@@ -89,11 +89,11 @@ abbrev pub NothingDone : Status → Outside → Outside → State → State → 
 NothingDone NoMemory before now start state = (now ≡ before) × (state ≡ start)
 NothingDone _ before now start state = ⊥
 
--- How a run ends: by which course it came to its last state, what the status says of that, and
+-- How a run ends: by which course it reached its last state, what the status means for that, and
 -- which faults there were.
 pub record RunEnds (status : Status) (before now : Outside) (start state : State) : Type 0 where
   pub course : Course start before now state
-  -- a write failed under WriteFault alone, and nothing was done behind it
+  -- a write failed under WriteFault alone, and nothing was done after it
   pub failed : course.failed ≡ is_write_fault status
   pub stands : StatusStands status (all_fed 1 course.done) now.reading state
       ⊎ NothingDone status before now start state

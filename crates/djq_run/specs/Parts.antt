@@ -1,4 +1,4 @@
--- What the parts of a run say: a flush, the lines of what is held, a read.
+-- What holds of the parts of a run: a flush, the lines of what is held, a read.
 use Rattle.std.specs.Prelude.{ℕ, List, [], ◌∷◌, ◌≡◌, ◌<◌, ◌≤◌, Bool, true, false, not, Option, None, Some, length}
 use Rattle.djq_io.specs.Faults.{Counted}
 use Rattle.djq_io.specs.declared.sink.Write.{Write}
@@ -24,11 +24,11 @@ pub record IsAlone (st : State) : Type 0 where
 abbrev pub with_sink : Outside → Option (List Write) → ℕ → Counts → Outside
 with_sink o writing faults counted = record o { writing = writing; write_faults = faults; counted = counted }
 
--- There is a course, behind which a write failed or, by this, didn't.
+-- There is a course, after which a write failed or, by this, didn't.
 abbrev pub GoesTo : Bool → State → Outside → Outside → State → Type 0
 GoesTo failed start before now state = (course : Course start before now state) × (course.failed ≡ failed)
 
--- What is left pending by a flush: nothing where all was written, and else something.
+-- What is left pending by a flush: nothing if all was written, and else something.
 abbrev pub LeavesPending : Bool → Bytes → Type 0
 LeavesPending true pending = pending ≡ []
 LeavesPending false pending = 0 < length pending
@@ -49,7 +49,7 @@ pub record Flushed (whole : Bool) (told : Option (List Write)) (count : ℕ) (ol
   pub pending : LeavesPending whole (pending_of new 1)
   pub faults : FlushCounts whole count count'
 
--- What the session has come to. Running lines doesn't end its input.
+-- The session's state afterwards. Running lines doesn't end its input.
 abbrev pub ServedTo : Served → State → State → Type 0
 ServedTo AwaitsInput old new = Awaits new
 ServedTo (Ended c) old new = (cause_of new 1 ≡ Some c) × (pending_of new 1 ≡ [])
@@ -62,12 +62,12 @@ abbrev pub write_failed : Served → Bool
 write_failed WriteFault = true
 write_failed _ = false
 
--- The count of the sink's faults rises where a write failed alone.
+-- The count of the sink's faults rises only if a write failed.
 abbrev pub ServedCount : Served → ℕ → ℕ → Type 0
 ServedCount WriteFault before now = Counted before now
 ServedCount _ before now = now ≡ before
 
--- the status of a session that was served so, where the run ends by it
+-- the status of a session that was served so, if the run ends by it
 abbrev pub status_of : Served → Option Status
 status_of AwaitsInput = None
 status_of (Ended Input) = Some Done
@@ -83,8 +83,8 @@ abbrev pub failed_by : Option Status → Bool
 failed_by None = false
 failed_by (Some status) = is_write_fault status
 
--- A read goes on to where input may come, with a byte fed at least and no fault; or it ends the
--- run.
+-- A read leads to a state in which input may arrive, with a byte fed at least and no fault; or it
+-- ends the run.
 abbrev pub RunGoesOn : Option Status → Bytes → Outside → Outside → State → Type 0
 RunGoesOn None fed before now new = Awaits new × (1 ≤ length fed)
     × (now.read_faults ≡ before.read_faults) × (now.write_faults ≡ before.write_faults)
@@ -92,7 +92,7 @@ RunGoesOn (Some status) fed before now new = StatusStands status fed now.reading
     × ReadsCount status before.read_faults now.read_faults
     × StatusCount status before.write_faults now.write_faults
 
--- What a read comes to.
+-- The result of a read.
 pub record ReadEnds (status : Option Status) (before now : Outside) (old new : State) : Type 0 where
   pub course : Course old before now new
   pub failed : course.failed ≡ failed_by status

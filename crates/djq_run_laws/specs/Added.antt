@@ -20,11 +20,11 @@ abbrev pub of_sign : Sign → List Change → List Tuple
 of_sign sign [] = []
 of_sign sign (c ∷ cs) = if same_sign sign c.sign then c.answer ∷ of_sign sign cs else of_sign sign cs
 
--- the answers that are left and those that came
+-- the answers that are left and those that were added
 abbrev pub added_up : List Tuple → List Change → List Tuple
 added_up ts changes = filter (λ t. not (has_row (of_sign Went changes) t)) ts ++ of_sign Came changes
 
--- A listing and the delta of a change come to a listing of the answers behind it.
+-- A listing and the delta of a change together are a listing of the answers after it.
 abbrev pub DeltasAddUp : Type 0
 DeltasAddUp = (before after : List Relation) (q : Listed) (ts : List Tuple) (changes : List Change)
     → IsListing (AnswersOf before q) ts → IsDelta (AnswersOf before q) (AnswersOf after q) changes

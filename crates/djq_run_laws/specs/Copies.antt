@@ -14,12 +14,12 @@ use Rattle.djq_store_spec.specs.Lines.{after_verb}
 use Rattle.djq_store_spec.specs.Transaction.{SuitAll, DoesAll}
 use Rattle.djq_run_laws.specs.Sound.{IsSoundStore}
 
--- A row is there exactly where it has a copy.
+-- A row is there if and only if it has a copy.
 abbrev pub RowsHaveCopies : Type 0
 RowsHaveCopies = (st : Store) → IsSoundStore st → (name : Bytes) (row : Tuple)
     → has_row (rows_of st.relations name) row ≡ nat_le 1 (copies_of st name row)
 
--- A row has so many copies afterwards, and every other one as many as before; where this is a change,
+-- A row has so many copies afterwards, and every other one as many as before; if this is a change,
 -- it is counted.
 pub record LeavesCopies (old : Store) (name : Bytes) (row : Tuple) (copies : ℕ) (is_change : Bool)
     (new : Store) : Type 0 where
@@ -28,25 +28,25 @@ pub record LeavesCopies (old : Store) (name : Bytes) (row : Tuple) (copies : ℕ
       → copies_of new n t ≡ copies_of old n t
   pub counted : new.seq ≡ (if is_change then old.seq + 1 else old.seq)
 
--- the copies that are told
+-- the copies that are reported
 abbrev pub copies_added : AddOutcome → ℕ
 copies_added First = 1
 copies_added (More copies) = copies
 
--- the copies of a row that are told to be left
+-- the copies of a row that are reported to be left
 abbrev pub copies_left : DeleteOutcome → ℕ
 copies_left Last = 0
 copies_left (Left copies) = copies
 copies_left Absent = 0
 
--- An `add` that is done makes one copy more, and tells how many there are then. The first is a change.
+-- An `add` that is done makes one copy more, and returns how many there are then. The first is a change.
 abbrev pub AddsCopy : Type 0
 AddsCopy = (old : Store) → IsSoundStore old → (name : Bytes) (row : Tuple) (outcome : AddOutcome)
     (new : Store) → AddsRow old name row (Ok outcome) new
     → LeavesCopies old name row (copies_of old name row + 1) (copies_of old name row == 0) new
     × (copies_added outcome ≡ copies_of new name row)
 
--- A `del` that is done takes one copy, where there is one, and tells how many are left. The last is a
+-- A `del` that is done removes one copy, if there is one, and returns how many are left. The last is a
 -- change.
 abbrev pub TakesCopy : Type 0
 TakesCopy = (old : Store) → IsSoundStore old → (name : Bytes) (row : Tuple) (outcome : DeleteOutcome)

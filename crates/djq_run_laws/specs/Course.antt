@@ -11,7 +11,7 @@ use Rattle.djq_machine.specs.Run.{Did, Walk, pieces_of, pending_of}
 use Rattle.djq_machine.specs.Call.{Counts}
 use Rattle.djq_io.specs.declared.limits.TheConstants.{READ_BYTES}
 
--- Nothing is pending, no line can be run, and input may come.
+-- Nothing is pending, no line can be run, and input may arrive.
 pub record AwaitsInput (x : Session) : Type 0 where
   pub written : x.pending ≡ []
   pub running : x.cause ≡ None
@@ -33,8 +33,8 @@ MayRun st (closed s bytes) = ⊥
 abbrev pub RunNext : State → Did → State → Type 0
 RunNext old d new = MayRun old d.event × Step old d.event d.effect new
 
--- The write behind a thing that was done: bytes that are taken of the session were one write, which
--- was offered all that was pending, and took so many.
+-- The write after a thing that was done: bytes that are sent from the session's pending ones were one
+-- write, which was offered all that was pending, and accepted so many.
 abbrev pub writes_by : State → Event → List Write
 writes_by st (took s bytes) = record { piece = pending_of st 1; answer = Took (length bytes) } ∷ []
 writes_by st _ = []
@@ -50,7 +50,7 @@ RunDoes old (d ∷ done) writes new = (mid : State) × RunNext old d mid × (lat
 abbrev pub ListsStep : ℕ → Did → ℕ → Type 0
 ListsStep before d now = now ≤ before + d.effect.cost
 
--- The write that failed behind all that was done, where one did: it was offered all that is pending.
+-- The write that failed after all that was done, if one did: it was offered all that is pending.
 abbrev pub last_write : Bool → State → List Write
 last_write false st = []
 last_write true st = record { piece = pending_of st 1; answer = Failed } ∷ []
@@ -75,12 +75,11 @@ outside reading read_faults writing write_faults counted =
       counted = counted;
     }
 
--- A run of the machine, as `run` may make it. The pieces that the session was fed are the pieces
--- that the source gave, in order: what was read is fed, and what it brings about is done before the
--- next read. The sink tells one write for each time that bytes of the session were taken; and behind
--- them at most one that failed, of what is pending still, so that nothing was done and nothing
--- written behind it. And each thing that was done has its own count of lookups and links of listings, and
--- its own bound.
+-- A run of the machine, as `run` may make it. The pieces that the session was fed are the pieces that the
+-- source gave, in order: what was read is fed, and what it brings about is done before the next read. The
+-- sink records one write for each time that bytes of the session were sent; and after them at most one
+-- that failed, of what is pending still, so that nothing was done and nothing written after it. And each
+-- thing that was done has its own count of lookups and links of listings, and its own bound.
 pub record Course (start : State) (before now : Outside) (state : State) : Type 0 where
   pub done : List Did
   pub writes : List Write

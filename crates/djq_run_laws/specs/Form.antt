@@ -72,13 +72,13 @@ use Rattle.djq_store_spec.specs.Transaction.{hold_refusal}
 use Rattle.djq_run_laws.specs.Moved.{EndsByRun}
 use Rattle.djq_run_laws.specs.Sound.{IsConnex, IsSoundListed, IsWithinLimits}
 
--- What a command may make of the session that says it.
+-- How a command may change the session that sends it.
 pub data Turn : Type 0 where
   -- a cursor of a name opens over a query
   opens_cursor : Bytes → Bytes → Turn
   -- it gives further answers
   moves_cursor : Bytes → Turn
-  -- it is gone
+  -- it is closed
   closes_cursor : Bytes → Turn
   -- a query is watched
   starts_watching : Bytes → Turn
@@ -93,14 +93,14 @@ pub data Turn : Type 0 where
 
 -- What a command of rows may bring.
 pub data RowCommand : Type 0 where
-  -- a copy of a row comes
+  -- a copy of a row is inserted
   row_comes : Bytes → Tuple → RowCommand
-  -- one goes
+  -- one is deleted
   row_goes : Bytes → Tuple → RowCommand
-  -- the lines that a batch holds are carried out, where `done` may name their number, and the batch is closed
+  -- the lines that a batch holds are carried out, for which `done` may name their number, and the batch is closed
   carries_out : HeldTransaction → Option ℕ → RowCommand
 
--- A command asks; or it is of the store, of the session that says it, or of rows; or it ends the
+-- A command asks; or it is of the store, of the session that sends it, or of rows; or it ends the
 -- session.
 pub data Form : Type 0 where
   asking : Form
@@ -109,7 +109,7 @@ pub data Form : Type 0 where
   changing : RowCommand → Form
   ending : Form
 
--- `add`, where a batch is open or none is
+-- `add`, if a batch is open or none is
 abbrev pub add_form : Option HeldTransaction → Bytes → Bytes → Tuple → Form
 add_form None l name row = changing (row_comes name row)
 add_form (Some held) l name row = turning (holds_line l Adds name row)
@@ -119,12 +119,12 @@ abbrev pub delete_form : Option HeldTransaction → Bytes → Bytes → Tuple �
 delete_form None l name row = changing (row_goes name row)
 delete_form (Some held) l name row = turning (holds_line l Deletes name row)
 
--- `done`, which is misplaced where none is
+-- `done`, which is misplaced if none is
 abbrev pub done_form : Option HeldTransaction → Option ℕ → Form
 done_form None given = asking
 done_form (Some held) given = changing (carries_out held given)
 
--- the form of a command in a session with such a batch, where this line says it
+-- the form of a command in a session with such a batch, if it is on this line
 abbrev pub form_of : Option HeldTransaction → Bytes → Command → Form
 form_of batch l (Rel name types) = storing
 form_of batch l (Register q) = storing
@@ -153,7 +153,7 @@ pub record SaysAlone (s : ℕ) (e : Effect) : Type 0 where
   pub kept : Keeping
   pub effect : e ≡ record { queued = (s, text) ∷ []; cost = cost; kept = kept }
 
--- A state stays as a reply is told; or the session ends, out of memory, in the midst of its reply.
+-- A state stays as a reply is sent; or the session ends, out of memory, in the midst of its reply.
 pub data Replied (s : ℕ) (mid new : State) : Type 0 where
   is_whole : new ≡ mid → Replied s mid new
   is_cut : new ≡ with_session mid s (ended_by Memory) → Replied s mid new
@@ -169,8 +169,8 @@ abbrev pub listed_texts : Listed → List Bytes
 listed_texts (a_query q) = texts_in (constants_of q)
 listed_texts (a_union name qs) = []
 
--- A relation may be made where its name is new, it has a column at least and no more than it may, and
--- there is a place for it.
+-- A relation may be made if its name is new, it has a column at least and no more than it may, and there is a
+-- place for it.
 pub record MayMake (st : Store) (name : Bytes) (types : List ColumnType) : Type 0 where
   pub new : relation_of st.relations name ≡ None
   pub some : 1 ≤ length types
@@ -184,7 +184,7 @@ MayRegister st (a_query q) =
     IsConnex (a_query q) × IsSoundListed st.relations st.queries (a_query q) × IsWithinLimits q
 MayRegister st (a_union name qs) = IsSoundListed st.relations st.queries (a_union name qs)
 
--- What a command of the store makes of it, where some queries are in use.
+-- How a command of the store changes it, if some queries are in use.
 pub data Stored (used : Bytes → Bool) (old new : Store) : Type 0 where
   -- no more than that texts become known
   learns_texts : LearnsTexts old new → Stored used old new
@@ -193,7 +193,7 @@ pub data Stored (used : Bytes → Bool) (old new : Store) : Type 0 where
       → new ≡ record old {
         relations = old.relations ++ record { name = name; types = types; rows = [] } ∷ [];
       } → Stored used old new
-  -- what may be, and is of a new name, is registered where there is a place, and its texts become known
+  -- what may be, and is of a new name, is registered if there is a place, and its texts become known
   registers : (q : Listed) → listed_of old.queries (listed_name q) ≡ None → MayRegister old q
       → length old.queries < QUERIES → (length old.texts ≤ TEXTS → length new.texts ≤ TEXTS)
       → new ≡ record old {
@@ -257,7 +257,7 @@ RowsChanged old s (row_comes name row) e new = AddStep old s name row e new
 RowsChanged old s (row_goes name row) e new = DeleteStep old s name row e new
 RowsChanged old s (carries_out held given) e new = DoneStep old s held given e new
 
--- A command of the store is told, once it is done.
+-- A command of the store is answered, once it is done.
 pub record DoesStore (old : State) (s : ℕ) (new : State) : Type 0 where
   pub store : Store
   pub stored : Stored (in_use old) old.store store

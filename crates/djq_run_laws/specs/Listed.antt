@@ -1,4 +1,4 @@
--- What a session is told in reply to `next`, against what its cursors have given.
+-- What a session is sent in reply to `next`, against what its cursors have given.
 use Rattle.std.specs.Prelude.{
   ℕ,
   List,
@@ -36,7 +36,7 @@ use Rattle.djq_machine.specs.Run.{Did, Run, to_session}
 use Rattle.djq_run_laws.specs.Live.{HasListed}
 use Rattle.djq_run_laws.specs.Sound.{IsStart}
 
--- whether a reply to `open` says that the cursor is open
+-- whether a reply to `open` reports that the cursor is open
 abbrev pub is_opened : Bytes → Bool
 is_opened reply = bytes_eq reply (line (codes "ok open"))
 
@@ -44,7 +44,7 @@ is_opened reply = bytes_eq reply (line (codes "ok open"))
 abbrev pub is_misplacing : Bytes → Bool
 is_misplacing reply = bytes_eq reply (refusal_line Misplaced)
 
--- The replies to `next` on a cursor of a name, once a line had this reply: there are none behind one
+-- The replies to `next` on a cursor of a name, once a line had this reply: there are none after one
 -- that opened it, and none to one that a batch doesn't let through.
 abbrev pub replies_behind : Bytes → List Bytes → Reading → Bytes → List Bytes
 replies_behind c replies (says_command (Open d q)) reply =
@@ -66,7 +66,7 @@ replies_since s c replies [] = replies
 replies_since s c replies (d ∷ done) =
     replies_since s c (replies_after s c replies d.event (to_session s d.effect.queued)) done
 
--- a reply to `next`: answers, and whether the end is told behind them
+-- a reply to `next`: answers, and whether the end follows them
 pub record Page : Type 0 where
   pub answers : List Tuple
   pub end : Bool
@@ -75,33 +75,33 @@ pub record Page : Type 0 where
 abbrev pub page_text : Page → Bytes
 page_text p = text_of (listing_lines p.answers p.end)
 
--- whether the last of these pages tells the end; as before where there is none
+-- whether the last of these pages has the end; as before if there is none
 abbrev pub last_end : Bool → List Page → Bool
 last_end end [] = end
 last_end end (p ∷ pages) = last_end p.end pages
 
--- Replies tell, page by page, the answers that were given, in order, and the end behind the last of
--- them exactly where the cursor is finished.
+-- Replies have, page by page, the answers that were given, in order, and the end after the last of
+-- them if and only if the cursor is finished.
 pub record TellGiven (replies : List Bytes) (given : List Tuple) (finished : Bool) : Type 0 where
   pub pages : List Page
   pub texts : map page_text pages ≡ replies
   pub answers : flat_map (λ p. p.answers) pages ≡ given
   pub end : last_end false pages ≡ finished
 
--- where the cursor of a name stands
+-- the position of the cursor of a name
 abbrev pub position_among : List Cursor → Bytes → Option Position
 position_among cursors c = option_map (λ k. k.position) (cursor_of cursors c)
 
--- where the cursor of a name stands in a session, if there is one
+-- the position of the cursor of a name in a session, if there is one
 abbrev pub position_in : Option Session → Bytes → Option Position
 position_in None c = None
 position_in (Some x) c = position_among x.cursors c
 
--- where a session's cursor of a name stands; none where it has no such cursor
+-- the position of a session's cursor of a name; none if it has no such cursor
 abbrev pub session_position : State → ℕ → Bytes → Option Position
 session_position st s c = position_in (session_of st s) c
 
--- What an open cursor has given is what its session was told since it opened it: so it is along
+-- What an open cursor has given is what its session was sent since it opened it: so it is along
 -- every run from a state to start from.
 abbrev pub GivenIsTold : Type 0
 GivenIsTold = (start : State) → IsStart start → (s : ℕ) (c : Bytes) (done : List Did) (new : State)
@@ -109,7 +109,7 @@ GivenIsTold = (start : State) → IsStart start → (s : ℕ) (c : Bytes) (done 
     → session_position new s c ≡ Some (open_at given finished)
     → TellGiven (replies_since s c [] done) given finished
 
--- A session that has listed a query was told the listing, since it opened the cursor: each answer
+-- A session that has listed a query was sent the listing, since it opened the cursor: each answer
 -- over the present rows, once, and the end.
 abbrev pub ListedIsTold : Type 0
 ListedIsTold = (start : State) → IsStart start → (q : Listed) (s : ℕ) (given : List Tuple)

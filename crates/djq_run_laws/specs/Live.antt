@@ -21,7 +21,7 @@ use Rattle.djq_run_laws.specs.Watched.{
 use Rattle.djq_run_laws.specs.Staying.{GoesOn, KeepsWatch}
 use Rattle.djq_run_laws.specs.Sound.{IsStart}
 
--- A cursor of a session was told the end, and has given these.
+-- A cursor of a session was sent the end, and has given these.
 pub record HasListed (q : Listed) (s : ℕ) (st : State) (given : List Tuple) : Type 0 where
   pub session : Session
   pub is_session : session_of st s ≡ Some session
@@ -30,8 +30,8 @@ pub record HasListed (q : Listed) (s : ℕ) (st : State) (given : List Tuple) : 
   pub of_query : listed_of st.store.queries cursor.query ≡ Some q
   pub is_finished : cursor.position ≡ open_at given true
 
--- What a session was given, and the deltas that it is told along a run, add up to a listing of the
--- answers at the end. It watches the query all the while, and is told one delta for each accepted
+-- What a session was given, and the deltas that it is sent along a run, add up to a listing of the
+-- answers at the end. It watches the query all the while, and is sent one delta for each accepted
 -- change of a relation that the query reads, by rising number: their lines are parts of all that is
 -- queued to it.
 pub record StaysLive (q : Listed) (s : ℕ) (given : List Tuple) (old : State) (done : List Did)
@@ -45,17 +45,17 @@ pub record StaysLive (q : Listed) (s : ℕ) (given : List Tuple) (old : State) (
   pub listing : IsListing (AnswersOf new.store.relations q) (all_added_up given told)
 
 -- So it is along every run from a state in which it has listed and watches a query, if it doesn't
--- unwatch it, and goes on at the end.
+-- unwatch it, and isn't ended at the end.
 abbrev pub LiveFrom : State → Type 0
 LiveFrom old = (q : Listed) (s : ℕ) (given : List Tuple) → HasListed q s old given → IsWatcher q s old
     → (done : List Did) (new : State) → Run old done new → All (λ d. KeepsWatch q s d.event) done
     → GoesOn new s → StaysLive q s given old done new
 
--- It is so where cursors give what they should.
+-- It is so if cursors give what they should.
 abbrev pub ListingsStayLive : Type 0
 ListingsStayLive = (old : State) → CursorsGive old → LiveFrom old
 
--- So it is from each state on that a run comes to from a state to start from.
+-- So it is from each state on that a run reaches from a state to start from.
 abbrev pub RunsStayLive : Type 0
 RunsStayLive = (start : State) → IsStart start → (done : List Did) (new : State) → Run start done new
     → LiveFrom new

@@ -18,15 +18,14 @@ abbrev pub SparesSession : Event → ℕ → Type 0
 SparesSession (closed t bytes) s = (t == s) ≡ false
 SparesSession _ s = Unit {0}
 
--- The bytes that are taken are the first that were pending; nothing else changes.
+-- The bytes that are sent are the first that were pending; nothing else changes.
 pub record SessionTakes (old new : State) (s : ℕ) (bytes : Bytes) : Type 0 where
   pub stays : IsOpen new s
   pub pending : pending_of old s ≡ bytes ++ pending_of new s
   pub held : held_of new s ≡ held_of old s
   pub cause : cause_of new s ≡ cause_of old s
 
--- Bytes of a session come: they are held behind what was, or dropped where it has ended, or it ends
--- out of memory.
+-- Bytes of a session arrive: they are held after what was, or dropped if it has ended, or it ends out of memory.
 pub data InputComes (old new : State) (s : ℕ) (bytes : Bytes) : Type 0 where
   is_held : IsOpen new s → cause_of old s ≡ None → cause_of new s ≡ None
       → held_of new s ≡ held_of old s ++ bytes
@@ -66,7 +65,7 @@ EndsByRun Memory = Unit {0}
 EndsByRun Slow = Unit {0}
 EndsByRun _ = ⊥
 
--- The end cause of a session whose front came to this.
+-- The end cause of a session whose front has this outcome.
 abbrev pub CausedBy : LineOutcome → Option EndCause → Type 0
 CausedBy long cause = cause ≡ Some Long
 CausedBy (blank l) cause = cause ≡ None
@@ -74,8 +73,7 @@ CausedBy (slow l) cause = cause ≡ Some Slow
 CausedBy (no_room l) cause = cause ≡ Some Memory
 CausedBy (run l) cause = IfSome cause EndsByRun
 
--- What is held of a session, before and after its front came to this: the line is gone, where one
--- was taken.
+-- What is held of a session, before and after its front's outcome: the line is removed, if there was one.
 abbrev pub LeavesHeldBytes : LineOutcome → Bytes → Bytes → Type 0
 LeavesHeldBytes long old new = new ≡ old
 LeavesHeldBytes (blank l) old new = front_of old ≡ a_line l new
@@ -83,7 +81,7 @@ LeavesHeldBytes (slow l) old new = front_of old ≡ a_line l new
 LeavesHeldBytes (no_room l) old new = front_of old ≡ a_line l new
 LeavesHeldBytes (run l) old new = front_of old ≡ a_line l new
 
--- The front of the bytes of a session that hadn't ended comes to this.
+-- The front of the bytes of a session that hadn't ended has this outcome.
 pub record LineIsStepped (old new : State) (s : ℕ) (outcome : LineOutcome) : Type 0 where
   pub stays : IsOpen new s
   pub running : cause_of old s ≡ None
@@ -95,12 +93,12 @@ abbrev pub StaysOpen : Type 0
 StaysOpen = (old : State) (event : Event) (e : Effect) (new : State) → Step old event e new
     → (s : ℕ) → SparesSession event s → IsOpen old s → IsOpen new s
 
--- What a step does to a session whose bytes come.
+-- What a step does to a session whose bytes arrive.
 abbrev pub BytesCome : Type 0
 BytesCome = (old : State) (s : ℕ) (bytes : Bytes) (e : Effect) (new : State)
     → Step old (fed s bytes) e new → InputComes old new s bytes
 
--- What a step does to a session whose pending bytes are taken.
+-- What a step does to a session whose pending bytes are sent.
 abbrev pub BytesAreTaken : Type 0
 BytesAreTaken = (old : State) (s : ℕ) (bytes : Bytes) (e : Effect) (new : State)
     → Step old (took s bytes) e new → SessionTakes old new s bytes
@@ -110,7 +108,7 @@ abbrev pub InputEnds : Type 0
 InputEnds = (old : State) (s : ℕ) (e : Effect) (new : State) → Step old (ended s) e new
     → InputIsOver old new s
 
--- What a step does to a session whose line is taken.
+-- What a step does to a session whose line is removed from its input.
 abbrev pub LineIsTaken : Type 0
 LineIsTaken = (old : State) (s : ℕ) (outcome : LineOutcome) (e : Effect) (new : State)
     → Step old (stepped s outcome) e new → LineIsStepped old new s outcome

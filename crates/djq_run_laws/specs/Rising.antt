@@ -1,4 +1,4 @@
--- The order in which open sessions stand.
+-- The order of open sessions.
 use Rattle.std.specs.Prelude.{List, ◌<◌, AllPairs}
 use Rattle.djq_machine.specs.State.{State}
 use Rattle.djq_machine.specs.Run.{Did, Run}

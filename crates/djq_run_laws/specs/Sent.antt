@@ -7,17 +7,17 @@ use Rattle.djq_machine.specs.Step.{Event, opened, took, closed}
 use Rattle.djq_machine.specs.Run.{Did, Run, out, all_taken, pending_of}
 use Rattle.djq_machine.specs.Call.{state_ids}
 
--- the pending bytes of a session that an event takes, or drops as it closes
+-- the pending bytes of a session that an event sends, or drops as it closes
 abbrev pub gone_by : ℕ → Event → Bytes
 gone_by s (took t bytes) = if t == s then bytes else []
 gone_by s (closed t bytes) = if t == s then bytes else []
 gone_by s _ = []
 
--- all that was taken or dropped
+-- all that was sent or dropped
 abbrev pub all_gone : ℕ → List Did → Bytes
 all_gone s done = flat_map (λ d. gone_by s d.event) done
 
--- Along every run, what was taken or dropped of a session's bytes, and then what is pending, is
+-- Along every run, what was sent or dropped of a session's bytes, and then what is pending, is
 -- what was pending and all that was queued to it.
 abbrev pub SentBytes : Type 0
 SentBytes = (s : ℕ) (old : State) (done : List Did) (new : State) → Run old done new
@@ -32,7 +32,7 @@ dropped_by s _ = []
 abbrev pub all_dropped : ℕ → List Did → Bytes
 all_dropped s done = flat_map (λ d. dropped_by s d.event) done
 
--- the id with which an event opens a session, where it does
+-- the id with which an event opens a session, if it does
 abbrev pub opened_by : Event → List ℕ
 opened_by (opened s) = s ∷ []
 opened_by _ = []
@@ -45,9 +45,9 @@ all_opened done = flat_map (λ d. opened_by d.event) done
 abbrev pub SessionsOpenOnce : State → List Did → Type 0
 SessionsOpenOnce old done = AllPairs (λ s t. s < t) (state_ids old ++ all_opened done)
 
--- Along every run in which no session opens twice, what was taken of a session's bytes, then what
+-- Along every run in which no session opens twice, what was sent of a session's bytes, then what
 -- was dropped as it closed, and then what is pending, is what was pending and all that was queued
--- to it. So what was taken is a first part of that.
+-- to it. So what was sent is a first part of that.
 abbrev pub SentInOrder : Type 0
 SentInOrder = (s : ℕ) (old : State) (done : List Did) (new : State) → Run old done new
     → SessionsOpenOnce old done

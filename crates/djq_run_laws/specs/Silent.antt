@@ -17,18 +17,18 @@ abbrev pub OpensNone : ℕ → Event → Type 0
 OpensNone s (opened t) = (t == s) ≡ false
 OpensNone s _ = Unit {0}
 
--- Nothing is queued to a session along a run, and behind it the session is over.
+-- Nothing is queued to a session along a run, and after it the session is over.
 pub record SessionStaysOver (s : ℕ) (done : List Did) (new : State) : Type 0 where
   pub silent : out s done ≡ []
   pub over : SessionIsOver new s
 
 -- So it is along every run in which a session is over, as long as none of its id opens: no reply is
--- queued behind its end, and no delta.
+-- queued after its end, and no delta.
 abbrev pub OverIsSilent : Type 0
 OverIsSilent = (s : ℕ) (old : State) → IsSoundState old → SessionIsOver old s → (done : List Did) (new : State)
     → Run old done new → All (λ d. OpensNone s d.event) done → SessionStaysOver s done new
 
--- So it is for good of a session that was open, where no session opens twice.
+-- So it is for good of a session that was open, if no session opens twice.
 abbrev pub OverOnce : Type 0
 OverOnce = (s : ℕ) (old : State) → IsSoundState old → IsOpen old s → (done : List Did) (mid : State)
     → Run old done mid → SessionIsOver mid s → (later : List Did) (new : State) → Run mid later new

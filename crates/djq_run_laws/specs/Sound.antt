@@ -1,4 +1,4 @@
--- What holds of every state that the machine comes to.
+-- What holds of every state that the machine reaches.
 use Rattle.std.specs.Prelude.{
   ℕ,
   List,
@@ -54,7 +54,7 @@ abbrev pub IsCopyCount : ℕ → Type 0
 IsCopyCount n = (1 ≤ n) × (n ≤ COPIES)
 
 -- A relation has a column at least, and no more columns and rows than may be. Its rows are of its
--- columns' types, and none stands twice; each has copies.
+-- columns' types, and none occurs twice; each has copies.
 pub record IsSoundRelation (r : Relation) : Type 0 where
   pub some : 1 ≤ length r.types
   pub columns : length r.types ≤ COLUMNS
@@ -131,7 +131,7 @@ abbrev pub verb_command : Verb → Bytes → Tuple → Command
 verb_command Adds name row = Add name row
 verb_command Deletes name row = Del name row
 
--- What is held of a line is what its bytes say.
+-- What is held of a line is what its bytes parse to.
 pub record IsHeldBySaying (l : Bytes) (h : HeldLine) : Type 0 where
   pub said : reading_of l ≡ says_command (verb_command h.verb h.relation h.row)
 
@@ -143,7 +143,7 @@ AreHeldBySaying (l ∷ ls) [] = ⊥
 AreHeldBySaying [] (h ∷ hs) = ⊥
 
 -- A batch holds no more lines than it may, and no more bytes of them. The row of each suits its relation, and the
--- line's bytes say it.
+-- line's bytes parse to it.
 pub record IsSoundBatch (st : Store) (held : HeldTransaction) : Type 0 where
   pub few : length held.lines ≤ HELD
   pub short : sum_by (λ l. length l) held.logged ≤ HELD_BYTES
@@ -169,13 +169,13 @@ pub record IsSoundState (st : State) : Type 0 where
   pub rising : AreRising st
   pub few : length st.sessions ≤ SESSIONS
 
--- Every run from a sound state comes to one.
+-- Every run from a sound state reaches a sound one.
 abbrev pub RunsKeepSound : Type 0
 RunsKeepSound = (old : State) (done : List Did) (new : State) → Run old done new → IsSoundState old
     → IsSoundState new
 
--- A state to start from: what is kept of the data is sound, no session is open, so that nothing is
--- queued, and none has said `stop`.
+-- A state to start from: its data is sound, no session is open, so that nothing is queued, and none has sent
+-- `stop`.
 pub record IsStart (st : State) : Type 0 where
   pub store : IsSoundStore st.store
   pub none : st.sessions ≡ []
@@ -185,7 +185,7 @@ pub record IsStart (st : State) : Type 0 where
 abbrev pub OpeningIsStart : Type 0
 OpeningIsStart = IsStart opening
 
--- Each state that a run comes to from a state to start from is sound.
+-- Each state that a run reaches from a state to start from is sound.
 abbrev pub StatesAreSound : Type 0
 StatesAreSound = (start : State) → IsStart start → (done : List Did) (new : State)
     → Run start done new → IsSoundState new

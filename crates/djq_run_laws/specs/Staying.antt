@@ -20,8 +20,8 @@ KeepsWatch q s (stepped t (run l)) =
 KeepsWatch q s (closed t bytes) = (t == s) ≡ false
 KeepsWatch q s _ = Unit {0}
 
--- A session that watches a registered query does so as long as it goes on and doesn't unwatch it;
--- the query stays registered.
+-- A session that watches a registered query does so as long as it isn't ended and doesn't unwatch
+-- it; the query stays registered.
 abbrev pub WatchersStay : Type 0
 WatchersStay = (q : Listed) (s : ℕ) (old : State) (done : List Did) (new : State) → Run old done new
     → All (λ d. KeepsWatch q s d.event) done → IsWatcher q s old → GoesOn new s

@@ -1,4 +1,4 @@
--- What a session is told that watches a query all along a run.
+-- What a session is sent that watches a query all along a run.
 use Rattle.std.specs.Prelude.{ℕ, List, [], ◌∷◌, ◌==◌, ◌≡◌, ◌<◌, ◌++◌, ◌&&◌, Bool, true, false, not}
 use Rattle.std.specs.Prelude.{Option, None, Some, is_some, IsSomeAnd, if◌then◌else◌, filter, map}
 use Rattle.std.specs.Prelude.{AllPairs}
@@ -23,12 +23,12 @@ use Rattle.djq_machine.specs.Run.{Did, Walk, out}
 use Rattle.djq_run_laws.specs.Added.{added_up}
 pub use Rattle.djq_run_laws.specs.Moved.{batch_in, batch_of}
 
--- A session goes on, and watches a registered query.
+-- A session isn't ended, and watches a registered query.
 pub record IsWatcher (q : Listed) (s : ℕ) (st : State) : Type 0 where
   pub registered : listed_of st.store.queries (listed_name q) ≡ Some q
   pub watches : IsSomeAnd (session_of st s) (λ x. (x.cause ≡ None) × (is_watching (listed_name q) x ≡ true))
 
--- It does so before a step and behind it.
+-- It does so before a step and after it.
 pub record WatchesStep (q : Listed) (s : ℕ) (old : State) (d : Did) (new : State) : Type 0 where
   pub before : IsWatcher q s old
   pub step : Step old d.event d.effect new
@@ -43,12 +43,12 @@ abbrev pub row_outdater : Option HeldTransaction → Bytes → Listed → Option
 row_outdater None name q = by_relation name q
 row_outdater (Some held) name q = None
 
--- the relation whose change by `done` does: the first that held lines name of which a row comes or goes
+-- the relation whose change by `done` does: the first that held lines name of which a row is inserted or deleted
 abbrev pub done_outdater : Store → Option HeldTransaction → Listed → Option Bytes
 done_outdater st None q = None
 done_outdater st (Some held) q = first_read held.lines (has_changed st.relations held.lines) q
 
--- the relation whose change by a line outdates a query, where the line may change one: it is a line of
+-- the relation whose change by a line outdates a query, if the line may change one: it is a line of
 -- a session with such a batch
 abbrev pub line_outdater : Store → Option HeldTransaction → Reading → Listed → Option Bytes
 line_outdater st batch (says_command (Add name row)) q = row_outdater batch name q
@@ -93,7 +93,7 @@ pub record Told : Type 0 where
   pub number : ℕ
   pub changes : List Change
 
--- the lines that tell it
+-- its lines
 abbrev pub told_text : Bytes → Told → Bytes
 told_text query t = text_of (delta_lines query t.changes t.number)
 
@@ -102,7 +102,7 @@ abbrev pub all_added_up : List Tuple → List Told → List Tuple
 all_added_up ts [] = ts
 all_added_up ts (t ∷ more) = all_added_up (added_up ts t.changes) more
 
--- Along a run in which a session watches a query it is told a delta for each accepted change of a
+-- Along a run in which a session watches a query it is sent a delta for each accepted change of a
 -- relation that the query reads, by rising number: their lines are parts of all that is queued to
 -- it. They add up from any listing of the answers at the start to a listing of those at the end.
 pub record DeltasAreTold (q : Listed) (s : ℕ) (old : State) (done : List Did) (new : State)
