@@ -1,4 +1,4 @@
--- A query that is asked of a catalog, and the query over numbers that stands for it.
+-- A query that is asked of a catalog, and the query over numbers that represents it.
 use Rattle.std.specs.Prelude.{
   ◌≡◌,
   ⊤,
@@ -40,16 +40,16 @@ use Rattle.djq_query.specs.Meaning.{TermsAreShown, IsComparisonShown, Rise, hole
 use Rattle.djq_database.specs.Cells.{HasCell, HaveCells}
 use Rattle.djq_database.specs.Catalog.{Catalog, IsCatalog, relation_at}
 
--- the type of the columns where a variable stands
+-- the type of the columns of a variable
 abbrev pub column_in : Option Variable → ColumnType
 column_in None = IntColumn
 column_in (Some v) = v.column
 
--- the type of the columns where the variable of a number stands
+-- the type of the columns of the variable of a number
 abbrev pub column_of : List Variable → ℕ → ColumnType
 column_of variables x = column_in (slice_get variables x)
 
--- A term suits a column of this type where it is of this type; and a constant has a cell.
+-- A term suits a column of this type if it is of this type; and a constant has a cell.
 abbrev pub TermSuits : List Bytes → List Variable → NumberedTerm → ColumnType → Type 0
 TermSuits texts variables (Number x) c = column_of variables x ≡ c
 TermSuits texts variables (Fixed v) c = (is_of c v ≡ true) × HasCell texts v
@@ -62,7 +62,7 @@ TermsSuit texts variables (t ∷ ts) (c ∷ cs) =
 TermsSuit texts variables [] (c ∷ cs) = ⊥
 TermsSuit texts variables (t ∷ ts) [] = ⊥
 
--- an atom by number stands for an atom: it is over the same relation, with the same terms, which
+-- an atom by number represents an atom: it is over the same relation, with the same terms, which
 -- suit the relation's columns
 pub record IsAtomOf (c : Catalog) (variables : List Variable) (a : Atom) (m : NumberedAtom) :
     Type 0 where
@@ -71,7 +71,7 @@ pub record IsAtomOf (c : Catalog) (variables : List Variable) (a : Atom) (m : Nu
   pub shown : TermsAreShown (labels variables) a.terms m.terms
   pub suited : TermsSuit c.texts variables m.terms (relation_at c.relations m.relation).types
 
--- atoms by number stand for atoms, one by one
+-- atoms by number represent atoms, one by one
 abbrev pub AreAtomsOf : Catalog → List Variable → List Atom → List NumberedAtom → Type 0
 AreAtomsOf c variables [] [] = ⊤
 AreAtomsOf c variables (a ∷ atoms) (m ∷ ms) =
@@ -79,11 +79,11 @@ AreAtomsOf c variables (a ∷ atoms) (m ∷ ms) =
 AreAtomsOf c variables [] (m ∷ ms) = ⊥
 AreAtomsOf c variables (a ∷ atoms) [] = ⊥
 
--- whether a variable, by its number, stands in one of these atoms
+-- whether a variable, by its number, occurs in one of these atoms
 abbrev pub is_in : List NumberedAtom → ℕ → Bool
 is_in ms x = list_any (λ m. list_any (is_number x) m.terms) ms
 
--- a comparison by number stands for a comparison: its variable has the name and stands in an atom,
+-- a comparison by number represents a comparison: its variable has the name and occurs in an atom,
 -- operator and constant are the same and suit the variable's type, and the constant has a cell
 pub record IsComparisonOf (texts : List Bytes) (variables : List Variable) (ms : List NumberedAtom)
     (k : Comparison) (n : NumberedComparison) : Type 0 where
@@ -93,7 +93,7 @@ pub record IsComparisonOf (texts : List Bytes) (variables : List Variable) (ms :
   pub ordered : has_order n.operator (column_of variables n.variable) ≡ true
   pub has : HasCell texts n.constant
 
--- comparisons by number stand for comparisons, one by one
+-- comparisons by number represent comparisons, one by one
 abbrev pub AreComparisonsOf : List Bytes → List Variable → List NumberedAtom → List Comparison
     → List NumberedComparison → Type 0
 AreComparisonsOf texts variables ms [] [] = ⊤
@@ -102,10 +102,10 @@ AreComparisonsOf texts variables ms (k ∷ ks) (n ∷ ns) =
 AreComparisonsOf texts variables ms [] (n ∷ ns) = ⊥
 AreComparisonsOf texts variables ms (k ∷ ks) [] = ⊥
 
--- A query over numbers stands for a query over a catalog: its variables are those of its body in
--- the order in which they first stand; atom by atom, each name has one number, each hole has one of
+-- A query over numbers represents a query over a catalog: its variables are those of its body in
+-- the order in which they first occur; atom by atom, each name has one number, each hole has one of
 -- its own, comparison by comparison it is of the number of its variable, and the head's numbers
--- have the head's names, of which none stands there twice.
+-- have the head's names, of which none occurs there twice.
 pub record IsAsked (c : Catalog) (q : Query) (n : Numbered) : Type 0 where
   pub catalog : IsCatalog c
   pub variables : labels n.variables ≡ variables_of q.atoms

@@ -16,7 +16,7 @@ use Rattle.std.specs.Prelude.{
 use Rattle.std.specs.List.{fold}
 use Rattle.djq_protocol.specs.Rest.{is_before}
 
--- with an edge more, where it isn't among them
+-- with an edge more, if it isn't among them
 unfoldable pub with_edge : List ℕ → List (List ℕ) → List (List ℕ)
 with_edge e [] = e ∷ []
 with_edge e (f ∷ fs) =
@@ -26,7 +26,7 @@ with_edge e (f ∷ fs) =
 abbrev pub in_order : List (List ℕ) → List (List ℕ)
 in_order edges = fold (λ sorted e. with_edge e sorted) [] edges
 
--- the edges in front of a place come before this one, and the edge there, if there is one, doesn't
+-- the edges before a place precede this one, and the edge there, if there is one, doesn't
 pub record IsPlaceFor (edges : List (List ℕ)) (e : List ℕ) (at : ℕ) : Type 0 where
   pub within : at ≤ length edges
   pub before : (k : ℕ) → k < at → is_before (slice_index_or edges k []) e ≡ true

@@ -53,7 +53,7 @@ pub record SuitsRelation (c : Catalog) (label : List ℕ) (at : ℕ) (p : Shape)
 abbrev pub relation_cells : Catalog → ℕ → List (List ℕ)
 relation_cells c at = map (cells_of c.texts) (rows_at c.relations at)
 
--- a leaf took a row in, and no other leaf changed what it holds
+-- a row was inserted into a leaf, and no other leaf changed what it holds
 pub record TakesRow (p : Shape) (leaf : ℕ) (cells : List ℕ) (old new : Reducts) : Type 0 where
   pub tree : new.tree ≡ old.tree
   pub bare : IsBare new.tables
@@ -62,7 +62,7 @@ pub record TakesRow (p : Shape) (leaf : ℕ) (cells : List ℕ) (old new : Reduc
   pub others : (j : ℕ) → j < old.tree.leaves → j ≢ leaf
       → KeepsTuples (entries_at old.tables j) (entries_at new.tables j)
 
--- a leaf has taken in the first of a relation's rows, up to those that are left
+-- the first of a relation's rows were inserted into a leaf, up to those that are left
 pub record LeafHasTaken (c : Catalog) (at : ℕ) (p : Shape) (leaf : ℕ) (left : List (List ℕ))
     (old new : Reducts) : Type 0 where
   pub done : List (List ℕ)

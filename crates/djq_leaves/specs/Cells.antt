@@ -22,16 +22,16 @@ pub record AreRowOf (c : Catalog) (at : ℕ) (cells : List ℕ) : Type 0 where
   pub there : Contains (rows_at c.relations at) row
   pub are : cells ≡ cells_of c.texts row
 
--- the cell that a term stands for
+-- the cell of a term
 abbrev pub cell_under : List Bytes → CellAssignment → NumberedTerm → ℕ
 cell_under texts a (Number x) = a x
 cell_under texts a (Fixed v) = cell_for texts v
 
--- An assignment satisfies an atom where the cells of its terms are those of a row of its relation.
+-- An assignment satisfies an atom if the cells of its terms are those of a row of its relation.
 abbrev pub IsSatisfied : Catalog → CellAssignment → NumberedAtom → Type 0
 IsSatisfied c a m = AreRowOf c m.relation (map (cell_under c.texts a) m.terms)
 
--- An assignment passes a comparison where the cell of its variable stands to that of its constant
--- as the operator says.
+-- An assignment passes a comparison if the operator holds of the cell of its variable and that of
+-- its constant.
 abbrev pub IsPassed : List Bytes → CellAssignment → NumberedComparison → Type 0
 IsPassed texts a k = passes k.operator (a k.variable) (cell_for texts k.constant) ≡ true

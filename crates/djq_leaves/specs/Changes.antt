@@ -1,4 +1,4 @@
--- What becomes of a registered query where a row comes or goes.
+-- How a registered query changes with rows that are inserted or deleted.
 use Rattle.std.specs.Prelude.{
   ◌≡◌,
   ◌≢◌,
@@ -50,7 +50,7 @@ pub record IsLater (c d : Catalog) : Type 0 where
   pub typed : (at : ℕ) → at < length c.relations
       → (relation_at d.relations at).types ≡ (relation_at c.relations at).types
 
--- cells stand for rows of the relation at a place, one for one
+-- cells represent rows of the relation at a place, one for one
 abbrev pub StandForRows : Catalog → ℕ → List (List ℕ) → List Tuple → Type 0
 StandForRows c at [] [] = ⊤
 StandForRows c at (k ∷ cells) (row ∷ rows) = StandForRow c at k row × StandForRows c at cells rows
@@ -62,7 +62,7 @@ pub record HasSameRows (c d : Catalog) : Type 0 where
   pub later : IsLater c d
   pub same : (at : ℕ) → at < length c.relations → rows_at d.relations at ≡ rows_at c.relations at
 
--- rows with these cells, one for one, came into the relation at a place
+-- rows with these cells, one for one, were inserted into the relation at a place
 pub record CameAll (c d : Catalog) (at : ℕ) (cells : List (List ℕ)) (new : List Tuple) : Type 0
   where
     pub later : IsLater c d
@@ -71,7 +71,7 @@ pub record CameAll (c d : Catalog) (at : ℕ) (cells : List (List ℕ)) (new : L
     pub others : (k : ℕ) → k < length c.relations → k ≢ at
         → rows_at d.relations k ≡ rows_at c.relations k
 
--- one row with these cells came
+-- one row with these cells was inserted
 abbrev pub Came : Catalog → Catalog → ℕ → List ℕ → Tuple → Type 0
 Came c d at cells row = CameAll c d at (cells ∷ []) (row ∷ [])
 
@@ -80,7 +80,7 @@ abbrev pub without_rows : List Tuple → List Tuple → List Tuple
 without_rows rows [] = rows
 without_rows rows (row ∷ gone) = without_rows (without_row rows row) gone
 
--- rows with these cells, one for one, went out of the relation at a place
+-- rows with these cells, one for one, were deleted from the relation at a place
 pub record WentAll (c d : Catalog) (at : ℕ) (cells : List (List ℕ)) (gone : List Tuple) : Type 0
   where
     pub later : IsLater c d
@@ -89,7 +89,7 @@ pub record WentAll (c d : Catalog) (at : ℕ) (cells : List (List ℕ)) (gone : 
     pub others : (k : ℕ) → k < length c.relations → k ≢ at
         → rows_at d.relations k ≡ rows_at c.relations k
 
--- one row with these cells went
+-- one row with these cells was deleted
 abbrev pub Went : Catalog → Catalog → ℕ → List ℕ → Tuple → Type 0
 Went c d at cells row = WentAll c d at (cells ∷ []) (row ∷ [])
 
@@ -126,51 +126,51 @@ pub record EachLeafChanges (Changes : Shape → List Entry → List Entry → Ty
   pub others : (j : ℕ) (m : NumberedAtom) → slice_get n.atoms j ≡ Some m → m.relation ≢ at
       → KeepsTuples (entries_at r.tables j) (entries_at s.tables j)
 
--- Where no rows change, the reducts stay those of the query.
+-- If no rows change, the reducts stay those of the query.
 abbrev pub OverStays : Type 0
 OverStays = (c d : Catalog) (q : Query) (n : Numbered) (ps : List Shape) (r : Reducts)
     → IsOver c q n ps r → HasSameRows c d → IsOver d q n ps r
 
--- Where rows came, they are once the leaves have gained their tuples.
+-- If rows were inserted, they are once the leaves have gained their tuples.
 abbrev pub OverGains : Type 0
 OverGains = (c d : Catalog) (q : Query) (n : Numbered) (ps : List Shape) (r s : Reducts) (at : ℕ)
     (cells : List (List ℕ)) (new : List Tuple) → IsOver c q n ps r → CameAll c d at cells new
     → EachLeafChanges (λ p old new. GainsAll p cells old new) at n ps r s → IsOver d q n ps s
 
--- Where rows went, they are once the leaves have lost their tuples.
+-- If rows were deleted, they are once the leaves have lost their tuples.
 abbrev pub OverLoses : Type 0
 OverLoses = (c d : Catalog) (q : Query) (n : Numbered) (ps : List Shape) (r s : Reducts) (at : ℕ)
     (cells : List (List ℕ)) (gone : List Tuple) → IsOver c q n ps r → WentAll c d at cells gone
     → EachLeafChanges (λ p old new. LosesAll p cells old new) at n ps r s → IsOver d q n ps s
 
--- A row that is added to a catalog, where it wasn't, came; one whose copies are deleted went.
+-- A row that is added to a catalog, if it wasn't there, is inserted.
 abbrev pub AddedCame : Type 0
 AddedCame = (c d : Catalog) (at : ℕ) (cells : List ℕ) (row : Tuple) → IsCatalog d
     → at < length c.relations → StandForRow c at cells row → d.texts ≡ c.texts
     → d.relations ≡ with_rows_at c.relations at (with_row (counted_at c.relations at) row)
     → Came c d at cells row
 
--- A row whose copies are deleted from a catalog went.
+-- A row whose copies are deleted from a catalog is deleted.
 abbrev pub DeletedWent : Type 0
 DeletedWent = (c d : Catalog) (at : ℕ) (cells : List ℕ) (row : Tuple) → IsCatalog d
     → at < length c.relations → StandForRow c at cells row → d.texts ≡ c.texts
     → d.relations ≡ with_rows_at c.relations at (without_copies (counted_at c.relations at) row)
     → Went c d at cells row
 
--- A row that goes behind others went together with them.
+-- A row that is deleted after others is deleted together with them.
 abbrev pub FurtherWent : Type 0
 FurtherWent = (c d e : Catalog) (at : ℕ) (cells : List (List ℕ)) (gone : List Tuple) (k : List ℕ)
     (row : Tuple) → at < length c.relations → e.texts ≡ d.texts → WentAll c d at cells gone
     → Went d e at k row → WentAll c e at (cells ++ k ∷ []) (gone ++ row ∷ [])
 
--- Where a row only has another number of copies, no relation has other rows.
+-- If a row only has another number of copies, no relation has other rows.
 abbrev pub CopiesKeepRows : Type 0
 CopiesKeepRows = (c d : Catalog) (at : ℕ) (row : Tuple) (n : ℕ) → IsCatalog d
     → at < length c.relations → d.texts ≡ c.texts
     → d.relations ≡ with_rows_at c.relations at (with_copies (counted_at c.relations at) row n)
     → HasSameRows c d
 
--- a leaf's entries hold exactly the tuples that put into the atom give one of these rows of cells
+-- a leaf's entries hold the tuples that put into the atom give one of these rows of cells, and no others
 abbrev pub HoldsThese : List (List ℕ) → Shape → List Entry → Type 0
 HoldsThese rows p es = (u : List ℕ) → (0 < count_of es u) ↔ GivesOne (Contains rows) p u
 

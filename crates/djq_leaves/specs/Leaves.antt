@@ -22,7 +22,7 @@ use Rattle.djq_database.specs.Catalog.{Catalog}
 use Rattle.djq_leaves.specs.Cells.{AreRowOf}
 use Rattle.djq_binder.specs.Asked.{IsAsked, constants_in}
 
--- There is a cell for each term, and where the term is a constant it is the constant's.
+-- There is a cell for each term, and if the term is a constant it is the constant's.
 abbrev pub IsCellOf : List Bytes → NumberedTerm → ℕ → Type 0
 IsCellOf texts (Number x) cell = ⊤
 IsCellOf texts (Fixed v) cell = cell ≡ cell_for texts v
@@ -50,8 +50,8 @@ pub record GivesOne (IsRow : List ℕ → Type 0) (p : Shape) (u : List ℕ) : T
   pub row : IsRow cells
   pub gives : GivesRow p u cells
 
--- A leaf's entries hold exactly the tuples that put into the atom give a row of its relation, and
--- that pass the atom's tests.
+-- A leaf's entries hold the tuples that put into the atom give a row of its relation, and that pass
+-- the atom's tests, and no others.
 pub record Holds (c : Catalog) (at : ℕ) (p : Shape) (es : List Entry) : Type 0 where
   pub exact : (u : List ℕ) → (0 < count_of es u) ↔ GivesOne (AreRowOf c at) p u
 

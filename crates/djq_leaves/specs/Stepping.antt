@@ -1,5 +1,5 @@
--- What becomes of reducts where a row's tuples come or go, leaf after leaf, and what a log tells of
--- it.
+-- How reducts change as a row's tuples are inserted or deleted, leaf after leaf, and what a log has
+-- of it.
 use Rattle.std.specs.Prelude.{
   ◌≡◌,
   ◌≢◌,
@@ -66,7 +66,7 @@ pub record ChangesAt {A : Type 0} (Changes : A → List Entry → List Entry →
   pub others : (i : ℕ) → i < r.tree.leaves → i ≢ j
       → KeepsTuples (entries_at r.tables i) (entries_at s.tables i)
 
--- So did the leaves below k whose atoms are over the relation at a place, each by what stands at its
+-- So did the leaves below k whose atoms are over the relation at a place, each by the item at its
 -- place in a list, as its pattern; each other one holds what it held.
 pub record ChangesBelow {A : Type 0} (Changes : A → List Entry → List Entry → Type 0) (at : ℕ)
     (atoms : List NumberedAtom) (ps : List A) (k : ℕ) (r s : Reducts) : Type 0 where
@@ -106,17 +106,16 @@ pub record HoldBelow {A : Type 0} (Holds : A → List Entry → Type 0) (at : �
 abbrev pub atoms_below : ℕ → List NumberedAtom → ℕ → ℕ
 atoms_below at atoms k = length (filter (λ a. a.relation == at) (take k atoms))
 
--- the lines that tell of answers
+-- the lines of answers
 abbrev pub answer_lines : Bool → List (List ℕ) → List Line
 answer_lines came us = map (λ u. record { came = came; answer = u }) us
 
--- Unless it is lost, the log tells of these answers behind what it told.
+-- Unless it is lost, these answers are appended to the log.
 pub record LogTellsOf (came : Bool) (us : List (List ℕ)) (old new : Log) : Type 0 where
   pub behind : new.lost ≡ false → new.lines ≡ old.lines ++ answer_lines came us
   pub stays : old.lost ≡ true → new.lost ≡ true
 
--- The log tells of all tuples that changed; listing them took a call for each, and so many more,
--- each
+-- The log has all tuples that changed; listing them needed a call for each, and so many more, each
 -- of which counts at most what it may in a head of h variables.
 pub record ListsAll (came : Bool) (Changed : List ℕ → Type 0) (h calls : ℕ) (old new : Log)
     (before now : ℕ) : Type 0 where
@@ -125,13 +124,13 @@ pub record ListsAll (came : Bool) (Changed : List ℕ → Type 0) (h calls : ℕ
   pub tells : LogTellsOf came answers old new
   pub counted : now ≤ before + (length answers + calls) * most_steps h
 
--- So it is where the delta is wanted; else nothing is listed.
+-- So it is if the delta is wanted; else nothing is listed.
 abbrev pub ListsWhere : Bool → Bool → (List ℕ → Type 0) → ℕ → ℕ → Log → Log → ℕ → ℕ → Type 0
 ListsWhere true came Changed h calls old new before now =
     ListsAll came Changed h calls old new before now
 ListsWhere false came Changed h calls old new before now = (new ≡ old) × (now ≡ before)
 
--- No leaf has more than n + 1 tuples, with the one counted in that is to come into the leaf j.
+-- No leaf has more than n + 1 tuples, with the one counted in that is to be inserted into the leaf j.
 pub record LeavesHaveRoom (r : Reducts) (j n : ℕ) : Type 0 where
   pub leaf : length (entries_at r.tables j) ≤ n
   pub all : HasAtMost r (n + 1)
@@ -147,17 +146,17 @@ pub record GrowsByOne (r s : Reducts) : Type 0 where
   pub each : (j : ℕ) → j < r.tree.leaves
       → length (entries_at s.tables j) ≤ length (entries_at r.tables j) + 1
 
--- b bounds what an update of one leaf counts, where no leaf has more than n tuples before it; over
+-- b bounds what an update of one leaf counts, if no leaf has more than n tuples before it; over
 -- equal meets it is the same whatever n is.
 abbrev pub BoundsLeaf : Tree → ℕ → ℕ → Type 0
 BoundsLeaf t n b = (16 * (paths t * (n + 1)) ≤ b) ⊎ (HasEqualMeets t × (16 * paths t ≤ b))
 
--- A tuple that came into the leaf j counts so many times such a bound at most.
+-- A tuple that was inserted into the leaf j counts so many times such a bound at most.
 abbrev pub CountsLeaf : Reducts → ℕ → ℕ → ℕ → ℕ → Type 0
 CountsLeaf r j times before now = (n b : ℕ) → LeavesHaveRoom r j n → BoundsLeaf r.tree n b
     → now ≤ before + times * b
 
--- Updates count so many times such a bound at most, where no leaf has more than n tuples before all
+-- Updates count so many times such a bound at most, if no leaf has more than n tuples before all
 -- of them.
 abbrev pub CountsLeaves : Reducts → ℕ → ℕ → ℕ → Type 0
 CountsLeaves r times before now = (n b : ℕ) → HasAtMost r n → BoundsLeaf r.tree n b

@@ -26,7 +26,7 @@ abbrev pub ProgressFits : Reducts → Progress → Type 0
 ProgressFits r (Open cursor ended) = Fits r cursor
 ProgressFits r (Stale relation n) = ⊤
 
--- A cursor goes on by one answer that it hasn't given.
+-- A cursor advances by one answer that it hasn't given.
 pub record CursorAdvances (r : Reducts) (old : Cursor) (u : List ℕ) (new : Cursor) : Type 0 where
   pub fits : Fits r new
   pub gives : given r new ≡ given r old ++ u ∷ []
@@ -38,7 +38,7 @@ pub record CursorEnds (r : Reducts) (old new : Cursor) : Type 0 where
   pub gives : given r new ≡ given r old
   pub all : ListsTuples (IsAnswerOf r) (given r old)
 
--- What a read gives: one answer that is left, the end exactly where none is, or what made the
+-- What a read gives: one answer that is left, the end if and only if none is, or what made the
 -- cursor stale.
 abbrev pub CursorReads : Reducts → Progress → Next → List ℕ → Progress → Type 0
 CursorReads r (Open old ended) Given u (Open new e) = CursorAdvances r old u new × (e ≡ false)

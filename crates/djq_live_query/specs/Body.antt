@@ -5,7 +5,7 @@ use Rattle.djq_protocol.specs.Variables.{IsInBody}
 use Rattle.djq_database.specs.Catalog.{Catalog}
 use Rattle.djq_live_query.specs.Live.{Live, IsKept}
 
--- A query that is kept has each variable of its head in an atom.
+-- A live query has each variable of its head in an atom.
 abbrev pub HeadsAreBound : Type 0
 HeadsAreBound = (c : Catalog) (l : Live) → IsKept c l → (x : Bytes) → Contains (l.query).head x
     → IsInBody x l.query

@@ -13,6 +13,6 @@ pub use Rattle.djq_cursors.specs.Slots.{
 use Rattle.djq_enumeration.specs.declared.cursor.Cursor.{Cursor}
 use Rattle.djq_cursors.specs.declared.progress.Progress.{Progress as ProgressOf}
 
--- how far a cursor of a query has come
+-- how far a cursor of a query is
 abbrev pub Progress : Type 0
 Progress = ProgressOf Cursor

@@ -1,4 +1,4 @@
--- One registered query, as it is kept over a catalog.
+-- One registered query, as it is maintained over a catalog.
 use Rattle.std.specs.Prelude.{ℕ, List, ◌++◌, length, ◌≡◌, Bool, Option, Some, map}
 use Rattle.djq_model.specs.declared.query.Query.{Query}
 use Rattle.djq_model.specs.Data.{Bytes, Tuple}
@@ -26,14 +26,14 @@ pub record Live : Type 0 where
   pub reducts : Reducts
   pub cursors : List (Option Progress)
 
--- It is kept over a catalog: the reducts are those of the query over the catalog's rows, their tree
--- is the one that the choice rule names, and no update is unfinished.
+-- It is maintained over a catalog: the reducts are those of the query over the catalog's rows, their
+-- tree is the one that the choice rule names, and no update is unfinished.
 pub record IsKept (c : Catalog) (l : Live) : Type 0 where
   pub over : IsOver c l.query l.numbered l.patterns l.reducts
   pub named : IsTreeOf (edges_of l.query) (head_of l.query) l.reducts.tree
   pub bare : IsBare l.reducts.tables
 
--- It is kept over some catalog.
+-- It is maintained over some catalog.
 abbrev pub IsKeptSomewhere : Live → Type 0
 IsKeptSomewhere l = (c : Catalog) × IsKept c l
 
@@ -42,7 +42,7 @@ abbrev pub FitsAt : Live → ℕ → Type 0
 FitsAt l k = (cursor : Cursor) (ended : Bool)
     → slot_at l.cursors k ≡ Some (Open cursor ended) → Fits l.reducts cursor
 
--- Its open cursors fit too, and can go on.
+-- Its open cursors fit too, and can continue.
 pub record IsLive (c : Catalog) (l : Live) : Type 0 where
   pub kept : IsKept c l
   pub fits : (k : ℕ) → FitsAt l k
@@ -51,14 +51,14 @@ pub record IsLive (c : Catalog) (l : Live) : Type 0 where
 abbrev pub values_of : List Bytes → Live → List ℕ → Tuple
 values_of texts l u = shown texts l.numbered l.reducts.tree.head u
 
--- A tuple of cells has a cell for each variable of the head, and they stand for the values it shows.
--- So it is of each answer, and of one that was taken out.
+-- A tuple of cells has a cell for each variable of the head, and they represent the values it shows.
+-- So it is of each answer, and of one that was removed.
 pub record IsShowable (texts : List Bytes) (l : Live) (u : List ℕ) : Type 0 where
   pub wide : length u ≡ length (l.reducts).tree.head
   pub stands : AreShownAs texts (l.numbered).variables (l.reducts).tree.head u (l.numbered).head
       (values_of texts l u)
 
--- An answer of a query that is kept is showable.
+-- An answer of a live query is showable.
 abbrev pub AnswersAreShowable : Type 0
 AnswersAreShowable = (c : Catalog) (l : Live) → IsKept c l → (u : List ℕ) → IsAnswerOf l.reducts u
     → IsShowable c.texts l u
@@ -73,7 +73,7 @@ ShowableStays = (texts more : List Bytes) (l m : Live) (u : List ℕ) → m.numb
 abbrev pub given_by : List Bytes → Live → Cursor → List Tuple
 given_by texts l cursor = map (values_of texts l) (given l.reducts cursor)
 
--- where a cursor stands
+-- the position of a cursor
 abbrev pub position_of : List Bytes → Live → Progress → Position
 position_of texts l (Open cursor ended) = open_at (given_by texts l cursor) ended
 position_of texts l (Stale r n) = stale r n

@@ -1,4 +1,4 @@
--- A query that is kept, as a member of a union: its answers are cells in the order of its head.
+-- A live query, as a member of a union: its answers are cells in the order of its head.
 use Rattle.std.specs.Prelude.{
   ◌≡◌,
   ◌↔◌,
@@ -64,22 +64,22 @@ has_cells l t = has_tuple (map (in_head l) (all_answers l.reducts)) t
 abbrev pub cells_given : Live → Cursor → List (List ℕ)
 cells_given l cursor = map (in_head l) (given l.reducts cursor)
 
--- a cursor fits a query that is kept over some catalog
+-- a cursor fits a query that is maintained over some catalog
 abbrev pub FitsKept : Live → Cursor → Type 0
 FitsKept l cursor = IsKeptSomewhere l × Fits l.reducts cursor
 
--- The cells of an answer of the tree, in the head's order, stand for the values that it shows.
+-- The cells of an answer of the tree, in the head's order, represent the values that it shows.
 abbrev pub CellsInHeadStand : Type 0
 CellsInHeadStand = (c : Catalog) (l : Live) → IsKept c l → (u : List ℕ) → IsAnswerOf l.reducts u
     → StandFor c.texts (answer_types c.relations l.query) (in_head l u) (values_of c.texts l u)
 
--- Cells that stand for a tuple are had exactly where the tuple is an answer.
+-- The test of cells that represent a tuple succeeds if and only if the tuple is an answer.
 abbrev pub AnswersAreHad : Type 0
 AnswersAreHad = (c : Catalog) (l : Live) → IsKept c l → (t : List ℕ) (v : Tuple)
     → StandFor c.texts (answer_types c.relations l.query) t v
     → (has_cells l t ≡ true) ↔ IsAnswer c.relations l.query v
 
--- The cells that are had stand for a tuple.
+-- Cells with a successful test represent a tuple.
 abbrev pub HadCellsStand : Type 0
 HadCellsStand = (c : Catalog) (l : Live) → IsKept c l → (t : List ℕ) → has_cells l t ≡ true
     → (v : Tuple) × StandFor c.texts (answer_types c.relations l.query) t v
@@ -90,15 +90,15 @@ AnswersHaveCells = (c : Catalog) (l : Live) → IsKept c l → (v : Tuple)
     → IsAnswer c.relations l.query v
     → (t : List ℕ) × StandFor c.texts (answer_types c.relations l.query) t v
 
--- Of two queries over one catalog, whose answers have the same types, equal cells stand for equal
--- values, and different ones for different ones.
+-- Of two queries over one catalog, whose answers have the same types, equal cells represent equal
+-- values, and different cells different values.
 abbrev pub CellsTellValues : Type 0
 CellsTellValues = (c : Catalog) (l m : Live)
     → answer_types c.relations l.query ≡ answer_types c.relations m.query
     → (t u : List ℕ) (v w : Tuple) → StandFor c.texts (answer_types c.relations l.query) t v
     → StandFor c.texts (answer_types c.relations m.query) u w → (t ≡ u) ↔ (v ≡ w)
 
--- Of a query that is kept the types of the answers' cells are those of its answers.
+-- Of a live query the types of the answers' cells are those of its answers.
 abbrev pub HeadTypesAre : Type 0
 HeadTypesAre = (c : Catalog) (l : Live) → IsKept c l
     → head_types l ≡ answer_types c.relations l.query
@@ -108,17 +108,17 @@ pub record IsShownInTree (texts : List Bytes) (l : Live) (t : List ℕ) (v : Tup
   pub showable : IsShowable texts l (in_tree l t)
   pub shows : values_of texts l (in_tree l t) ≡ v
 
--- Cells of these types that stand for a tuple show it, answer or not.
+-- Cells of these types that represent a tuple show it, answer or not.
 abbrev pub CellsInTreeStand : Type 0
 CellsInTreeStand = (c : Catalog) (l : Live) → IsKept c l → (t : List ℕ) (v : Tuple)
     → StandFor c.texts (head_types l) t v → IsShownInTree c.texts l t v
 
--- The cells of what can be shown, in the head's order, stand for the values that it shows.
+-- The cells of what can be shown, in the head's order, represent the values that it shows.
 abbrev pub ShowableCellsStand : Type 0
 ShowableCellsStand = (texts : List Bytes) (l : Live) (u : List ℕ) → IsShowable texts l u
     → StandFor texts (head_types l) (in_head l u) (values_of texts l u)
 
--- the query in a place, where there is one
+-- the query in a place, if there is one
 abbrev pub query_at : List (Option Live) → ℕ → Option Live
 query_at qs k = slice_index_or qs k None
 
@@ -136,7 +136,7 @@ pub record HaveQueries (qs : List (Option Live)) (ks : List ℕ) : Type 0 where
 pub record AreAlike (ls : List Live) : Type 0 where
   pub each : (l m : Live) → Contains ls l → Contains ls m → head_types l ≡ head_types m
 
--- Where the queries in places are kept over some catalog, these are.
+-- If the queries in places are maintained over some catalog, these are.
 abbrev pub QueriesAreKept : Type 0
 QueriesAreKept = (qs : List (Option Live))
     → ((k : ℕ) (l : Live) → query_at qs k ≡ Some l → IsKeptSomewhere l)

@@ -24,8 +24,8 @@ pub record QueryCursorMoves (c : Catalog) (old : Live) (k : ℕ) (position : Pos
   pub stands : position_of c.texts old progress ≡ position
   pub live : IsLive c new
 
--- What a read gives at a position: one answer that is left, as a tuple of the tree; the end exactly
--- where none is; or what made the cursor stale.
+-- What a read gives at a position: one answer that is left, as a tuple of the tree; the end if and
+-- only if none is; or what made the cursor stale.
 abbrev pub QueryNextGivesAt : Catalog → Live → ℕ → Position → Next → List ℕ → Live → Type 0
 QueryNextGivesAt c old k (open_at given ended) Given u new =
     IsAnswerOf old.reducts u
@@ -43,8 +43,8 @@ abbrev pub QueryNextGives : Catalog → Live → ℕ → Next → List ℕ → L
 QueryNextGives c old k result u new = IsSomeAnd (slot_at old.cursors k)
     (λ p. QueryNextGivesAt c old k (position_of c.texts old p) result u new)
 
--- What is known at a position of whether an answer is left: a cursor to which none is left stands
--- at its end.
+-- What is known at a position of whether an answer is left: a cursor to which none is left is at
+-- its end.
 abbrev pub QueryMoreGivesAt : Catalog → Live → ℕ → Position → Bool → Live → Type 0
 QueryMoreGivesAt c old k (open_at given ended) true new =
     ((t : Tuple) × IsLeft (IsAnswer c.relations old.query) given t)
@@ -63,7 +63,7 @@ abbrev pub next_steps : Next → ℕ → ℕ
 next_steps (Stale relation n) h = 0
 next_steps _ h = most_steps h
 
--- A cursor that has given nothing stands in a slot where none was, and nothing else has changed.
+-- A cursor that has given nothing is in a slot that was empty, and nothing else has changed.
 pub record QueryOpensIn (old : Live) (k : ℕ) (new : Live) : Type 0 where
   pub free : slot_at old.cursors k ≡ None
   pub cursor : Cursor

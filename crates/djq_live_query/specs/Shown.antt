@@ -37,7 +37,7 @@ value_at texts variables F u x = value_of texts (column_of variables x) (slice_i
 abbrev pub shown : List Bytes → Numbered → List ℕ → List ℕ → Tuple
 shown texts n F u = map (value_at texts n.variables F u) n.head
 
--- the cells of a tuple over F stand for values, those of the head's variables, one by one
+-- the cells of a tuple over F represent values, those of the head's variables, one by one
 abbrev pub AreShownAs : List Bytes → List Variable → List ℕ → List ℕ → List ℕ → Tuple → Type 0
 AreShownAs texts variables F u [] [] = ⊤
 AreShownAs texts variables F u (x ∷ xs) (v ∷ vs) =
@@ -52,13 +52,13 @@ pub record IsShownIn (c : Catalog) (n : Numbered) (r : Reducts) (answer : Tuple)
   pub is_answer : IsAnswerOf r tuple
   pub is : answer ≡ shown c.texts n r.tree.head tuple
 
--- A tuple is an answer of the query exactly where an answer of the tree shows it.
+-- A tuple is an answer of the query if and only if an answer of the tree shows it.
 abbrev pub AnswersAreShown : Type 0
 AnswersAreShown = (c : Catalog) (q : Query) (n : Numbered) (ps : List Shape) (r : Reducts)
     → IsOver c q n ps r → (answer : Tuple)
     → IsAnswer c.relations q answer ↔ IsShownIn c n r answer
 
--- The cells of an answer of the tree stand for the values that it shows.
+-- The cells of an answer of the tree represent the values that it shows.
 abbrev pub AnswersStand : Type 0
 AnswersStand = (c : Catalog) (q : Query) (n : Numbered) (ps : List Shape) (r : Reducts)
     → IsOver c q n ps r → (u : List ℕ) → IsAnswerOf r u

@@ -1,4 +1,4 @@
--- What stays of a registered query as others change, and where rows change that it doesn't read.
+-- What stays of a registered query as others change, and as rows change that it doesn't read.
 use Rattle.std.specs.Prelude.{ℕ, List, ◌≡◌, ◌<◌, false, Some, length}
 use Rattle.djq_model.specs.Data.{Tuple}
 use Rattle.djq_store_spec.specs.Stale.{reads}
@@ -19,31 +19,31 @@ pub record HasSameShape (l m : Live) : Type 0 where
   pub numbered : m.numbered ≡ l.numbered
   pub tree : (m.reducts).tree ≡ (l.reducts).tree
 
--- The query is kept over a later catalog, and its cursors stand where they stood.
+-- The query is maintained over a later catalog, and its cursors are unchanged.
 pub record StaysOver (c d : Catalog) (l : Live) : Type 0 where
   pub live : IsLive d l
   pub stands : (k : ℕ) (p : Progress) → slot_at l.cursors k ≡ Some p
       → position_of d.texts l p ≡ position_of c.texts l p
 
--- Where no rows change, each query stays, however many texts and relations more there are.
+-- If no rows change, each query stays, however many texts and relations more there are.
 abbrev pub LiveStays : Type 0
 LiveStays = (c d : Catalog) (l : Live) → HasSameRows c d → IsLive c l → StaysOver c d l
 
--- Where a row of a relation came or went, each query stays that doesn't read the relation.
+-- If a row of a relation was inserted or deleted, each query stays that doesn't read the relation.
 abbrev pub LivePasses : (Catalog → Catalog → ℕ → List ℕ → Tuple → Type 0) → Type 0
 LivePasses Changed = (c d : Catalog) (at : ℕ) (cells : List ℕ) (row : Tuple) (l : Live)
     → Changed c d at cells row → at < length c.relations
     → reads l.query (relation_at c.relations at).name ≡ false → IsLive c l → StaysOver c d l
 
--- Where a row of a relation came, each query stays that doesn't read the relation.
+-- If a row of a relation was inserted, each query stays that doesn't read the relation.
 abbrev pub CamePasses : Type 0
 CamePasses = LivePasses (λ c d at cells row. Came c d at cells row)
 
--- Where a row of a relation went, each query stays that doesn't read the relation.
+-- If a row of a relation was deleted, each query stays that doesn't read the relation.
 abbrev pub WentPasses : Type 0
 WentPasses = LivePasses (λ c d at cells row. Went c d at cells row)
 
--- It does, too, where many rows came.
+-- It does, too, if many rows were inserted.
 abbrev pub CameAllPasses : Type 0
 CameAllPasses = (c d : Catalog) (at : ℕ) (cells : List (List ℕ)) (rows : List Tuple) (l : Live)
     → CameAll c d at cells rows → at < length c.relations

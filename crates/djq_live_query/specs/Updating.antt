@@ -1,4 +1,4 @@
--- What becomes of a registered query where a row of a relation comes or goes, and what its log says.
+-- How a registered query changes with a row of a relation that is inserted or deleted, and what its log has of it.
 use Rattle.std.specs.Prelude.{ℕ, List, [], ◌++◌, ◌≡◌, ◌+◌, ◌*◌, ◌≤◌, ◌==◌, Bool, true, false, All}
 use Rattle.std.specs.Prelude.{Contains, filter, length, map, if◌then◌else◌}
 use Rattle.djq_model.specs.declared.query.Atom.{Atom}
@@ -17,7 +17,7 @@ use Rattle.djq_database.specs.Catalog.{Catalog, rows_at}
 use Rattle.djq_leaves.specs.Changes.{Came, CameAll, Went, WentAll}
 use Rattle.djq_live_query.specs.Live.{Live, IsKept, IsShowable, values_of}
 
--- A row with these cells came into a relation, whose catalog the query was kept over.
+-- A row with these cells was inserted into a relation, over whose catalog the query was maintained.
 pub record CanAdd (l : Live) (at : ℕ) (cells : List ℕ) : Type 0 where
   pub before : Catalog
   pub after : Catalog
@@ -25,7 +25,7 @@ pub record CanAdd (l : Live) (at : ℕ) (cells : List ℕ) : Type 0 where
   pub kept : IsKept before l
   pub came : Came before after at cells row
 
--- Rows with these cells, one for one, came into a relation, whose catalog the query was kept over.
+-- Rows with these cells, one for one, were inserted into a relation, over whose catalog the query was maintained.
 pub record CanAddAll (l : Live) (at : ℕ) (cells : List (List ℕ)) : Type 0 where
   pub before : Catalog
   pub after : Catalog
@@ -33,7 +33,7 @@ pub record CanAddAll (l : Live) (at : ℕ) (cells : List (List ℕ)) : Type 0 wh
   pub kept : IsKept before l
   pub came : CameAll before after at cells rows
 
--- A row with these cells was there, and went out.
+-- A row with these cells was there, and was deleted.
 pub record CanDelete (l : Live) (at : ℕ) (cells : List ℕ) : Type 0 where
   pub before : Catalog
   pub after : Catalog
@@ -42,7 +42,7 @@ pub record CanDelete (l : Live) (at : ℕ) (cells : List ℕ) : Type 0 where
   pub there : Contains (rows_at before.relations at) row
   pub went : Went before after at cells row
 
--- Rows with these cells, one for one, were there, each once, and went out.
+-- Rows with these cells, one for one, were there, each once, and were deleted.
 pub record CanDeleteAll (l : Live) (at : ℕ) (cells : List (List ℕ)) : Type 0 where
   pub before : Catalog
   pub after : Catalog
@@ -52,23 +52,23 @@ pub record CanDeleteAll (l : Live) (at : ℕ) (cells : List (List ℕ)) : Type 0
   pub differ : AreDifferent rows
   pub went : WentAll before after at cells rows
 
--- The query is kept over the later catalog, too, whatever changed: a row or some rows.
+-- The query is maintained over the later catalog, too, whatever changed: a row or some rows.
 abbrev pub KeptAfter : {R : Type 0} → (Catalog → Catalog → R → Type 0) → Live → Live → Type 0
 KeptAfter {R} Changed old new = (c d : Catalog) (what : R) → IsKept c old → Changed c d what
     → IsKept d new
 
--- the change that a line of a log tells
+-- the change of a line of a log
 abbrev pub change_of : List Bytes → Live → Line → Change
 change_of texts l k = record {
   sign = if k.came then HasCome else HasGone;
   answer = values_of texts l k.answer;
 }
 
--- the answers that came or went as one catalog became another
+-- the answers that were added or removed as one catalog became another
 abbrev pub IsDeltaOf : Live → Catalog → Catalog → List Change → Type 0
 IsDeltaOf l c d = IsDelta (IsAnswer c.relations l.query) (IsAnswer d.relations l.query)
 
--- Unless the log is lost, it tells the delta behind what it told, in lines that can be shown.
+-- Unless the log is lost, the delta is appended to it, in lines that can be shown.
 pub record LogsDelta {R : Type 0} (Changed : Catalog → Catalog → R → Type 0) (old : Live)
     (log new : Log) : Type 0 where
   pub lines : List Line
@@ -79,13 +79,13 @@ pub record LogsDelta {R : Type 0} (Changed : Catalog → Catalog → R → Type 
       → All (λ k. IsShowable d.texts old k.answer) lines
   pub stays : log.lost ≡ true → new.lost ≡ true
 
--- What becomes of the log, where the delta is wanted and where it isn't.
+-- What is done with the log, if the delta is wanted and if it isn't.
 abbrev pub LogsWhere :
     {R : Type 0} → Bool → (Catalog → Catalog → R → Type 0) → Live → Log → Log → Type 0
 LogsWhere {R} true Changed old log new = LogsDelta Changed old log new
 LogsWhere {R} false Changed old log new = new ≡ log
 
--- The log tells of no change, and isn't lost.
+-- The log has no change, and isn't lost.
 pub record IsEmpty (log : Log) : Type 0 where
   pub lines : log.lines ≡ []
   pub kept : log.lost ≡ false
@@ -94,12 +94,12 @@ pub record IsEmpty (log : Log) : Type 0 where
 abbrev pub atoms_over : Live → ℕ → ℕ
 atoms_over l at = length (filter (λ a. a.relation == at) l.numbered.atoms)
 
--- What listing a delta counts at most: as much as an answer for each that came or went, and for
+-- What listing a delta counts at most: as much as an answer for each that was added or removed, and for
 -- each atom over the relation.
 abbrev pub delta_bound : Live → ℕ → List Change → ℕ
 delta_bound l at changes = (length changes + atoms_over l at) * most_steps (length l.query.head)
 
--- the listing count, where the delta is wanted and where it isn't
+-- the listing count, if the delta is wanted and if it isn't
 abbrev pub CountsDelta :
     {R : Type 0} → Bool → (Catalog → Catalog → R → Type 0) → Live → ℕ → ℕ → ℕ → Type 0
 CountsDelta {R} true Changed old at before now =
@@ -107,7 +107,7 @@ CountsDelta {R} true Changed old at before now =
     → IsDeltaOf old c d changes → now ≤ before + delta_bound old at changes
 CountsDelta {R} false Changed old at before now = now ≡ before
 
--- What an update counts at most for an atom, where no leaf has more than n tuples before it. No path
+-- What an update counts at most for an atom, if no leaf has more than n tuples before it. No path
 -- to the root has more nodes than there are atoms and variables: there is one meet fewer than atoms,
 -- and each trim drops a variable that no other one drops.
 abbrev pub update_bound : Live → ℕ → ℕ
@@ -119,7 +119,7 @@ abbrev pub CountsUpdate : ℕ → Live → ℕ → ℕ → ℕ → Type 0
 CountsUpdate times l at before now = (n : ℕ) → HasAtMost l.reducts n
     → now ≤ before + times * (atoms_over l at * update_bound l n)
 
--- Where so many rows come at once, it is so many times the bound for the tuples that there may be then.
+-- If so many rows are inserted at once, it is so many times the bound for the tuples that there may be then.
 abbrev pub CountsBatchAt : ℕ → ℕ → Live → ℕ → ℕ → ℕ → Type 0
 CountsBatchAt more times l at before now = (n : ℕ) → HasAtMost l.reducts n
     → now ≤ before + times * (atoms_over l at * update_bound l (n + more))
@@ -128,18 +128,18 @@ CountsBatchAt more times l at before now = (n : ℕ) → HasAtMost l.reducts n
 abbrev pub flat_bound : Live → ℕ
 flat_bound l = 16 * (length l.numbered.atoms + length l.numbered.variables)
 
--- Where the query is flat, the update count is so many times this at most for each atom over the
+-- If the query is flat, the update count is so many times this at most for each atom over the
 -- relation.
 abbrev pub CountsFlat : ℕ → Live → ℕ → ℕ → ℕ → Type 0
 CountsFlat times l at before now = IsFlat (edges_of l.query) (head_of l.query)
     → now ≤ before + times * (atoms_over l at * flat_bound l)
 
--- Where so many rows come or go at once, the update count of a flat query is this at most for each row and atom.
+-- If so many rows are inserted or deleted at once, the update count of a flat query is this at most for each row and atom.
 abbrev pub CountsFlatRows : ℕ → Live → ℕ → ℕ → ℕ → Type 0
 CountsFlatRows rows l at before now = IsFlat (edges_of l.query) (head_of l.query)
     → now ≤ before + atoms_over l at * (rows * flat_bound l)
 
--- The meets of the tree of a flat query that is kept have equal labels.
+-- The meets of the tree of a flat live query have equal labels.
 abbrev pub FlatMeetsAreEqual : Type 0
 FlatMeetsAreEqual = (c : Catalog) (l : Live) → IsKept c l
     → IsFlat (edges_of l.query) (head_of l.query) → HasEqualMeets (l.reducts).tree
