@@ -1,4 +1,4 @@
--- How the program ends: what its status says of the run of the join machine that it made.
+-- How the program ends: what its status means for the run of the join machine that it made.
 use Rattle.std.specs.Prelude.{ℕ, List, [], ◌∷◌, ◌≡◌, ◌<◌, ◌⊎◌, Bool, true, false, Option, None}
 use Rattle.std.specs.Prelude.{Some, is_some, length, take, drop, codes}
 use Rattle.djq_io.specs.Faults.{Counted}
@@ -34,24 +34,23 @@ use Rattle.djq_program_laws.specs.Gen.{GenEnds}
 use Rattle.djq_program_laws.specs.Replay.{ReplayEnds}
 use Rattle.djq_program_laws.specs.Mirror.{MirrorsSource}
 
--- the line that tells the commands
+-- the line that lists the commands
 abbrev pub usage_line : Bytes
 usage_line =
     line (codes "usage: djq run | serve ADDR [--turns N] [--log PATH] | replay [--log PATH] | gen N SEED | mirror Q")
 
--- **The theorem of `run`.** There is a run of the join machine from the start to this state.
--- The pieces that it was fed are those that were read, in order, and what was read is run and
--- answered before the next read. What was written and then what is pending is all that it queued,
--- in order; and where a write failed, nothing was done behind it. No more was counted than it may
--- cost. At each moment of it each open cursor had given different answers of its query over the rows
--- that were there then, and all of them where it was told the end. And the status says exactly how
--- far the run went.
+-- **The theorem of `run`.** There is a run of the join machine from the start to this state. The pieces that it
+-- was fed are those that were read, in order, and what was read is run and answered before the next read. What was
+-- written and then what is pending is all that it queued, in order; and if a write failed, nothing was done after
+-- it. No more was counted than it may cost. At each moment of it each open cursor had given different answers of
+-- its query over the rows that were there then, and all of them if it was sent the end. And the status means
+-- exactly how far the run got.
 pub record Serves (start : State) (status : Status) (before now : Outside) : Type 0 where
   pub state : State
   pub run : RunEnds status before now start state
   pub headline : Headline start before now state run.course
 
--- A hub, as the program shows it: what it tells, and its count of faults.
+-- A hub, as the program shows it: what it records, and its count of faults.
 pub record HubSeen : Type 0 where
   pub shown : Shown
   pub faults : ℕ
@@ -66,12 +65,12 @@ pub record Listens (addr : Bytes) (answer : Listened) (old new : Shown) : Type 0
   pub script : WhereTold old.script new.script (λ a b. b ≡ a)
   pub ids : new.ids ≡ old.ids
 
--- **The theorem of `serve`.** The lines of the log were loaded, and a batch that they left open was
--- ended by a line appended after them; the hub listened at the address, and then the server served it from
--- what they gave on, in rounds of at most so many turns: by moves that are a run of the join machine, of which
--- the hub tells, with each session sent what is its, lines run by turns and none left for the next round. What the
--- run logs is in the log, one group a commit, before anything of the commit is sent; and each move says through
--- which moments of the disk it was stored. And the status says exactly why it ended.
+-- **The theorem of `serve`.** The lines of the log were loaded, and a batch that they left open was ended by a
+-- line appended after them; the hub listened at the address, and then the server served it from what they gave on,
+-- in rounds of at most so many turns: by moves that are a run of the join machine, which the hub records, with
+-- each session sent what is its, lines run by turns and none left for the next round. What the run logs is in the
+-- log, one group a commit, before anything of the commit is sent; and each move has the moments of the disk
+-- through which it was stored. And the status means exactly why it ended.
 pub record ServesHub (log : Option LogSeen) (status : Status) (addr : Bytes) (turns : ℕ) (hub : HubSeen)
     (counted : Counts) (hub' : HubSeen) (counted' : Counts) : Type 0 where
   pub found : List Bytes
@@ -116,8 +115,8 @@ pub record OnlyWrites (before now : Outside) : Type 0 where
   pub read_faults : now.read_faults ≡ before.read_faults
   pub counted : now.counted ≡ before.counted
 
--- Where the words are no command nothing is read or counted, and the usage line is written; or a
--- first part of it is, and then a write fails, which is the last.
+-- If the words are no command nothing is read or counted, and the usage line is written; or a first part of it is,
+-- and then a write fails, which is the last.
 abbrev pub WritesUsage : Status → Outside → Outside → Type 0
 WritesUsage Usage before now = OnlyWrites before now
     × GainsBytes before.writing now.writing usage_line × (now.write_faults ≡ before.write_faults)
@@ -174,7 +173,7 @@ EndsAs (Some (Mirror query)) status before hub disk now hub' disk' =
     MirrorsSource query.now status before now × (hub' ≡ hub)
 
 -- How the program ends, by the words of its command line: as what they ask for, and as no command
--- where they ask for nothing; or out of memory before they were read.
+-- if they ask for nothing; or out of memory before they were read.
 abbrev pub ProgramEnds : Status → List Bytes → Outside → HubSeen → DiskSeen → Outside → HubSeen → DiskSeen → Type 0
 ProgramEnds status words before hub disk now hub' disk' =
     ((asked : Option Asked) × WordsAsk words asked × EndsAs asked status before hub disk now hub' disk')

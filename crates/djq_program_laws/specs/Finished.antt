@@ -1,4 +1,4 @@
--- What a cursor that was told the end has listed.
+-- What a cursor that was sent the end has listed.
 use Rattle.std.specs.Prelude.{List, ◌≡◌, true, IsSomeAnd, Contains}
 use Rattle.djq_model.specs.Data.{Tuple}
 use Rattle.djq_model.specs.Answer.{IsListing}
@@ -10,7 +10,7 @@ use Rattle.djq_run_laws.specs.Given.{PassedThrough}
 use Rattle.djq_run.specs.declared.status.Status.{Status}
 use Rattle.djq_program_laws.specs.Ends.{Serves}
 
--- However `run` ends: at each moment of it, a cursor that was open and had been told the end had
+-- However `run` ends: at each moment of it, a cursor that was open and had been sent the end had
 -- given a listing of its query: each answer over the rows that were there then, once, and nothing
 -- else.
 abbrev pub FinishedCursors : Type 0

@@ -1,4 +1,4 @@
--- How `gen` ends: a load was run through one session, and what it comes to was written.
+-- How `gen` ends: a load was run through one session, and its totals were written.
 use Rattle.std.specs.Prelude.{ℕ, List, ◌≡◌, ◌++◌, ◌⊎◌, Option, length, codes, decimal}
 use Rattle.djq_io.specs.declared.sink.Write.{Write}
 use Rattle.djq_model.specs.Data.{Bytes, rows_of}
@@ -26,7 +26,7 @@ summary st totals =
     ++ codes "\n"
 
 -- **The theorem of `gen`.** From the start on, a run of the join machine fed one session the
--- lines of the load, and then those that list the answers of its query until the end is told; the
+-- lines of the load, and then those that list the answers of its query until the end is sent; the
 -- session hasn't ended; the totals are those of the query over the rows that are there then; and
 -- this text is the summary of it.
 pub record Generates (start : State) (n seed : ℕ) (counted counted' : Counts) (text : Bytes)
@@ -43,7 +43,7 @@ LoadsUntold start n seed counted counted' = (state : State)
     × (RunsOut n seed start counted state counted'
     ⊎ ((totals : Totals) × RunsLoad n seed totals start counted state counted'))
 
--- The summary was written; or a first part of it, where a write failed; or nothing was, as memory
+-- The summary was written; or a first part of it, if a write failed; or nothing was, as memory
 -- was wanted.
 abbrev pub GenEnds : State → Status → ℕ → ℕ → Option (List Write) → ℕ → Counts → Option (List Write)
     → ℕ → Counts → Type 0

@@ -58,7 +58,7 @@ abbrev pub IsUnasked : Option LogSeen → Type 0
 IsUnasked None = Unit {0}
 IsUnasked (Some log) = log.now ≡ log.before
 
--- the status that the answer of the loop comes to
+-- the status for the answer of the loop
 abbrev pub served_status : Served → Status
 served_status Stopped = Done
 served_status Over = Done
@@ -145,7 +145,7 @@ FoundIn (Some log) found first (Some end) = (log.now.faults ≡ log.before.fault
     × WhereHistoryTold log.before.told log.now.told (FindsLines log.path found first end)
 
 -- If a log is asked for, it ended after the lines found and what was appended first, and then each move
--- did to it what the move says.
+-- did to it what the move describes.
 abbrev pub IsStored : Option LogSeen → List Bytes → List Group → List Move → Type 0
 IsStored None found first moves = Unit {0}
 IsStored (Some log) found first moves = (end : LogEnd) × (end' : Option LogEnd) × (mid : Option History)
@@ -158,8 +158,8 @@ abbrev pub LoadCounts : Option LogSeen → List Bytes → Counts → Counts → 
 LoadCounts None found counted loaded = (found ≡ []) × (loaded ≡ counted)
 LoadCounts (Some log) found counted loaded = loaded.listing ≡ counted.listing
 
--- Lines, loaded into a machine in which nothing has happened, come to this; and so what is appended first
--- is this.
+-- Lines are loaded into a machine in which nothing has happened, with this result; and so what is appended first is
+-- this.
 pub record KeepsFirst (found : List Bytes) (first : List Group) : Type 0 where
   pub end : Loading
   pub loads : Loads (loading opening.store) found end
@@ -216,7 +216,7 @@ LeavesUnloaded _ path old new = IsOnlyRead path old new
 abbrev pub IsNoLogFrom : ℕ → History → Type 0
 IsNoLogFrom at h = (at ≡ 0) × IsNoLog h.file.bytes
 
--- The next line after those of which the loading has come to this, in the record whose gate is at a place, is refused.
+-- The next line after those whose loading has this result, in the record whose gate is at a place, is refused.
 pub record IsRefusedAt (at : ℕ) (found : List Bytes) (end : Loading) (told : Option History) : Type 0 where
   pub line : Bytes
   pub same : Loading

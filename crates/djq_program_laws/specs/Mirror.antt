@@ -12,7 +12,7 @@ use Rattle.djq_mirror.specs.Ends.{MirrorEnds}
 use Rattle.djq_run.specs.declared.status.Status.{Status}
 use Rattle.djq_run.specs.declared.status.Status.TheVariants.{Done, ReadFault, WriteFault, TurnsUsed, NoMemory, Mirror}
 
--- the status that it comes to
+-- the status for it
 abbrev pub mirror_status : Mirrored → Status
 mirror_status Followed = Done
 mirror_status (Halted n) = Mirror n

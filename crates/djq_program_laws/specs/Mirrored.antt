@@ -13,15 +13,15 @@ use Rattle.djq_mirror.specs.declared.command.Mirrored.{Mirrored}
 use Rattle.djq_mirror.specs.declared.command.Mirrored.TheVariants.{Done, Outside}
 use Rattle.djq_mirror.specs.Ends.{MirrorEnds}
 
--- A mirror's last answers are written; and where it is live, they are the query's answers over the rows
+-- A mirror's last answers are written; and if it is live, they are the query's answers over the rows
 -- of a state, in byte order.
 pub record WritesAnswers (q : Listed) (at : State) (writing writing' : Option (List Write)) : Type 0 where
   pub held : Held
   pub wrote : GainsBytes writing writing' (written held)
   pub live : held.mode ≡ Live → HoldsTextsOf held (AnswersOf at.store.relations q)
 
--- However `mirror` ends that reads these bytes, from a source that tells: it refuses no line of them; and
--- where it follows them to their end and no write fails, it writes such answers.
+-- However `mirror` ends that reads these bytes, from a source that shows its record: it refuses no line
+-- of them; and if it follows them to their end and no write fails, it writes such answers.
 abbrev pub IsMirroredBack : Listed → Bytes → State → Type 0
 IsMirroredBack q sent at = (answer : Mirrored) (reading reading' : SourceReading) (read_faults read_faults' : ℕ)
     (writing writing' : Option (List Write)) (faults faults' : ℕ)

@@ -78,8 +78,8 @@ CantEnd LogFull ends old before now = IsSome old.batch × (now.faults ≡ before
     → IsKeeping found [] ends start o → n ≡ o))
 CantEnd _ ends old before now = ⊥
 
--- What opening a log and loading its lines comes to, if one is asked for: a state to start from,
--- and where the log ends; or the status for which nothing begins.
+-- The result of opening a log and loading its lines, if one is asked for: a state to start from, and the
+-- end of the log; or the status for which nothing begins.
 abbrev pub OpensLog : Option LogSeen → Result (Option LogEnd) Status → State → Counts → Counts → Type 0
 OpensLog log result state counted loaded = MatchResult result
     (λ end. (found : List Bytes) × (first : List Group) × Begins log found first counted state loaded
@@ -94,6 +94,6 @@ pub record TellsWhole (text : Bytes) (status : Status) (past : Option (List Told
   pub sent : text ≡ sent_text told
   pub is : status ≡ whole
 
--- It is told; or there is no memory for it.
+-- It is returned; or there is no memory for it.
 abbrev pub TellsNone : Status → Status → Type 0
 TellsNone status whole = status ≡ first_fault whole NoMemory

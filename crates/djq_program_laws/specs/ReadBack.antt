@@ -17,7 +17,7 @@ use Rattle.djq_program_laws.specs.Logged.{LogSeen}
 use Rattle.djq_program_laws.specs.Mirrored.{IsMirroredBack}
 use Rattle.djq_program_laws.specs.Ends.{Serves, HubSeen, ServesHub}
 
--- However `run` ends: where session 1 waited, watched a query, and read it through one cursor at a time,
+-- However `run` ends: if session 1 waited, watched a query, and read it through one cursor at a time,
 -- and all that was queued to it was written, the sink's bytes are refused nowhere by `mirror` of the query;
 -- and what that writes in the end are the answers over the rows that there are, or that there were as the
 -- session's input ended.
@@ -27,7 +27,7 @@ RunIsReadBack = (status : Status) (before now : Outside) (serves : Serves openin
     → ReadsSinceOpened q 1 opening serves.run.course.done at serves.state
     → IsMirroredBack q (bytes_of serves.run.course.writes) at
 
--- However `serve` ends: likewise, of each session for which the hub took all that was queued to it.
+-- However `serve` ends: likewise, of each session for which the hub accepted all that was queued to it.
 abbrev pub ServeIsReadBack : Type 0
 ServeIsReadBack = (log : Option LogSeen) (status : Status) (addr : Bytes) (turns : ℕ) (hub : HubSeen)
     (counted : Counts) (hub' : HubSeen) (counted' : Counts)
@@ -37,15 +37,15 @@ ServeIsReadBack = (log : Option LogSeen) (status : Status) (addr : Bytes) (turns
     → sent_to s (all_told serves.ends.goes.moves) ≡ out s (all_done serves.ends.goes.moves)
     → IsMirroredBack q (sent_to s (all_told serves.ends.goes.moves)) at
 
--- So it is at each moment of `run` at which nothing is pending, of what the sink had taken until then: the
--- answers are those over the rows that were there at that moment, where the session went on.
+-- So it is at each moment of `run` at which nothing is pending, of what the sink had accepted until then:
+-- the answers are those over the rows that were there at that moment, if the session wasn't ended.
 abbrev pub RunMomentsAreReadBack : Type 0
 RunMomentsAreReadBack = (status : Status) (before now : Outside) (serves : Serves opening status before now)
     → (mid : State) (passed : PassedThrough opening serves.run.course.done mid serves.state)
     → pending_of mid 1 ≡ [] → (q : Listed) (at : State) → ReadsSinceOpened q 1 opening passed.0 at mid
     → IsMirroredBack q (all_taken 1 passed.0) at
 
--- And so it is at each moment of `serve`, of each session of which all that was queued was taken by then.
+-- And so it is at each moment of `serve`, of each session of which all that was queued was sent by then.
 abbrev pub ServeMomentsAreReadBack : Type 0
 ServeMomentsAreReadBack = (log : Option LogSeen) (status : Status) (addr : Bytes) (turns : ℕ) (hub : HubSeen)
     (counted : Counts) (hub' : HubSeen) (counted' : Counts)

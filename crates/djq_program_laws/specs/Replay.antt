@@ -54,21 +54,21 @@ pub record StopsReading (status : Status) (before now : Option SourceReading) (f
   pub gave : Gave before now bytes
   pub stops : ReadingStopsFor status bytes faults faults'
 
--- a hub that was asked nothing yet, with these turns to come
+-- a hub that was asked nothing yet, with these turns left
 abbrev pub hub_of : List Coming → Shown
 hub_of turns = hub_shown (Some []) (Some (record { blocked = []; turns = turns })) no_ids
 
--- whether serving ended as the hub was over, a session said `stop`, or the log failed
+-- whether serving ended as the hub was over, a session sent `stop`, or the log failed
 abbrev pub ServedWhole : Served → Type 0
 ServedWhole AllTaken = ⊥
 ServedWhole HubFailed = ⊥
 ServedWhole _ = Unit {0}
 
 -- The lines of the log were loaded, a batch that they left open was ended, and the hub of these turns
--- was served from what they gave on, until it was over, a session said `stop`, or the log failed: by
+-- was served from what they gave on, until it was over, a session sent `stop`, or the log failed: by
 -- moves that are a run of the join machine, which counted no more of listings than it may cost, with
 -- each session sent what is its, and each turn a round of its own. What the run logs is in the log. The hub
--- tells what is left of its turns, so each turn that was taken is the next of these. At the end it tells this past.
+-- shows what is left of its turns, so each turn that was made is the next of these. At the end it shows this past.
 pub record Plays (log : Option LogSeen) (turns : List Coming) (most : ℕ) (counted counted' : Counts)
     (past : Option (List Told)) : Type 0 where
   pub found : List Bytes
@@ -87,10 +87,9 @@ pub record Plays (log : Option LogSeen) (turns : List Coming) (most : ℕ) (coun
   pub silent : UnkeptIsSilent answer ends.goes.moves
   pub whole : ServedWhole answer
 
--- **The theorem of `replay`.** The hub of these turns was served, and tells all calls that it was
--- asked. No send among them found its session gone: so each took all that was offered, unless the
--- session was blocked. This text is the lines that were sent, and this the status that says why
--- serving ended.
+-- **The theorem of `replay`.** The hub of these turns was served, and shows all calls that it was asked. No send
+-- among them found its session closed: so each accepted all that was offered, unless the session was blocked. This
+-- text is the lines that were sent, and this the status that reports why serving ended.
 pub record Replays (log : Option LogSeen) (turns : List Coming) (most : ℕ) (counted counted' : Counts)
     (text : Bytes) (status : Status) : Type 0 where
   pub told : List Told
@@ -99,23 +98,23 @@ pub record Replays (log : Option LogSeen) (turns : List Coming) (most : ℕ) (co
   pub sent : text ≡ sent_text told
   pub is : status ≡ served_status plays.answer
 
--- What is to be written for a schedule, and the status where it is: the line that says which of its
--- lines is the first outside the grammar, and nothing is loaded or run; or what was sent, where none
--- is. It is served for one turn more than it has lines.
+-- What is to be written for a schedule, and the status once it is: the line that reports which of its lines is the
+-- first outside the grammar, and nothing is loaded or run; or what was sent, if none is. It is served for one turn
+-- more than it has lines.
 abbrev pub ReplayComesTo : Option LogSeen → Result (List Coming) ℕ → Bytes → Counts → Counts → Bytes → Status → Type 0
 ReplayComesTo log (Err n) bytes counted counted' text status = (text ≡ outside_line n)
     × (status ≡ Schedule n) × (counted' ≡ counted) × IsUnasked log
 ReplayComesTo log (Ok turns) bytes counted counted' text status =
     Replays log turns (length (schedule_lines bytes) + 1) counted counted' text status
 
--- the status where two things failed: that of the log, where it failed as the schedule was run, and
+-- the status if two things failed: that of the log, if it failed as the schedule was run, and
 -- else that of what failed later
 abbrev pub first_fault : Status → Status → Status
 first_fault DiskFault later = DiskFault
 first_fault LogFull later = LogFull
 first_fault _ later = later
 
--- What was sent couldn't be told, for want of memory.
+-- What was sent couldn't be written, for want of memory.
 pub record Untold (log : Option LogSeen) (status : Status) (turns : List Coming) (most : ℕ)
     (counted counted' : Counts) : Type 0 where
   pub past : Option (List Told)
@@ -123,7 +122,7 @@ pub record Untold (log : Option LogSeen) (status : Status) (turns : List Coming)
   pub is : status ≡ first_fault (served_status plays.answer) NoMemory
 
 -- What was done for a schedule of which nothing is to be written: nothing began, as the log wasn't
--- loaded or memory was wanted; or its hub was served all the same, and what was sent couldn't be told.
+-- loaded or memory was wanted; or its hub was served all the same, and what was sent couldn't be written.
 abbrev pub ComesToNothing : Option LogSeen → Status → Result (List Coming) ℕ → Bytes → Counts → Counts → Type 0
 ComesToNothing log status (Err n) bytes counted counted' = (status ≡ NoMemory) × (counted' ≡ counted)
     × IsUnasked log
@@ -131,7 +130,7 @@ ComesToNothing log status (Ok turns) bytes counted counted' =
     NeverBegins log status counted counted'
     ⊎ Untold log status turns (length (schedule_lines bytes) + 1) counted counted'
 
--- The sink took all of the text, and the status is this; or it took a first part that isn't the
+-- The sink accepted all of the text, and the status is this; or it accepted a first part that isn't the
 -- whole, and then a write failed, which was the last.
 abbrev pub Wrote : Status → Status → Bytes → Option (List Write) → ℕ → Option (List Write) → ℕ
     → Type 0
@@ -140,7 +139,7 @@ Wrote status whole text writing faults writing' faults' =
     ⊎ ((status ≡ first_fault whole WriteFault) × (n : ℕ) × (n < length text)
     × FailsBehind writing writing' (take n text) (drop n text) × Counted faults faults')
 
--- What a schedule comes to was written; or it comes to nothing, and nothing was. In both cases no
+-- What is to be written for a schedule was written; or nothing is, and nothing was. In both cases no
 -- more was counted of listings than the run of the schedule may cost.
 abbrev pub WritesFor : Option LogSeen → Status → Bytes → Option (List Write) → ℕ → Counts
     → Option (List Write) → ℕ → Counts → Type 0

@@ -22,8 +22,8 @@ use Rattle.djq_program_laws.specs.Mirrored.{IsMirroredBack}
 use Rattle.djq_program_laws.specs.Ends.{HubSeen, ServesHub}
 use Rattle.djq_program_laws.specs.Replay.{Plays}
 
--- A hub was served: the lines of a log were loaded, if there is one, and from what they gave the server went
--- on, by these moves, to this state, in rounds of at most so many turns.
+-- A hub was served: the lines of a log were loaded, if there is one, and from what they gave the server
+-- moved, by these moves, to this state, in rounds of at most so many turns.
 pub record Serving (log : Option LogSeen) (start : State) (moves : List Move) (state : State) : Type 0 where
   pub found : List Bytes
   pub first : List Group
@@ -39,14 +39,14 @@ pub record Serving (log : Option LogSeen) (start : State) (moves : List Move) (s
   pub ends : ServeEnds answer turns most hub loaded start hub_left used state
   pub by_moves : ends.goes.moves ≡ moves
 
--- a moment of it: what was done until then, and the state that it had come to
+-- a moment of it: what was done until then, and the state that it had reached
 pub record Moment (start : State) (moves : List Move) (state : State) : Type 0 where
   pub done : List Did
   pub at : State
   pub later : List Did
   pub passed : RunsThrough start (all_done moves) done at later state
 
--- At each moment an open cursor that had been told the end had given a listing of its query: each answer
+-- At each moment an open cursor that had been sent the end had given a listing of its query: each answer
 -- over the rows that were there then, once, and nothing else.
 abbrev pub HaveListed : State → List Move → State → Type 0
 HaveListed start moves state = (m : Moment start moves state) → CursorsHaveListed m.at
@@ -55,8 +55,8 @@ HaveListed start moves state = (m : Moment start moves state) → CursorsHaveLis
 abbrev pub StayLive : State → List Move → State → Type 0
 StayLive start moves state = (m : Moment start moves state) → LiveFrom m.at
 
--- At each moment `mirror` reads back what was taken of a session that watched a query and read it through
--- one cursor at a time, where that is all that was queued to it; and what the hub was told, at the end.
+-- At each moment `mirror` reads back what was sent of a session that watched a query and read it through one
+-- cursor at a time, if that is all that was queued to it; and what the hub was given, at the end.
 pub record AreReadBack (start : State) (moves : List Move) (state : State) : Type 0 where
   pub moments : (m : Moment start moves state) → (q : Listed) (s : ℕ) (at : State)
       → ReadsSinceOpened q s start m.done at m.at → all_taken s m.done ≡ out s m.done
@@ -76,8 +76,8 @@ OfServe Holds = (log : Option LogSeen) (status : Status) (addr : Bytes) (turns :
     → (serves : ServesHub log status addr turns hub counted hub' counted')
     → Holds serves.start serves.ends.goes.moves serves.state
 
--- However `replay` served its schedule, with a log and without, whether what was sent could be told or not,
--- it holds of it.
+-- However `replay` served its schedule, with a log and without, whether what was sent could be written or
+-- not, it holds of it.
 abbrev pub OfReplay : (State → List Move → State → Type 0) → Type 0
 OfReplay Holds = (log : Option LogSeen) (turns : List Coming) (most : ℕ) (counted counted' : Counts)
     (past : Option (List Told))

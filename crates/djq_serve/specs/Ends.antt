@@ -21,7 +21,7 @@ use Rattle.djq_serve.specs.Server.{Server, Move, MakesMove, waiting, closing, se
 use Rattle.djq_serve.specs.Goes.{seen, Goes}
 use Rattle.djq_serve.specs.Fair.{RunsFairly, LeavesNoLine, TakesSingleTurns}
 
--- All turns were taken, or fewer, as the answer says.
+-- All turns were made, or fewer, by the answer.
 abbrev pub TurnsTaken : Served → ℕ → ℕ → Type 0
 TurnsTaken TurnsUsed turns taken = taken ≡ turns
 TurnsTaken _ turns taken = taken ≤ turns
@@ -35,7 +35,7 @@ refuses s _ = false
 abbrev pub NeverRefused : ℕ → List Move → Type 0
 NeverRefused s moves = All (λ (m : Move). refuses s m.told ≡ false) moves
 
--- What the hub took for a session that was let in is what was taken of its pending bytes. That,
+-- What the hub accepted for a session that was let in is what was sent of its pending bytes. That,
 -- then what was dropped as it was closed, and then what is pending still, is all that was pending
 -- and was queued to it: so what was sent is a first part of that.
 pub record IsSent (old : State) (moves : List Move) (new : State) (s : ℕ) : Type 0 where
@@ -64,8 +64,8 @@ says_lost DiskFault = true
 says_lost LogFull = true
 says_lost _ = false
 
--- `HubFault` comes iff a turn failed. If the log doesn't end the serving, `Stopped` comes iff a session sent
--- `stop`; and if none did, `Over` comes iff a turn said so.
+-- `HubFault` is returned iff a turn failed. If the log doesn't end the serving, `Stopped` is returned iff a session
+-- sent `stop`; and if none did, `Over` is returned iff a turn reported it.
 pub record IsCaused (answer : Served) (told : List Told) (st : State) : Type 0 where
   pub failed : turn_failed told ≡ says_fault answer
   pub stopped : says_lost answer ≡ false → st.stopped ≡ says_stopped answer
@@ -100,8 +100,8 @@ abbrev pub RunsThrough : State → List Did → List Did → State → List Did 
 RunsThrough start done earlier mid later state = (done ≡ earlier ++ later) × Run start earlier mid
     × Run mid later state
 
--- What holds of a run at each state that it passes through: of a session that wasn't closed yet the lines
--- taken are those that its bytes are cut into, in order; and each open cursor gives what it should.
+-- What holds of a run at each state that it passes through: of a session that wasn't closed yet the lines removed
+-- from its input are those that its bytes are cut into, in order; and each open cursor gives what it should.
 pub record HoldsThroughout (start : State) (done : List Did) (state : State) : Type 0 where
   pub lines : (earlier : List Did) (mid : State) (later : List Did)
       → RunsThrough start done earlier mid later state
@@ -110,11 +110,11 @@ pub record HoldsThroughout (start : State) (done : List Did) (state : State) : T
       → RunsThrough start done earlier mid later state
       → CursorsGive start → CursorsGive mid
 
--- **How serving ends.** The server went from its first turn to its answer, by moves of which the hub tells,
+-- **How serving ends.** The server moved from its first turn to its answer, by moves that the hub records,
 -- with at most so many turns a round. Its steps are a run of the machine, in which sessions open with rising
 -- ids, so that none opens twice. What they log is cut into commits, and nothing is sent before it is logged. To
 -- each session was sent what is its. Lines are run by turns, none waits for a round, and a turn is a round of its
--- own where a round has one. Each answer has its cause, and every session is closed, in the machine and at the hub.
+-- own if a round has one. Each answer has its cause, and every session is closed, in the machine and at the hub.
 pub record ServeEnds (answer : Served) (turns most : ℕ) (hub : Shown) (counted : Counts) (old : State)
     (hub' : Shown) (counted' : Counts) (new : State) : Type 0 where
   pub taken : ℕ

@@ -32,13 +32,13 @@ RunsFairly most old moves new = (before : List Move) (one : Move) (mid : List Mo
     → (s : ℕ) → RunsTwice s one mid two
     → (t : ℕ) → t ≢ s → may_run at.state t ≡ true → list_any (runs_line t) mid ≡ true
 
--- **No line waits for a round**: wherever the server stands before one, no session has a line that may be run.
+-- **No line waits for a round**: whenever the server is before one, no session has a line that may be run.
 abbrev pub LeavesNoLine : ℕ → Server → List Move → Server → Type 0
 LeavesNoLine most old moves new = (before later : List Move) (at : Server)
     → moves ≡ before ++ later → Walk (MakesMove most) old before at → Walk (MakesMove most) at later new
     → at.phase ≡ waiting → (t : ℕ) → may_run at.state t ≡ false
 
--- **Where a round has one turn at most** each is a round of its own: it is taken as a round begins, and not
+-- **If a round has one turn at most** each is a round of its own: it is made as a round begins, and not
 -- before all that the one before it brought was run and offered.
 abbrev pub TakesSingleTurns : ℕ → Server → List Move → Type 0
 TakesSingleTurns most old moves = most ≤ 1 → (before later : List Move) (m : Move) (at next : Server)

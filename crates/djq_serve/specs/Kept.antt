@@ -1,4 +1,4 @@
--- What the loops of the server keep.
+-- What the loops of the server preserve.
 use Rattle.std.specs.Prelude.{ℕ, [], ◌∷◌, ◌+◌, ◌-◌, ◌++◌, ◌≡◌, ◌<◌, ◌≤◌, Option, None}
 use Rattle.std.specs.Prelude.{Some, IsSomeAnd, length, sum_by, All}
 use Rattle.djq_io.specs.Hub.{Ids}
@@ -19,7 +19,7 @@ pub record IsNewSession (st : State) (ids : Ids) (s : ℕ) : Type 0 where
   pub newest : ids.newest ≡ Some s
   pub above : All (λ t. t < s) (state_ids st)
 
--- how much a flush may do still: ids that it goes past, and bytes that it sends
+-- how much a flush may do still: ids that it passes, and bytes that it sends
 abbrev pub flush_ahead : State → ℕ → ℕ
 flush_ahead st from = (18446744073709551616 - from) + sum_by (λ (x : Session). length x.pending)
     st.sessions

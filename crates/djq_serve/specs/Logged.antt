@@ -42,7 +42,7 @@ pub record LastLeft (end : Option LogEnd) (groups : List Group) (old new : Optio
   pub full : Overfull end' last
   pub kept : AllKept end end' whole old new
 
--- what the log has, by the answer; there is none if serving goes on
+-- what the log has, by the answer; there is none if serving continues
 abbrev pub KeepsBy : Option Served → Option LogEnd → Option LogEnd → List Group → Option History → Option History
     → Type 0
 KeepsBy None end end' groups old new = AllKept end end' groups old new
@@ -53,18 +53,18 @@ KeepsBy (Some HubFault) end end' groups old new = AllKept end end' groups old ne
 KeepsBy (Some DiskFault) end end' groups old new = LastLost end groups old new
 KeepsBy (Some LogFull) end end' groups old new = LastLeft end groups old new
 
--- The disk's count of faults rises if the answer says so, and stays otherwise.
+-- The disk's count of faults rises if the answer is a fault of it, and stays otherwise.
 abbrev pub DiskCounts : Option Served → ℕ → ℕ → Type 0
 DiskCounts (Some DiskFault) before now = Counted before now
 DiskCounts _ before now = now ≡ before
 
--- answers that don't come of the disk
+-- answers that aren't of the disk
 abbrev pub IsNotOfDisk : Served → Type 0
 IsNotOfDisk DiskFault = ⊥
 IsNotOfDisk LogFull = ⊥
 IsNotOfDisk _ = Unit {0}
 
--- so it is if serving may go on
+-- so it is if serving may continue
 abbrev pub IsPlainAnswer : Option Served → Type 0
 IsPlainAnswer None = Unit {0}
 IsPlainAnswer (Some answer) = IsNotOfDisk answer
@@ -82,7 +82,7 @@ IsClosed _ = ⊥
 -- **What isn't logged isn't answered.** The last group is of the lines that the steps of the last commit log,
 -- and the log had been handed all others before. From the first step of this commit on the hub is asked for
 -- nothing but to close sessions, and after its last step the machine makes none but by these. So nothing that
--- any of its steps queued is sent, of those that log nothing neither; no turn is taken and no line is run after
+-- any of its steps queued is sent, of those that log nothing neither; no turn is made and no line is run after
 -- it.
 pub record Unanswered (last : Group) (moves : List Move) : Type 0 where
   pub before : List Move

@@ -20,12 +20,12 @@ use Rattle.djq_serve.specs.Server.{keeping, flushing, closing, server, after, of
 use Rattle.djq_serve.specs.Goes.{LogPlace, seen, GoesLogging, GoesQuietly}
 use Rattle.djq_serve.specs.Ends.{TurnsTaken}
 
--- where the server stands after a round, which may end the serving
+-- the server's place after a round, which may end the serving
 abbrev pub phase_of : Option Served → Phase
 phase_of None = waiting
 phase_of (Some answer) = closing answer
 
--- A flush went from the first session on until nothing was due to any, whatever follows it.
+-- A flush visited sessions from the first on until nothing was due to any, whatever follows it.
 pub record Flushes (hub : Shown) (old : State) (hub' : Shown) (new : State) : Type 0 where
   pub goes : (most : ℕ) (next : Next) → GoesQuietly most hub (server old (flushing 0 next)) hub'
       (server new (after new next))
@@ -51,14 +51,14 @@ rest_to_last (Ends s) = input_over s
 rest_to_last HubOver = no_turn
 rest_to_last Failed = next_round
 
--- where the server stands after a turn, where so many of the round may follow
+-- the server's place after a turn, if so many of the round may follow
 abbrev pub after_turn : ℕ → Rest → Phase
 after_turn left Nothing = gathering left
 after_turn left (Ends s) = running 0 0 [] (input_over s)
 after_turn left HubOver = running 0 0 [] no_turn
 after_turn left Failed = closing HubFault
 
--- A turn was taken, of which this is the rest.
+-- A turn was made, of which this is the rest.
 pub record TakesOne (rest : Rest) (hub : Shown) (old : State) (hub' : Shown) (new : State) : Type 0 where
   pub first : (most : ℕ) (counted : Counts) (turns : ℕ) (log : LogPlace)
       → GoesLogging most (seen hub counted turns) (server old waiting) log
@@ -67,14 +67,14 @@ pub record TakesOne (rest : Rest) (hub : Shown) (old : State) (hub' : Shown) (ne
       → GoesLogging most (seen hub counted turns) (server old (gathering left)) log
       (seen hub' counted (turns + 1)) (server new (after_turn (left - 1) rest)) log
 
--- where the server stands after the turns of a round
+-- the server's place after the turns of a round
 abbrev pub after_turns : Rest → Phase
 after_turns Nothing = running 0 0 [] next_round
 after_turns (Ends s) = running 0 0 [] (input_over s)
 after_turns HubOver = running 0 0 [] no_turn
 after_turns Failed = closing HubFault
 
--- The turns of a round were taken, at most so many.
+-- The turns of a round were made, at most so many.
 pub record Gathers (limit taken : ℕ) (rest : Rest) (hub : Shown) (old : State) (hub' : Shown) (new : State) : Type 0
   where
     pub goes : (most : ℕ) → limit ≤ most → (counted : Counts) (turns : ℕ) (log : LogPlace)
@@ -83,19 +83,19 @@ pub record Gathers (limit taken : ℕ) (rest : Rest) (hub : Shown) (old : State)
     pub some : 0 < taken
     pub within : taken ≤ limit
 
--- where the server stands after a commit
+-- the server's place after a commit
 abbrev pub after_commit : Option Served → State → Next → Phase
 after_commit None st next = after st next
 after_commit (Some answer) st next = closing answer
 
--- These lines were handed to the log, and a flush followed where they are stored.
+-- These lines were handed to the log, and a flush followed if they are stored.
 pub record MakesCommit (result : Option Served) (hub : Shown) (old : State) (lines : List Bytes) (hub' : Shown)
     (new : State) (log log' : LogPlace) : Type 0 where
   pub goes : (groups : List Group) → lines_in groups ≡ lines → (most : ℕ) (next : Next) (counted : Counts) (turns : ℕ)
       → GoesLogging most (seen hub counted turns) (server old (keeping groups next)) log
       (seen hub' counted turns) (server new (after_commit result new next)) log'
 
--- where the server stands after lines
+-- the server's place after lines
 abbrev pub after_lines : Option Served → ℕ → ℕ → List Group → Last → Phase
 after_lines None from count groups last = running from count groups last
 after_lines (Some answer) from count groups last = closing answer
@@ -127,14 +127,14 @@ pub record FinishesRound (result : Option Served) (rest : Rest) (hub : Shown) (o
       → GoesLogging most (seen hub counted turns) (server old (running from count groups (rest_to_last rest))) log
       (seen hub' counted turns) (server new (phase_of result)) log'
 
--- A round whose turns were taken is ended.
+-- A round whose turns were made is ended.
 pub record EndsRoundBy (result : Option Served) (rest : Rest) (hub : Shown) (counted : Counts) (old : State)
     (log : LogPlace) (hub' : Shown) (counted' : Counts) (new : State) (log' : LogPlace) : Type 0 where
   pub goes : (most turns : ℕ)
       → GoesLogging most (seen hub counted turns) (server old (after_turns rest)) log
       (seen hub' counted' turns) (server new (phase_of result)) log'
 
--- the answers of lines and commits: those that come of the disk
+-- the answers of lines and commits: those of the disk
 abbrev pub MayLose : Option Served → Type 0
 MayLose None = Unit {0}
 MayLose (Some DiskFault) = Unit {0}
@@ -148,7 +148,7 @@ MayFinish (Some TurnsUsed) = ⊥
 MayFinish (Some HubFault) = ⊥
 MayFinish (Some _) = Unit {0}
 
--- the answers of a round: `HubFault` exactly where a turn failed
+-- the answers of a round: `HubFault` if and only if a turn failed
 abbrev pub MayEnd : Rest → Option Served → Type 0
 MayEnd Failed result = result ≡ Some HubFault
 MayEnd _ result = MayFinish result

@@ -1,4 +1,4 @@
--- What the server does: one move after another, by the machine's state and where the server stands.
+-- What the server does: one move after another, by the machine's state and the server's place.
 use Rattle.std.specs.Prelude.{ℕ, List, [], ◌∷◌, ◌++◌, ◌≡◌, ◌+◌, ◌-◌, ◌<◌, ◌≤◌, ◌⊎◌, ◌&&◌, Bool, true, false}
 use Rattle.std.specs.Prelude.{not, nat_lt, Option, None, Some, is_some, IsSome}
 use Rattle.std.specs.Prelude.{slice_get, length, take, if◌then◌else◌}
@@ -44,11 +44,11 @@ pub data Next : Type 0 where
   -- the next round, or the end: the hub is over
   round_over : Bool → Next
 
--- Where the server stands.
+-- The server's place.
 pub data Phase : Type 0 where
-  -- it takes the first turn of a round
+  -- it makes the first turn of a round
   waiting : Phase
-  -- it takes a further turn of the round, at most so many, or runs the lines that the turns brought
+  -- it makes a further turn of the round, at most so many, or runs the lines that the turns brought
   gathering : ℕ → Phase
   -- it runs a line: of the first session of at least this id that has one, or else of the first of all.
   -- In this commit so many lines were run, and they logged these groups
@@ -60,12 +60,12 @@ pub data Phase : Type 0 where
   -- it closes the sessions that are open, and then answers
   closing : Served → Phase
 
--- The server: the state of its machine, and where it stands.
+-- The server: the state of its machine, and its place.
 pub record Server : Type 0 where
   pub state : State
   pub phase : Phase
 
--- a server with this state, which stands here
+-- a server with this state, at this place
 abbrev pub server : State → Phase → Server
 server state phase = record { state = state; phase = phase }
 
@@ -109,7 +109,7 @@ Stays old done new = (done ≡ []) × (new ≡ old)
 abbrev pub refusal_for : State → Bytes
 refusal_for st = if nat_lt (length st.sessions) SESSIONS then end_memory else end_full
 
--- This text was offered to a session once, all of it, and the hub took of it what it took.
+-- This text was offered to a session once, all of it, and the hub accepted of it what it did.
 abbrev pub offering : ℕ → Bytes → Sent → Told
 offering s text sent = Sending s (length text) sent (taken_by sent text)
 
@@ -120,12 +120,12 @@ LetsIn s old more new = (IsOpen new s × (more ≡ []))
     ⊎ ((IsOpen new s → ⊥) × (sent : Sent) × Takes sent (refusal_for old)
     × (more ≡ offering s (refusal_for old) sent ∷ Closing s ∷ []))
 
--- bytes that a turn brought: some, as many as were said, and no more than are read at a time
+-- bytes that a turn brought: some, as many as were announced, and no more than are read at a time
 abbrev pub IsPiece : ℕ → Bytes → Type 0
 IsPiece n piece = (n ≡ length piece) × (0 < n) × (n ≤ READ_BYTES)
 
--- What a turn brings, where so many turns of the round may follow: the calls of the hub after it, the steps,
--- and where the server stands then. The end of a session's input and of the hub end the gathering.
+-- What a turn brings, if so many turns of the round may follow: the calls of the hub after it, the steps, and
+-- the server's place then. The end of a session's input and of the hub end the gathering.
 abbrev pub Brings : ℕ → Turn → Bytes → State → List Told → List Did → State → Phase → Type 0
 Brings left (Opened s class) piece old more done new next = Happens (opened s) old done new
     × LetsIn s old more new × (next ≡ gathering left)
@@ -140,7 +140,7 @@ Brings left HubOver piece old more done new next = Stays old done new × (more �
 Brings left Failed piece old more done new next = Stays old done new × (more ≡ [])
     × (next ≡ closing HubFault)
 
--- A turn is taken, after which so many of the round may follow.
+-- A turn is made, after which so many of the round may follow.
 abbrev pub TakesTurn : ℕ → State → Move → Server → Type 0
 TakesTurn left old m new = (turn : Turn) × (piece : Bytes) × (more : List Told)
     × (m.told ≡ Turning turn piece ∷ more) × (m.logged ≡ [])
@@ -222,7 +222,7 @@ SendsSome Gone s old told done new = (told ≡ offering s (pending_of old s) Gon
 abbrev pub SessionLeaves : ℕ → State → List Told → List Did → State → Type 0
 SessionLeaves s old told done new = (told ≡ Closing s ∷ []) × Happens (closed s []) old done new
 
--- a flush stays at a session of which bytes were taken, and else goes on after it
+-- a flush stays at a session of which bytes were sent, and else continues after it
 abbrev pub flush_after : Sent → ℕ → ℕ
 flush_after (Took n) s = s
 flush_after Again s = s + 1
@@ -236,13 +236,13 @@ Visits s old told done new to =
     ⊎ ((pending_of old s ≡ []) × IsSome (cause_of old s) × SessionLeaves s old told done new
     × (to ≡ s + 1))
 
--- where the server stands after the last flush of a round: a session sent `stop`; the hub is over
+-- the server's place after the last flush of a round: a session sent `stop`; the hub is over
 abbrev pub after_round : Bool → Bool → Phase
 after_round true over = closing Stopped
 after_round false true = closing Over
 after_round false false = waiting
 
--- where the server stands after a flush
+-- the server's place after a flush
 abbrev pub after : State → Next → Phase
 after st (more_lines from last) = running from 0 [] last
 after st (round_over over) = after_round st.stopped over
@@ -251,7 +251,7 @@ after st (round_over over) = after_round st.stopped over
 abbrev pub first_open : State → Option ℕ
 first_open st = slice_get (state_ids st) 0
 
--- no call of the hub and no step: the server stands elsewhere
+-- no call of the hub and no step: the server is at another place
 abbrev pub PhasePasses : State → Phase → Move → Server → Type 0
 PhasePasses old phase m new = (m ≡ move [] []) × (new ≡ server old phase)
 
@@ -267,7 +267,7 @@ ClosesFirst answer old m new None = ⊥
 ClosesFirst answer old m new (Some s) = (m.told ≡ Closing s ∷ []) × (m.logged ≡ [])
     × Happens (closed s (pending_of old s)) old m.done new.state × (new.phase ≡ closing answer)
 
--- The next move, by where the server stands. A round takes at most so many turns.
+-- The next move, by the server's place. A round has at most so many turns.
 abbrev pub ServesAt : ℕ → Phase → State → Move → Server → Type 0
 ServesAt most waiting old m new = PhasePasses old (closing TurnsUsed) m new ⊎ TakesTurn (most - 1) old m new
 ServesAt most (gathering left) old m new = PhasePasses old (running 0 0 [] next_round) m new

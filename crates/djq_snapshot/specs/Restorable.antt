@@ -1,4 +1,4 @@
--- Which stores their snapshots restore, and that a run comes to no other.
+-- Which stores their snapshots restore, and that a run reaches no other.
 use Rattle.std.specs.Prelude.{List, [], ◌∷◌, ◌++◌, ◌≡◌, true, None, Some, All, ⊤}
 use Rattle.djq_model.specs.declared.relation.Relation.{Relation}
 use Rattle.djq_model.specs.Data.{Bytes, tuples_in}
@@ -57,7 +57,7 @@ RestoredAgain = (lines : List SnapshotLine) (st : Store) → RestoresAll empty_s
 abbrev pub OpeningIsRestorable : Type 0
 OpeningIsRestorable = IsRestorable opening.store
 
--- A run that begins with a restorable store comes to no other.
+-- A run that begins with a restorable store reaches no other.
 abbrev pub RunsStayRestorable : Type 0
 RunsStayRestorable = (old : State) (done : List Did) (new : State) → Run old done new → IsSoundState old
     → IsRestorable old.store → IsRestorable new.store

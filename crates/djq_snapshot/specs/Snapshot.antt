@@ -20,7 +20,7 @@ use Rattle.djq_machine.specs.Walk.{Walk}
 use Rattle.djq_run_laws.specs.Sound.{IsCopyCount}
 use Rattle.djq_log_laws.specs.Kept.{StoreFollows}
 
--- ---- What a snapshot says of a store.
+-- ---- What a snapshot has of a store.
 
 -- A line of a snapshot.
 pub data SnapshotLine : Type 0 where
@@ -49,7 +49,7 @@ listed_line (a_query q) = says_query q
 listed_line (a_union name qs) = says_union name (map (λ q. q.name) qs)
 
 -- The snapshot of a store: its relations, the rows of each, what is registered, in their orders, and
--- the number of changes. Which texts are known it doesn't say.
+-- the number of changes. Which texts are known it doesn't have.
 abbrev pub snapshot_of : Store → List SnapshotLine
 snapshot_of st =
     map relation_line st.relations
@@ -92,8 +92,8 @@ pub record RestoreStep (old : Store) (line : SnapshotLine) (new : Store) : Type 
 abbrev pub RestoresAll : Store → List SnapshotLine → Store → Type 0
 RestoresAll = Walk RestoreStep
 
--- Lines restore a store, from nothing: they can be restored, and whatever they come to follows that
--- store. No condition refuses a line: after those before it, whatever they came to, it can be restored.
+-- Lines restore a store, from nothing: they can be restored, and any result follows that store. No
+-- condition refuses a line: after those before it, with any result, it can be restored.
 pub record RestoresTo (lines : List SnapshotLine) (st : Store) : Type 0 where
   pub can : (b : Store) × RestoresAll empty_store lines b × StoreFollows st b
   pub each : (b : Store) → RestoresAll empty_store lines b → StoreFollows st b
