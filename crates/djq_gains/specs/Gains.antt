@@ -1,4 +1,4 @@
--- How the answers of a union changed, whose members stand in places of an engine.
+-- How the answers of a union changed, whose members are in places of an engine.
 use Rattle.std.specs.Prelude.{
   ◌≡◌,
   ◌↔◌,
@@ -35,20 +35,21 @@ members_at k members = map (λ l. l.query) (queries_at k.places members)
 abbrev pub AtFirstMember : Kept → List ℕ → (Live → Type 0) → Type 0
 AtFirstMember k members P = IsSomeAnd (slice_get (queries_at k.places members) 0) P
 
--- what is told of the query in a place, if that wasn't lost
+-- the delta of the query in a place, if that wasn't lost
 abbrev pub told_of_member : Kept → ℕ → Option (List Change)
 told_of_member k i = told_at k (record { at = i })
 
--- the answers that are told of the query in a place, with their signs
+-- the answers in the delta of the query in a place, with their signs
 abbrev pub changes_in : Kept → ℕ → List Change
 changes_in k i = unwrap_or (told_of_member k i) []
 
--- how many answers are told of the query in a place
+-- how many answers are in the delta of the query in a place
 abbrev pub count_in : Kept → ℕ → ℕ
 count_in k i = length (changes_in k i)
 
--- Members changed, from these relations to those of the engine. What is told of one that was touched is
--- its delta, each answer once, of those that came and those that went; the answers of the others are the same.
+-- Members changed, from these relations to those of the engine. The engine has the delta of one that was
+-- touched, each answer once, of those that were added and those that were removed; the answers of the others
+-- are the same.
 pub record HaveChanged (before : List Relation) (k : Kept) (members touched : List ℕ) : Type 0 where
   pub told : (i : ℕ) (l : Live) (changes : List Change) → Contains touched i
       → query_at k.places i ≡ Some l → told_of_member k i ≡ Some changes
@@ -64,7 +65,7 @@ IsUnionDelta k members touched changes = (before : List Relation)
     → IsDelta (AnswersOf before (a_union name (members_at k members)))
     (AnswersOf (k.store).relations (a_union name (members_at k members))) changes
 
--- Lines tell the delta of a union by its first member, which can show each of them.
+-- Lines are the delta of a union by its first member, which can show each of them.
 pub record TellUnion (k : Kept) (members touched : List ℕ) (lines : List Line) (first : Live) : Type 0
   where
     pub delta : IsUnionDelta k members touched (map (change_of (k.store).texts first) lines)

@@ -1,4 +1,4 @@
--- What is gathered of some deltas: their different tuples, each with the deltas in which it stands, and its signs.
+-- What is gathered of some deltas: their different tuples, each with the deltas in which it occurs, and its signs.
 use Rattle.std.specs.Prelude.{
   ◌≡◌,
   ◌⊎◌,
@@ -32,16 +32,16 @@ pub record Gain : Type 0 where
   pub cells : List ℕ
   pub marks : Marks
 
--- how many cells a tuple has, and the tuples in the order in which they came
+-- how many cells a tuple has, and the tuples in order of insertion
 pub record Gathered : Type 0 where
   pub width : ℕ
   pub gains : List Gain
 
--- the marks of a tuple that stands in no delta
+-- the marks of a tuple that occurs in no delta
 abbrev pub in_no_delta : Marks
 in_no_delta = record { stands = replicate 8 false; came = false; went = false }
 
--- the marks of one that stands in the nth delta too, with this sign
+-- the marks of one that occurs in the nth delta too, with this sign
 abbrev pub also_in : ℕ → Bool → Marks → Marks
 also_in nth came m = record {
   stands = slice_set m.stands nth true;
@@ -49,7 +49,7 @@ also_in nth came m = record {
   went = m.went || not came;
 }
 
--- One mark: that a tuple stands in the nth delta, or that it stands in some delta with this sign.
+-- One mark: that a tuple occurs in the nth delta, or that it occurs in some delta with this sign.
 pub data Mark : Type 0 where
   in_delta : ℕ → Mark
   with_sign : Sign → Mark
@@ -60,7 +60,7 @@ has_mark m (in_delta nth) = slice_index_or m.stands nth false
 has_mark m (with_sign Came) = m.came
 has_mark m (with_sign Went) = m.went
 
--- A tuple has this mark, if it stands in the nth delta with this sign.
+-- A tuple has this mark, if it occurs in the nth delta with this sign.
 abbrev pub IsMarkOf : Mark → ℕ → Sign → Type 0
 IsMarkOf (in_delta k) nth sign = k ≡ nth
 IsMarkOf (with_sign s) nth sign = s ≡ sign
@@ -96,7 +96,7 @@ pub record Stand (gains : List Gain) (mark : Mark) (cells : List ℕ) : Type 0 w
 abbrev pub GainsDiffer : List Gain → Type 0
 GainsDiffer gains = AllPairs (λ t u. t ≡ u → ⊥) (cells_in gains)
 
--- Each stands in some delta.
+-- Each occurs in some delta.
 abbrev pub StandSomewhere : List Gain → Type 0
 StandSomewhere gains = (g : Gain) → Contains gains g → (nth : ℕ) × (has_mark g.marks (in_delta nth) ≡ true)
 
@@ -117,11 +117,11 @@ AtSlot gains slot P = (front : List Gain) (g : Gain) (back : List Gain) → gain
 abbrev pub with_mark : ℕ → ℕ → Bool → Gain → Gain
 with_mark slot nth came g = if g.slot == slot then record g { marks = also_in nth came g.marks } else g
 
--- the tuples once that in a slot stands in the nth delta too, with this sign
+-- the tuples once that in a slot occurs in the nth delta too, with this sign
 abbrev pub marked_in : ℕ → ℕ → Bool → List Gain → List Gain
 marked_in slot nth came gains = map (with_mark slot nth came) gains
 
--- A tuple has a slot: it lay there, or it was laid there, and stands in no delta yet.
+-- A tuple has a slot: it was there, or it was inserted, and occurs in no delta yet.
 abbrev pub Seats : List Row → List Gain → ℕ → List ℕ → List Gain → Type 0
 Seats rows old slot cells new = (new ≡ old)
     ⊎ (IsAbsent rows cells × (new ≡ old ++ record { slot = slot; cells = cells; marks = in_no_delta } ∷ []))

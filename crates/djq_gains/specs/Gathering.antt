@@ -1,4 +1,4 @@
--- What is gathered of the deltas of members, and which of it is told of their union.
+-- What is gathered of the deltas of members, and which of it is in the delta of their union.
 use Rattle.std.specs.Prelude.{
   ◌≡◌,
   ◌↔◌,
@@ -37,7 +37,7 @@ use Rattle.djq_gains.specs.Gathered.{Gain, Mark, IsMarkOf, Stand}
 abbrev pub is_among : List ℕ → ℕ → Bool
 is_among places i = list_any (λ j. j == i) places
 
--- how many answers are told of those members that were touched
+-- how many answers are in the deltas of those members that were touched
 abbrev pub gain_count : Kept → List ℕ → List ℕ → ℕ
 gain_count k members touched = sum_by (count_in k) (filter (is_among touched) members)
 
@@ -58,7 +58,7 @@ pub record HasMarkOfMember (k : Kept) (members touched : List ℕ) (mark : Mark)
     pub touched_it : is_among touched place ≡ true
     pub by : HasMarkBy (k.store).texts (changes_in k place) m mark cells
 
--- All answers that are told of the members that were touched are gathered; none of these is lost.
+-- All answers in the deltas of the members that were touched are gathered; none of these is lost.
 pub record GathersGains (k : Kept) (members touched : List ℕ) (gains : List Gain) : Type 0 where
   pub stand : (mark : Mark) (cells : List ℕ) → Stand gains mark cells
       ↔ HasMarkOfMember k members touched mark cells
@@ -71,16 +71,16 @@ is_alone [] by cells = true
 is_alone (l ∷ ls) [] cells = not (has_cells l cells) && is_alone ls [] cells
 is_alone (l ∷ ls) (b ∷ by) cells = (b || not (has_cells l cells)) && is_alone ls by cells
 
--- whether a tuple that was gathered is told of the union: all deltas in which it stands agree, and no other
--- member has it
+-- whether a tuple that was gathered is in the delta of the union: all deltas in which it occurs agree, and
+-- no other member has it
 abbrev pub is_told : List Live → Gain → Bool
 is_told ls g = not (g.marks.came && g.marks.went) && is_alone ls g.marks.stands g.cells
 
--- the line that tells of a tuple, by the first member
+-- the line of a tuple, by the first member
 abbrev pub line_of : Live → Gain → Line
 line_of first g = record { came = g.marks.came; answer = in_tree first g.cells }
 
--- the lines that tell of all that is to be told
+-- the lines of the union's delta
 abbrev pub gain_lines : List Live → Live → List Gain → List Line
 gain_lines ls first gains = map (line_of first) (filter (is_told ls) gains)
 

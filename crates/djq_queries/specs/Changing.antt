@@ -1,5 +1,5 @@
--- What a change by which groups come, and after them groups go, does to the queries that read one of the
--- relations, and to their logs.
+-- What a change by which groups are inserted, and after them groups are deleted, does to the queries that read one of
+-- the relations, and to their logs.
 use Rattle.std.specs.Prelude.{ℕ, List, ◌++◌, ◌≡◌, ◌≤◌, ◌+◌, ◌⊎◌, Bool, true, false, Option, IsSomeAnd, All}
 use Rattle.std.specs.Prelude.{filter, length, map, sum_by}
 use Rattle.djq_store_spec.specs.Delta.{Change}
@@ -20,17 +20,17 @@ use Rattle.djq_reach.specs.Grouping.{GroupsLead, PlacesAreAmong, batch_cost_at, 
 use Rattle.djq_reach.specs.Grouping.{rows_of_groups}
 use Rattle.djq_queries.specs.Going.{GroupsGo, gone_group_work}
 
--- the places of the queries that read a relation of the groups that come or of those that go
+-- the places of the queries that read a relation of the groups that are inserted or of those that are deleted
 abbrev pub touched : List (List ℕ) → List Group → List Group → List ℕ
 touched readers come gone = reached readers come ++ reached readers gone
 
--- Groups come and lead to a catalog between, and from there groups go.
+-- Groups are inserted and lead to a catalog between, and from there groups are deleted.
 pub record GroupsChange (readers : List (List ℕ)) (come gone : List Group) (gs : List (Option Live))
     (c e d : Catalog) : Type 0 where
   pub comes : GroupsLead readers come gs c e
   pub goes : GroupsGo readers gone gs e d
 
--- They do so from a catalog over which the queries that read one of the relations are kept.
+-- They are from a catalog over which the queries that read one of the relations are live.
 pub record CanChangeBy (readers : List (List ℕ)) (come gone : List Group) (gs : List (Option Live)) :
     Type 0 where
   pub before : Catalog
@@ -39,8 +39,8 @@ pub record CanChangeBy (readers : List (List ℕ)) (come gone : List Group) (gs 
   pub leads : GroupsChange readers come gone gs before between after
   pub kept : AllAt (touched readers come gone) gs (λ l. IsKept before l)
 
--- Unless it is lost, a log tells which answers the insertions added, up to the catalog between, and after them which
--- the deletions removed from there.
+-- Unless it is lost, a log has the answers that the insertions added, up to the catalog between, and after them those
+-- that the deletions removed from there.
 pub record LogTellsHalves (c e d : Catalog) (l : Live) (log : Log) : Type 0 where
   pub came : List Line
   pub went : List Line
@@ -49,7 +49,7 @@ pub record LogTellsHalves (c e d : Catalog) (l : Live) (log : Log) : Type 0 wher
   pub goes : log.lost ≡ false → IsDeltaOf l e d (map (change_of d.texts l) went)
   pub shown : log.lost ≡ false → All (λ k. IsShowable d.texts l k.answer) log.lines
 
--- Unless it is lost, a log tells the net delta of the whole change, in lines that can be shown. Lost or not, there are
+-- Unless it is lost, a log has the net delta of the whole change, in lines that can be shown. Lost or not, there are
 -- the answers that the insertions added, up to the catalog between, and those that the deletions removed from there.
 pub record LogTellsNet (c e d : Catalog) (l : Live) (log : Log) : Type 0 where
   pub tells : log.lost ≡ false → IsDeltaOf l c d (map (change_of d.texts l) log.lines)
@@ -59,7 +59,7 @@ pub record LogTellsNet (c e d : Catalog) (l : Live) (log : Log) : Type 0 where
   pub inserts : IsDeltaOf l c e came
   pub deletes : IsDeltaOf l e d went
 
--- It tells so if the query is watched, and is as before if it isn't.
+-- It has that if the query is watched, and is as before if it isn't.
 abbrev pub TellsChangeWhere : Bool → Catalog → Catalog → Catalog → Live → Log → Log → Type 0
 TellsChangeWhere true c e d l old new = LogTellsNet c e d l new
 TellsChangeWhere false c e d l old new = new ≡ old
@@ -78,9 +78,9 @@ pub record EmptiesWatched (places watchers : List ℕ) (old new : List Log) : Ty
       → IsEmpty (log_at new i) ⊎ (log_at new i ≡ log_at old i)
   pub others : (i : ℕ) → is_reader places i ≡ false → log_at new i ≡ log_at old i
 
--- What listing counts at most, whatever deltas the watched queries have: each that reads a relation of
--- the groups that come counts once for what came, and each that reads one of those that go once for
--- what went, in whatever order they stand.
+-- What listing counts at most, whatever deltas the watched queries have: each that reads a relation of the groups that
+-- are inserted counts once for what they add, and each that reads one of those that are deleted once for what they
+-- remove, in whatever order they are.
 abbrev pub CostsChange : List (List ℕ) → List Group → List Group → List ℕ → List (Option Live) → ℕ → ℕ
     → Type 0
 CostsChange readers come gone watchers gs before now = (c e d : Catalog) (f h : ℕ → List Change)
@@ -94,15 +94,15 @@ CostsChange readers come gone watchers gs before now = (c e d : Catalog) (f h : 
     + sum_by (batch_cost_at watchers gs (group_relations gone) h)
     (filter (is_reader (reached readers gone)) order)
 
--- what bounds the update of a query by groups that go: that it is flat, where this is chosen, or that
+-- what bounds the update of a query by groups that are deleted: that it is flat, if this is chosen, or that
 -- no relation that it reads has more than m rows in the catalog between
 abbrev pub IsBoundedIn : Catalog → ℕ → Bool → Live → Type 0
 IsBoundedIn e m true l = IsFlat (edges_of l.query) (head_of l.query)
 IsBoundedIn e m false l = HasFewRows e l m
 
--- What updates count at most: for each group that comes and each query that reads its relation the
--- bound of an update where no leaf has more than n tuples before, with as many more as rows come; for
--- each group that goes the bound that is chosen for the query.
+-- What updates count at most: for each group that is inserted and each query that reads its relation the bound of an
+-- update if no leaf has more than n tuples before, with as many more as rows are inserted; for each group that is
+-- deleted the bound that is chosen for the query.
 abbrev pub WorksChange : List (List ℕ) → List Group → List Group → List (Option Live) → ℕ → ℕ → Type 0
 WorksChange readers come gone gs before now = (c e d : Catalog) (n m : ℕ) (flat : ℕ → Bool)
     → GroupsChange readers come gone gs c e d → AllAt (touched readers come gone) gs (λ l. IsKept c l)
@@ -112,7 +112,7 @@ WorksChange readers come gone gs before now = (c e d : Catalog) (n m : ℕ) (fla
     → now ≤ before + sum_by (group_work readers gs (n + rows_of_groups come) (λ g. 1)) come
     + sum_by (gone_group_work readers gs m flat) gone
 
--- What a log tells of both halves of a change, once opposites cancel out, is the query's delta.
+-- What a log has of both halves of a change, once opposites cancel out, is the query's delta.
 abbrev pub ChangedLogsSettle : Type 0
 ChangedLogsSettle = (readers : List (List ℕ)) (come gone : List Group) (gs : List (Option Live)) (c e d : Catalog)
     (l : Live) (log : Log) (new : List Change) → GroupsChange readers come gone gs c e d → LogTellsHalves c e d l log

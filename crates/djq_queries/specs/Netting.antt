@@ -1,4 +1,4 @@
--- Groups that come, and after them groups that go: the rows of the relations, and the answers.
+-- Groups that are inserted, and after them groups that are deleted: the rows of the relations, and the answers.
 use Rattle.std.specs.Prelude.{List, ◌++◌}
 use Rattle.djq_model.specs.Listed.{Listed, AnswersOf}
 use Rattle.djq_store_spec.specs.Delta.{Change, IsDelta}
@@ -9,16 +9,16 @@ use Rattle.djq_reach.specs.declared.group.Group.{Group}
 use Rattle.djq_reach.specs.Grouping.{ComesBy}
 use Rattle.djq_queries.specs.Going.{GoesBy}
 
--- Where groups come, rows only come.
+-- If groups are inserted, rows are only inserted.
 abbrev pub GroupsOnlyCome : Type 0
 GroupsOnlyCome = (c d : Catalog) (groups : List Group) → ComesBy c groups d → HaveRows c.relations d.relations
 
--- Where groups go, rows only go.
+-- If groups are deleted, rows are only deleted.
 abbrev pub GroupsOnlyGo : Type 0
 GroupsOnlyGo = (c d : Catalog) (groups : List Group) → GoesBy c groups d → HaveRows d.relations c.relations
 
--- Groups come, and from there groups go: the answers that came and those that went, settled, are the
--- delta of the whole change.
+-- Groups are inserted, and from there groups are deleted: the answers that were added and those that
+-- were removed, settled, are the delta of the whole change.
 abbrev pub GroupsSettle : Type 0
 GroupsSettle = (c e d : Catalog) (come gone : List Group) (q : Listed) → ComesBy c come e → GoesBy e gone d
     → (came went new : List Change) → IsDelta (AnswersOf c.relations q) (AnswersOf e.relations q) came

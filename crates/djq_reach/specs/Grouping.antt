@@ -29,7 +29,7 @@ reached readers (g ∷ groups) = readers_at readers g.relation.at ++ reached rea
 abbrev pub rows_of_groups : List Group → ℕ
 rows_of_groups groups = sum_by (λ g. length g.rows) groups
 
--- The groups came one after another: each leads from a catalog to the next one.
+-- The groups were inserted one after another: each leads from a catalog to the next one.
 abbrev pub ComesBy : Catalog → List Group → Catalog → Type 0
 ComesBy c [] d = d ≡ c
 ComesBy c (g ∷ groups) d =
@@ -45,7 +45,7 @@ pub record GroupsLead (readers : List (List ℕ)) (groups : List Group) (gs : Li
   pub reading : (r i : ℕ) → r < length c.relations → is_reader (readers_at readers r) i
       ≡ reads_place (relation_at c.relations r).name (place_at gs i)
 
--- They do so from a catalog over which the queries that read one of the relations are kept.
+-- They were from a catalog over which the queries that read one of the relations are live.
 pub record CanComeBy (readers : List (List ℕ)) (groups : List Group) (gs : List (Option Live)) :
     Type 0 where
   pub before : Catalog
@@ -53,7 +53,7 @@ pub record CanComeBy (readers : List (List ℕ)) (groups : List Group) (gs : Lis
   pub leads : GroupsLead readers groups gs before after
   pub kept : AllAt (reached readers groups) gs (λ l. IsKept before l)
 
--- They do so to a catalog over which these queries are kept.
+-- They were to a catalog over which these queries are live.
 pub record CanGoBy (readers : List (List ℕ)) (groups : List Group) (gs : List (Option Live)) :
     Type 0 where
   pub before : Catalog
@@ -71,14 +71,14 @@ pub record Clears (passes : ℕ → Bool) (old new : List Log) : Type 0 where
 abbrev pub atoms_over_any : Live → List ℕ → ℕ
 atoms_over_any l ats = length (filter (λ a. is_reader ats a.relation) l.numbered.atoms)
 
--- what listing the deltas of a batch counts at most, of one query: an answer for each that came, and
--- for each atom over one of the relations
+-- what listing the deltas of a batch counts at most, of one query: an answer for each that was
+-- added, and for each atom over one of the relations
 abbrev pub batch_cost : List ℕ → List Change → Option Live → ℕ
 batch_cost ats changes None = 0
 batch_cost ats changes (Some l) =
     (length changes + atoms_over_any l ats) * most_steps (length l.query.head)
 
--- of the query in a place, where it is watched
+-- of the query in a place, if it is watched
 abbrev pub batch_cost_at : List ℕ → List (Option Live) → List ℕ → (ℕ → List Change) → ℕ → ℕ
 batch_cost_at watchers gs ats f i =
     if watched_at watchers i then batch_cost ats (f i) (place_at gs i) else 0
@@ -88,7 +88,7 @@ abbrev pub PlacesAreAmong : List ℕ → List ℕ → Type 0
 PlacesAreAmong places order = (i : ℕ) → is_reader places i ≡ true → is_reader order i ≡ true
 
 -- What listing the deltas between two catalogs counts at most, whatever deltas these are: each query
--- that reads one of the relations counts once, in whatever order they stand.
+-- that reads one of the relations counts once, in whatever order they are.
 abbrev pub CostsBy : List (List ℕ) → List Group → List ℕ → List (Option Live) → ℕ → ℕ → Type 0
 CostsBy readers groups watchers gs before now = (c d : Catalog) (f : ℕ → List Change)
     (order : List ℕ) → GroupsLead readers groups gs c d
@@ -103,7 +103,7 @@ abbrev pub group_work : List (List ℕ) → List (Option Live) → ℕ → (Grou
 group_work readers gs n times g =
     sum_by (work_at gs g.relation.at (times g) n (λ i. false)) (readers_at readers g.relation.at)
 
--- What updates by all groups count at most, where no leaf has more than n tuples before: for each
+-- What updates by all groups count at most, if no leaf has more than n tuples before: for each
 -- group and each query that reads its relation so many times the bound of an update, with so many
 -- tuples more counted in.
 abbrev pub WorksBy : List (List ℕ) → List Group → List (Option Live) → ℕ → (Group → ℕ) → ℕ → ℕ
@@ -112,6 +112,6 @@ WorksBy readers groups gs more times before now = (n : ℕ)
     → AllAt (reached readers groups) gs (λ l. HasAtMost l.reducts n)
     → now ≤ before + sum_by (group_work readers gs (n + more) times) groups
 
--- where rows are given back row by row, each counts as an update
+-- if rows are deleted again row by row, each counts as an update
 abbrev pub times_back : Group → ℕ
 times_back g = length g.rows + 2

@@ -1,4 +1,4 @@
--- Answers that only come.
+-- Answers that are only added.
 use Rattle.djq_model.specs.Data.{Tuple}
 
 -- every answer stays one

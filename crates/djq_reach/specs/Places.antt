@@ -7,7 +7,7 @@ use Rattle.djq_store_spec.specs.Stale.{reads}
 use Rattle.djq_enumeration.specs.Log.{Log}
 use Rattle.djq_live_query.specs.Live.{Live}
 
--- the query in a place, where one is registered there
+-- the query in a place, if one is registered there
 abbrev pub place_at : List (Option Live) → ℕ → Option Live
 place_at gs i = slice_index_or gs i None
 
@@ -32,7 +32,7 @@ watchers_at watchers i = slice_index_or watchers i 0
 abbrev pub watched_at : List ℕ → ℕ → Bool
 watched_at watchers i = nat_lt 0 (watchers_at watchers i)
 
--- what stands for the log of no place
+-- a log in place of that of no place
 abbrev pub no_log : Log
 no_log = record { lines = []; lost = true }
 

@@ -28,7 +28,7 @@ pub record Reach (places : List ℕ) (Does : Live → Live → Type 0) (old new 
 abbrev pub AllAt : List ℕ → List (Option Live) → (Live → Type 0) → Type 0
 AllAt places gs P = (i : ℕ) → is_reader places i ≡ true → IsSomeAnd (place_at gs i) P
 
--- The queries in these places are kept, and a row with these cells came and can go again.
+-- The queries in these places are live, and a row with these cells was inserted and can be deleted again.
 pub record CanCome (places : List ℕ) (at : ℕ) (cells : List ℕ) (gs : List (Option Live)) :
     Type 0 where
   pub before : Catalog
@@ -39,7 +39,7 @@ pub record CanCome (places : List ℕ) (at : ℕ) (cells : List ℕ) (gs : List 
   pub went : Went after before at cells row
   pub kept : AllAt places gs (λ l. IsKept before l)
 
--- They are kept, and a row with these cells was there and went.
+-- They are live, and a row with these cells was there and was deleted.
 pub record CanGo (places : List ℕ) (at : ℕ) (cells : List ℕ) (gs : List (Option Live)) :
     Type 0 where
   pub before : Catalog
@@ -49,23 +49,23 @@ pub record CanGo (places : List ℕ) (at : ℕ) (cells : List ℕ) (gs : List (O
   pub went : Went before after at cells row
   pub kept : AllAt places gs (λ l. IsKept before l)
 
--- A query takes in a row that came.
+-- A row is inserted into a query.
 pub record TakesIn (at : ℕ) (cells : List ℕ) (l m : Live) : Type 0 where
   pub follows : KeptAfter (λ c d row. Came c d at cells row) l m
   pub same : SameQuery l m
   pub grows : GrowsByOne l.reducts m.reducts
 
--- It lets a row out that went.
+-- A row is deleted from it.
 pub record LetsOut (at : ℕ) (cells : List ℕ) (l m : Live) : Type 0 where
   pub follows : KeptAfter (λ c d row. Went c d at cells row) l m
   pub same : SameQuery l m
 
--- It is kept over the catalog over which it was.
+-- It is live over the catalog over which it was.
 pub record Remains (l m : Live) : Type 0 where
   pub kept : (c : Catalog) → IsKept c l → IsKept c m
   pub same : SameQuery l m
 
--- It is kept over a catalog where a row came and went.
+-- It is live over a catalog into which a row was inserted and deleted again.
 pub record GivesBack (at : ℕ) (cells : List ℕ) (l m : Live) : Type 0 where
   pub kept : (c d : Catalog) (row : Tuple) → Came c d at cells row → Went d c at cells row
       → IsKept c l → IsKept c m
@@ -76,12 +76,12 @@ pub record Ages (relation : Bytes) (n : ℕ) (l m : Live) : Type 0 where
   pub outdated : m ≡ record l { cursors = outdated_slots relation n l.cursors }
   pub live : (c : Catalog) → IsKept c l → IsLive c m
 
--- It is kept over a new catalog, and its cursors are to be outdated.
+-- It is live over a new catalog, and its cursors are to be outdated.
 pub record Renews (d : Catalog) (l m : Live) : Type 0 where
   pub kept : IsKept d m
   pub same : SameQuery l m
 
--- One catalog becomes another. The queries in these places are kept over it, and each other one
+-- One catalog becomes another. The queries in these places are live over it, and each other one
 -- stays.
 pub record Carries (places : List ℕ) (c : Catalog) (gs : List (Option Live)) (d : Catalog)
     (hs : List (Option Live)) : Type 0 where

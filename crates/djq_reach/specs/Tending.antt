@@ -15,7 +15,7 @@ use Rattle.djq_live_query.specs.Updating.{atoms_over, delta_bound, flat_bound, u
 use Rattle.djq_reach.specs.Places.{place_at, is_reader, log_at, watched_at}
 use Rattle.djq_reach.specs.Reaching.{AllAt}
 
--- Unless it is lost, a log tells how the answers of a query changed.
+-- Unless it is lost, a log has how the answers of a query changed.
 pub record LogTellsOver {R : Type 0} (Changed : Catalog → Catalog → R → Type 0) (l : Live) (log : Log) :
     Type 0 where
   pub tells : log.lost ≡ false → (c d : Catalog) (what : R) → IsKept c l → Changed c d what
@@ -23,18 +23,18 @@ pub record LogTellsOver {R : Type 0} (Changed : Catalog → Catalog → R → Ty
   pub shown : log.lost ≡ false → (c d : Catalog) (what : R) → IsKept c l → Changed c d what
       → All (λ k. IsShowable d.texts l k.answer) log.lines
 
--- A log is made ready to tell anew, where that is wanted.
+-- A log is cleared, if a new delta is wanted.
 abbrev pub Readies : Bool → Log → Log → Type 0
 Readies true old new = IsEmpty new
 Readies false old new = new ≡ old
 
--- It does where the query is watched, and is as before where it isn't.
+-- It does if the query is watched, and is as before if it isn't.
 abbrev pub TellsWhere :
     {R : Type 0} → Bool → (Catalog → Catalog → R → Type 0) → Live → Log → Log → Type 0
 TellsWhere {R} true Changed l old new = LogTellsOver Changed l new
 TellsWhere {R} false Changed l old new = new ≡ old
 
--- A log tells so where the query in this place is watched, and is as before where it isn't.
+-- A log has that if the query in this place is watched, and is as before if it isn't.
 abbrev pub LogTellsAt :
     {R : Type 0} → List ℕ → (Catalog → Catalog → R → Type 0) → ℕ → Live → Log → Log → Type 0
 LogTellsAt {R} watchers Changed i = TellsWhere (watched_at watchers i) Changed
@@ -44,7 +44,7 @@ abbrev pub LogShows : (Catalog → Catalog → Tuple → Type 0) → ℕ → Liv
 LogShows Changed i l old new = (new ≡ old) ⊎ (new.lost ≡ false → (c d : Catalog) (row : Tuple)
     → IsKept c l → Changed c d row → All (λ k. IsShowable d.texts l k.answer) new.lines)
 
--- What the logs tell of the queries in their places can be shown.
+-- What the logs have of the queries in their places can be shown.
 abbrev pub LogsCanBeShown : List Bytes → List (Option Live) → List Log → Type 0
 LogsCanBeShown texts gs logs = (i : ℕ) (l : Live) → place_at gs i ≡ Some l
     → (log_at logs i).lost ≡ false → All (λ k. IsShowable texts l k.answer) (log_at logs i).lines
@@ -83,7 +83,7 @@ abbrev pub listing_cost : ℕ → List Change → Option Live → ℕ
 listing_cost at changes None = 0
 listing_cost at changes (Some l) = delta_bound l at changes
 
--- of the query in a place, where it is watched
+-- of the query in a place, if it is watched
 abbrev pub cost_at : List ℕ → List (Option Live) → ℕ → (ℕ → List Change) → ℕ → ℕ
 cost_at watchers gs at f i =
     if watched_at watchers i then listing_cost at (f i) (place_at gs i) else 0
@@ -99,7 +99,7 @@ Costs {R} Changed places watchers gs at before now = (c d : Catalog) (what : R)
 abbrev pub AreUnwatched : List ℕ → List ℕ → Type 0
 AreUnwatched watchers places = All (λ i. watched_at watchers i ≡ false) places
 
--- what bounds an update of a query: that it is flat, where this is chosen, or that no leaf has more
+-- what bounds an update of a query: that it is flat, if this is chosen, or that no leaf has more
 -- than n tuples before it
 abbrev pub IsBounded : ℕ → Bool → Live → Type 0
 IsBounded n true l = IsFlat (edges_of l.query) (head_of l.query)

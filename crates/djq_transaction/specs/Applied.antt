@@ -1,4 +1,4 @@
--- What is done to a catalog: the rows that come are inserted, and then the other rows that lines name get their copies.
+-- What is done to a catalog: the new rows are inserted, and then the other rows that lines name get their copies.
 use Rattle.std.specs.Prelude.{ℕ, List, [], ◌≡◌, ◌<◌, false, not, None, All, fold, filter, map, take, length}
 use Rattle.djq_model.specs.declared.relation.Relation.{Relation}
 use Rattle.djq_model.specs.Data.{Bytes, Tuple, rows_of, has_row, copies_among}
@@ -19,7 +19,7 @@ pub record IsJudged (relations : List Relation) (texts : List Bytes) (lines : Li
 abbrev pub headings : List Relation → List Relation
 headings relations = map (λ (r : Relation). record r { rows = [] }) relations
 
--- The row that cells stand for in the relation at a place has so many copies.
+-- The row of cells in the relation at a place has so many copies.
 pub record HasCopiesAt (c : Catalog) (at : ℕ) (cells : List ℕ) (n : ℕ) : Type 0 where
   pub below : at < length c.relations
   pub stand : AreCellsOf c at cells
@@ -30,7 +30,7 @@ abbrev pub SetsCopiesAt : Catalog → ℕ → List ℕ → ℕ → List Relation
 SetsCopiesAt c at cells n relations = (row : Tuple) → StandForRow c at cells row
     → relations ≡ with_rows_at c.relations at (with_so_many (counted_at c.relations at) row n)
 
--- Of the first so many rows that lines name those that come are inserted, and they weren't there before.
+-- Of the first so many rows that lines name the new ones are inserted, and they weren't there before.
 pub record HasFirst (relations : List Relation) (lines : List HeldLine) (count : ℕ) (c : Catalog) (net : Net)
     : Type 0 where
   pub judged : IsJudged relations c.texts lines net
@@ -38,7 +38,7 @@ pub record HasFirst (relations : List Relation) (lines : List HeldLine) (count :
   pub here : c.relations ≡ fold (with_copies_left relations lines) relations
       (filter (line_comes relations lines) (take count (first_lines lines)))
 
--- All rows that come are inserted, and they weren't there before.
+-- All new rows are inserted, and they weren't there before.
 pub record HasAllInserted (relations : List Relation) (lines : List HeldLine) (c : Catalog) (net : Net) : Type 0 where
   pub judged : IsJudged relations c.texts lines net
   pub absent : All (λ h. has_row (rows_of relations h.relation) h.row ≡ false) (lines_come relations lines)

@@ -1,4 +1,4 @@
--- The buffer that stands for the lines of a transaction.
+-- The buffer of the lines of a transaction.
 use Rattle.std.specs.Prelude.{ℕ, List, [], ◌∷◌, ◌≡◌, ◌≤◌, ◌++◌, All, length, map}
 use Rattle.std.specs.List.{slice_range, sum_by}
 use Rattle.djq_model.specs.declared.value.Value.{Value}

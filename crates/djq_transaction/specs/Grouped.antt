@@ -54,7 +54,7 @@ pub record AreItsGroups (relations : List Relation) (texts : List Bytes) (lines 
 abbrev pub bare_group : RelationId → Group
 bare_group id = record { relation = id; rows = [] }
 
--- The group of a relation stands at a place: the first that it has, or one without rows after the others.
+-- The group of a relation is at a place: the first that it has, or one without rows after the others.
 abbrev pub HasGroupAt : RelationId → List Group → ℕ → List Group → Type 0
 HasGroupAt id old at new =
     ((position (λ (g : Group). g.relation.at == id.at) old ≡ Some at) × (new ≡ old))

@@ -11,6 +11,6 @@ keys_in width (Some arena) = arena
 abbrev pub keys_of : Inside → SlotRows
 keys_of k = keys_in k.width k.arena
 
--- the arena, where it is made, has keys of this width
+-- the arena, if it is made, has keys of this width
 abbrev pub HaveTheirWidth : Inside → Type 0
 HaveTheirWidth k = IfSome k.arena (λ arena. arena.width ≡ k.width)

@@ -18,7 +18,7 @@ use Rattle.djq_transaction.specs.declared.net.Net.{Net}
 use Rattle.djq_transaction.specs.Applied.{IsJudged}
 use Rattle.djq_transaction.specs.Grouped.{inserted_groups, deleted_groups}
 
--- The relations between without the rows that go. A row that stays has the copies that it had.
+-- The relations between without the rows that are deleted. A row that stays has the copies that it had.
 abbrev pub relations_left : List Relation → List HeldLine → List Relation
 relations_left relations lines =
     fold (with_copies_left relations lines) (relations_between relations lines) (lines_go relations lines)
@@ -46,8 +46,8 @@ HeadingsStay = (c : Catalog) (lines : List HeldLine) → HasHeadings c (catalog_
     × HasHeadings c (catalog_left c lines) × HasHeadings c (catalog_after c lines)
 
 -- What groups of the rows that lines insert, and of those that they delete, are to relations: each is of one that is
--- there, no two of a list are of one, none is empty, and they have all these rows. A relation has one exactly if a
--- row of it is inserted, or deleted.
+-- there, no two of a list are of one, none is empty, and they have all these rows. A relation has one if and only if
+-- a row of it is inserted, or deleted.
 pub record AreGroupsOf (relations : List Relation) (lines : List HeldLine) (come gone : List Group) : Type 0 where
   pub come_differ : AreOnce (group_relations come)
   pub gone_differ : AreOnce (group_relations gone)
@@ -82,7 +82,7 @@ LinesGroup = (c : Catalog) (lines : List HeldLine) (net : Net) → IsCatalog c �
     → AreGroupsOf c.relations lines (inserted_groups c.relations c.texts lines)
     (deleted_groups c.relations c.texts lines)
 
--- Without the rows that go no relation has other rows than after all lines: those that stay may have other copies.
+-- Without the rows that are deleted no relation has other rows than after all lines: those that stay may have other copies.
 abbrev pub LeftRows : Type 0
 LeftRows = (c : Catalog) (lines : List HeldLine) (r : ℕ) → IsCatalog c → r < length c.relations
     → rows_at (relations_left c.relations lines) r ≡ rows_at (relations_after c.relations lines) r
@@ -97,7 +97,7 @@ abbrev pub AnswersLeft : Type 0
 AnswersLeft = (c : Catalog) (lines : List HeldLine) (q : Listed) (t : Tuple) → IsCatalog c
     → AnswersOf (relations_left c.relations lines) q t ↔ AnswersOf (relations_after c.relations lines) q t
 
--- A relation changes exactly if a row of it is inserted or one is deleted.
+-- A relation changes if and only if a row of it is inserted or one is deleted.
 abbrev pub ChangedIsEither : Type 0
 ChangedIsEither = (relations : List Relation) (lines : List HeldLine) (name : Bytes)
     → has_changed relations lines name ≡ (has_inserted relations lines name || has_deleted relations lines name)

@@ -14,12 +14,12 @@ pub record AreSame (g h : HeldLine) : Type 0 where
 abbrev pub IsRowNamed : List HeldLine → HeldLine → Type 0
 IsRowNamed firsts h = Any (λ g. AreSame g h) firsts
 
--- the line that names a row first stands at a place, or none does
+-- the line that names a row first is at a place, or none does
 abbrev pub IsFirstLineAt : List HeldLine → HeldLine → Option ℕ → Type 0
 IsFirstLineAt firsts h (Some place) = (g : HeldLine) × (slice_get firsts place ≡ Some g) × AreSame h g
 IsFirstLineAt firsts h None = IsRowNamed firsts h → ⊥
 
--- The row has these copies before lines and after them, and the line that names it first stands at a place, or no
+-- The row has these copies before lines and after them, and the line that names it first is at a place, or no
 -- line names it.
 pub record Looked (relations : List Relation) (lines : List HeldLine) (h : HeldLine) (place : Option ℕ)
     (copies : Copies) : Type 0 where

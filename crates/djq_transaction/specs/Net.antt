@@ -18,7 +18,7 @@ use Rattle.djq_protocol.specs.declared.held.LineRefusal.{LineRefusal}
 use Rattle.djq_store_spec.specs.Judging.{StopsAtLine, HasItsPlace}
 use Rattle.djq_store_spec.specs.Lines.{first_lines, copies_before, copies_after}
 
--- the keys that are there, in the order in which they came
+-- the keys that are there, in order of insertion
 abbrev pub keys : Net → List (List ℕ)
 keys net = map (λ (r : Row). r.cells) net.keys.rows
 
@@ -43,7 +43,7 @@ abbrev pub key_relation : List ℕ → ℕ
 key_relation [] = 0
 key_relation (place ∷ cells) = place
 
--- what stands for an entry of a table past its last one
+-- an entry in place of one past a table's last
 abbrev pub no_entry : List ℕ × Copies
 no_entry = ([], record { before = 0; after = 0 })
 
@@ -51,7 +51,7 @@ no_entry = ([], record { before = 0; after = 0 })
 abbrev pub is_new_in : ℕ → List ℕ × Copies → Bool
 is_new_in place entry = (key_relation entry.0 == place) && (entry.1.before == 0)
 
--- whether a row with these copies came, and whether it went
+-- whether a row with these copies is inserted, and whether it is deleted
 abbrev pub copies_came : Copies → Bool
 copies_came c = (c.before == 0) && nat_lt 0 c.after
 
@@ -80,7 +80,7 @@ pub record Suits (relations : List Relation) (h : HeldLine) : Type 0 where
   pub found : relation_of relations h.relation ≡ Some relation
   pub suits : fits relation.types h.row ≡ true
 
--- The row that cells stand for is looked up by its key: it has a place and copies in a table; or none, and has
+-- The row of cells is looked up by its key: it has a place and copies in a table; or none, and has
 -- the copies of its relation.
 abbrev pub LooksUp : Catalog → ℕ → List ℕ → ℕ → Net → Option ℕ → Copies → Type 0
 LooksUp c at cells width net (Some place) copies = (slice_get (keys net) place ≡ Some (key_cells width at cells))
@@ -96,7 +96,7 @@ SetsCopies width key old (Some place) copies new = IsNetTable width new × (keys
 SetsCopies width key old None copies new = IsNetTable width new × (keys new ≡ keys old ++ key ∷ [])
     × (new.copies.items ≡ old.copies.items ++ copies ∷ [])
 
--- Rows, each by the line that names it first, stand in a table with their copies before lines and after them.
+-- Rows, each by the line that names it first, are in a table with their copies before lines and after them.
 pub record RowsStand (relations : List Relation) (texts : List Bytes) (width : ℕ) (lines firsts : List HeldLine)
     (net : Net) : Type 0 where
   pub table : IsNetTable width net
@@ -105,7 +105,7 @@ pub record RowsStand (relations : List Relation) (texts : List Bytes) (width : �
   pub known : All (λ h. HaveCells texts h.row) firsts
   pub suit : All (Suits relations) firsts
 
--- What lines come to: so stand the rows that they name.
+-- The net of lines: the table has the rows that they name.
 abbrev pub IsNet : List Relation → List Bytes → ℕ → List HeldLine → Net → Type 0
 IsNet relations texts width lines net = RowsStand relations texts width lines (first_lines lines) net
 
@@ -117,14 +117,14 @@ line_at verb relations at row = record {
   row = row;
 }
 
--- A line's row suits the relation that stands at a place under the line's name.
+-- A line's row suits the relation at a place under the line's name.
 pub record SuitsAt (relations : List Relation) (h : HeldLine) (at : ℕ) : Type 0 where
   pub below : at < length relations
   pub named : (relation_at relations at).name ≡ h.relation
   pub found : relation_of relations h.relation ≡ Some (relation_at relations at)
   pub suits : fits (relation_at relations at).types h.row ≡ true
 
--- A line can be judged: its relation stands at a place, its row's cells and its key are short enough, and
+-- A line can be judged: its relation is at a place, its row's cells and its key are short enough, and
 -- there is a slot for one key more.
 pub record CanBeJudged (relations : List Relation) (width : ℕ) (net : Net) (h : HeldLine) (at : ℕ) : Type 0 where
   pub suits : SuitsAt relations h at
@@ -139,12 +139,12 @@ PassesLine relations texts width old h known new = (front : List HeldLine)
     → IsNet relations texts width front old
     → IsNet relations known width (front ++ h ∷ []) new × HasItsPlace relations front texts h known
 
--- Over whatever lines a table has, they go no further than one more.
+-- Over whatever lines a table has, they pass no further than one more.
 abbrev pub RefusesLine : List Relation → List Bytes → ℕ → Net → HeldLine → List Bytes → LineRefusal → Type 0
 RefusesLine relations texts width old h known r = (front : List HeldLine)
     → IsNet relations texts width front old → StopsAtLine relations front texts h known r
 
--- A line's row has these cells in the relation that stands at a place under the line's name.
+-- A line's row has these cells in the relation at a place under the line's name.
 pub record IsRowAt (c : Catalog) (h : HeldLine) (at : ℕ) (cells : List ℕ) : Type 0 where
   pub suits : Suits c.relations h
   pub below : at < length c.relations

@@ -29,8 +29,8 @@ use Rattle.djq_united.specs.United.{FitsMembers, AtFirst}
 abbrev pub union_cells : List Live → List (Option Cursor) → List (List ℕ)
 union_cells ls cursor = union_given has_cells cells_given ls cursor
 
--- A cursor goes on by one answer that it hasn't given, and the first member has it as a tuple of its
--- tree.
+-- A cursor advances by one answer that it hasn't given, and the first member has it as a tuple of
+-- its tree.
 pub record UnionAdvances (ls : List Live) (old : List (Option Cursor)) (answer : List ℕ)
     (new : List (Option Cursor)) : Type 0 where
   pub fits : FitsMembers ls new
@@ -45,7 +45,7 @@ pub record UnionEnds (ls : List Live) (old new : List (Option Cursor)) : Type 0 
   pub gives : union_cells ls new ≡ union_cells ls old
   pub all : IsListingOfCells (some_has has_cells ls) (union_cells ls old)
 
--- What a read gives: one answer that is left, the end exactly where none is, or what made the
+-- What a read gives: one answer that is left, the end if and only if none is, or what made the
 -- cursor stale.
 abbrev pub UnionReads : List Live → UnionProgress → Next → List ℕ → UnionProgress → Type 0
 UnionReads ls (Open old ended) Given answer (Open new e) = UnionAdvances ls old answer new × (e ≡ false)

@@ -27,7 +27,7 @@ use Rattle.djq_live_query.specs.Live.{Live, IsShowable, values_of}
 use Rattle.djq_united.specs.Slots.{UnionProgress, slot_at, SetsSlot}
 use Rattle.djq_united.specs.United.{United, members_in, union_of, AtFirst, IsUnited, union_position}
 
--- A cursor that has given nothing stands in a slot where none was, and nothing else has changed.
+-- A cursor that has given nothing is in a slot that was empty, and nothing else has changed.
 pub record UnionOpensIn (old : United) (k : ℕ) (new : United) : Type 0 where
   pub free : slot_at old.cursors k ≡ None
   pub progress : UnionProgress
@@ -50,7 +50,7 @@ pub record IsShownBy (texts : List Bytes) (l : Live) (answer : List ℕ) (t : Tu
   pub is : t ≡ values_of texts l answer
 
 -- What a read gives at a position: one answer that is left, as a tuple of the first member's tree;
--- the end exactly where none is; or what made the cursor stale.
+-- the end if and only if none is; or what made the cursor stale.
 abbrev pub UnionNextGivesAt : Catalog → List (Option Live) → United → ℕ → Position → Next → List ℕ
     → United → Type 0
 UnionNextGivesAt c qs old k (open_at given ended) Given answer new =
@@ -71,8 +71,8 @@ abbrev pub UnionNextGives : Catalog → List (Option Live) → United → ℕ �
 UnionNextGives c qs old k result answer new = IsSomeAnd (slot_at old.cursors k)
     (λ p. UnionNextGivesAt c qs old k (union_position c.texts (members_in qs old) p) result answer new)
 
--- What is known at a position of whether an answer is left: a cursor to which none is left stands
--- at its end.
+-- What is known at a position of whether an answer is left: a cursor to which none is left is at
+-- its end.
 abbrev pub UnionMoreGivesAt : Catalog → List (Option Live) → United → ℕ → Position → Bool → United
     → Type 0
 UnionMoreGivesAt c qs old k (open_at given ended) true new =

@@ -13,6 +13,6 @@ use Rattle.std.specs.Prelude.{List, Option}
 use Rattle.djq_enumeration.specs.declared.cursor.Cursor.{Cursor}
 use Rattle.djq_cursors.specs.declared.progress.Progress.{Progress as ProgressOf}
 
--- how far a cursor of a union has come
+-- how far a cursor of a union is
 abbrev pub UnionProgress : Type 0
 UnionProgress = ProgressOf (List (Option Cursor))

@@ -38,14 +38,14 @@ pub record AreUntouched (c d : Catalog) (old new : List (Option Live)) (ks : Lis
     pub texts : d.texts ≡ c.texts ++ more
     pub keep : KeepMembers HasSameTables old new ks
 
--- So a union's cursors go on, where they stood.
+-- So a union's cursors are unchanged.
 abbrev pub UnionsStay : Type 0
 UnionsStay = (c d : Catalog) (old new : List (Option Live)) (u : United)
     → AreUntouched c d old new u.members → IsUnited old u
     → IsUnited new u × ((k : ℕ) (p : UnionProgress) → slot_at u.cursors k ≡ Some p
     → union_position d.texts (members_in new u) p ≡ union_position c.texts (members_in old u) p)
 
--- A cursor that a change makes stale stands where the machine says, whatever its members are.
+-- A cursor that a change makes stale is in the state that the machine defines, whatever its members are.
 abbrev pub StaleStand : Type 0
 StaleStand = (texts more : List Bytes) (ls ms : List Live) (relation : Bytes) (n : ℕ)
     (p : UnionProgress)

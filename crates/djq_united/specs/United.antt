@@ -56,7 +56,7 @@ members_in qs u = queries_at qs u.members
 abbrev pub union_of : List (Option Live) → United → Listed
 union_of qs u = a_union u.name (map (λ l. l.query) (members_in qs u))
 
--- the first of some members, where there is one
+-- the first of some members, if there is one
 abbrev pub first_of_members : List Live → Option Live
 first_of_members [] = None
 first_of_members (l ∷ ls) = Some l
@@ -90,16 +90,16 @@ CursorFitsMembers ls (Stale relation n) = ⊤
 abbrev pub CursorsFit : List Live → List (Option UnionProgress) → Type 0
 CursorsFit ls slots = EachIs (CursorFitsMembers ls) slots
 
--- It is the union of queries in these places, and its open cursors can go on.
+-- It is the union of queries in these places, and its open cursors can continue.
 pub record IsUnited (qs : List (Option Live)) (u : United) : Type 0 where
   pub members : AreMembers qs u.members
   pub fits : CursorsFit (members_in qs u) u.cursors
 
--- Each query in a place is kept over one catalog.
+-- Each query in a place is live over one catalog.
 pub record AreKept (c : Catalog) (qs : List (Option Live)) : Type 0 where
   pub each : (k : ℕ) (l : Live) → query_at qs k ≡ Some l → IsKept c l
 
--- the values that cells in the head's order stand for, as the first member shows them
+-- the values of cells in the head's order, as the first member shows them
 abbrev pub shown_cells : List Bytes → List Live → List ℕ → Tuple
 shown_cells texts [] t = []
 shown_cells texts (l ∷ ls) t = values_of texts l (in_tree l t)
@@ -109,7 +109,7 @@ abbrev pub given_by_union : List Bytes → List Live → List (Option Cursor) �
 given_by_union texts ls cursor =
     map (shown_cells texts ls) (union_given has_cells cells_given ls cursor)
 
--- where a cursor stands
+-- the position of a cursor
 abbrev pub union_position : List Bytes → List Live → UnionProgress → Position
 union_position texts ls (Open cursor ended) = open_at (given_by_union texts ls cursor) ended
 union_position texts ls (Stale r n) = stale r n
