@@ -1,4 +1,4 @@
--- What lines say while a batch is open.
+-- The meaning of lines while a batch is open.
 use Rattle.std.specs.Prelude.{◌≡◌, ◌≤◌, ◌⊎◌, true, false, Option, Some, Result, Ok, Err, length, ⊤}
 use Rattle.djq_model.specs.Data.{Bytes, Tuple}
 use Rattle.djq_model.specs.declared.name.TheConstants.{NAME_BYTES}
@@ -29,7 +29,7 @@ use Rattle.djq_commands.specs.Views.{Talk}
 use Rattle.djq_commands.specs.declared.reading.BatchLine.{BatchLine}
 use Rattle.djq_commands.specs.declared.reading.BatchLine.TheVariants.{Hold, Done, Abandon, Quit, Stop, Refused}
 
--- what a command that isn't one of a row comes to in a batch
+-- the outcome in a batch of a command that isn't one of a row
 abbrev pub in_batch : Command → BatchLine
 in_batch (SayDone given) = Done given
 in_batch SayAbandon = Abandon
@@ -37,7 +37,7 @@ in_batch SayQuit = Quit
 in_batch SayStop = Stop
 in_batch _ = Refused Misplaced
 
--- what a line that gives no command is answered in a batch, where its command would be misplaced
+-- what a line that gives no command is answered in a batch, if its command would be misplaced
 abbrev pub misplaced_as : LineRefusal → Refusal
 misplaced_as Outside = Syntax
 misplaced_as _ = Misplaced
@@ -56,7 +56,7 @@ abbrev pub row_command : Verb → Bytes → Tuple → Command
 row_command Adds name row = Add name row
 row_command Deletes name row = Del name row
 
--- What a line says in a batch, if these values are left of its row.
+-- The meaning of a line in a batch, if these values are left of its row.
 abbrev pub ReadsInBatch : Bytes → BatchLine → Tuple → Type 0
 ReadsInBatch line (Hold verb name) row =
     (reading_of line ≡ says_command (row_command verb name.now row)) × (length name.now ≤ NAME_BYTES)

@@ -1,4 +1,4 @@
--- A command on a row, which a session says and which all who watch are told.
+-- A command on a row, which a session sends and which is published to all who watch.
 use Rattle.std.specs.Prelude.{
   ℕ,
   zero,
@@ -59,7 +59,7 @@ is_accepted (Done (Ok zero) held) = false
 is_accepted (Done (Ok (suc n)) held) = true
 is_accepted (Done (Err r) held) = false
 
--- the lines that it logs, where this is its own: that, those of the batch that it ends, or none
+-- the lines that it logs, if this is its own: that, those of the batch that it ends, or none
 abbrev pub lines_logged : Outcome → Bytes → List Bytes
 lines_logged (Added result) line = line_where (is_done result) line
 lines_logged (Deleted result) line = line_where (is_removal result) line
@@ -105,15 +105,15 @@ pub record CarriesOutAll (old : Kept) (held : HeldTransaction) (given : Option �
   pub done : DoesAll old.store held.lines given result new.store
   pub changed : EngineChanged old (lines_outcome (old.store).relations held.lines result) new was now
 
--- What a command that may change rows comes to, of a session with this batch open, or with none.
+-- The outcome of a command that may change rows, of a session with this batch open, or with none.
 abbrev pub IsChange : Command → Option HeldTransaction → Kept → Outcome → Kept → ℕ → ℕ → Type 0
 IsChange (Add name row) None old outcome new was now = TriesToAdd old name row outcome new was now
 IsChange (Del name row) None old outcome new was now = Deletes old name row outcome new was now
 IsChange (SayDone given) (Some held) old outcome new was now = CarriesOutAll old held given outcome new was now
 IsChange _ _ old outcome new was now = ⊥
 
--- A session's line was taken and its command done. What is left is to tell the change and to answer, for which there
--- is room.
+-- A session's line was removed and its command done. What is left is to publish the change and to answer, for which
+-- there is room.
 pub record LeavesChange (outcome : Outcome) (old : Kept) (before : Talk) (new : Kept) (after : Talk) (was now : ℕ) :
     Type 0 where
   pub running : before.cause ≡ None

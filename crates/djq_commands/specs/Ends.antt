@@ -12,7 +12,7 @@ use Rattle.djq_engine.specs.Kept.{Kept, held_at}
 use Rattle.djq_commands.specs.Views.{Talk}
 use Rattle.djq_commands.specs.Sound.{ids_of_cursors, is_cursor_among, IsApart, StaysCounted, without_watchers}
 
--- The cursors of a session are gone, and nothing else.
+-- The cursors of a session are closed, and nothing else changes.
 pub record GivesUpCursors (old : Kept) (before : Talk) (new : Kept) (after : Talk) : Type 0 where
   pub store : new.store ≡ old.store
   pub gone : (c : CursorId) → is_cursor_among c (ids_of_cursors before.cursors) ≡ true → held_at new.cursors c ≡ None
@@ -23,14 +23,14 @@ pub record GivesUpCursors (old : Kept) (before : Talk) (new : Kept) (after : Tal
   pub affected : new.affected ≡ old.affected
   pub told : new.told ≡ old.told
 
--- The watches of a session are gone, and nothing else.
+-- The watches of a session are ended, and nothing else changes.
 pub record GivesUpWatches (old : Kept) (before : Talk) (new : Kept) (after : Talk) : Type 0 where
   pub rest : new ≡ record old { registered = new.registered }
   pub session : after ≡ record before { watches = [] }
   pub counted : StaysCounted old.registered before.watches new.registered []
   pub listed : without_watchers new.registered ≡ without_watchers old.registered
 
--- Both are gone, and nothing else.
+-- Both are, and nothing else changes.
 pub record SessionGivesUp (old : Kept) (before : Talk) (new : Kept) (after : Talk) : Type 0 where
   pub store : new.store ≡ old.store
   pub gone : (c : CursorId) → is_cursor_among c (ids_of_cursors before.cursors) ≡ true → held_at new.cursors c ≡ None
@@ -39,12 +39,12 @@ pub record SessionGivesUp (old : Kept) (before : Talk) (new : Kept) (after : Tal
   pub session : after ≡ record before { cursors = []; watches = [] }
   pub counted : StaysCounted old.registered before.watches new.registered []
 
--- Out of memory in the midst of a reply: the cursors and watches of a session are gone, and it is told so and ends.
+-- Out of memory in the midst of a reply: the cursors and watches of a session are closed, and it is sent that and ends.
 pub record CutsOff (old : Kept) (before : Talk) (new : Kept) (after : Talk) : Type 0 where
   pub gives_up : SessionGivesUp old before new (record before { cursors = []; watches = [] })
   pub ends : DialogEndsWith (record before { cursors = []; watches = [] }) after end_memory Memory
 
--- A session ends with its input: that bytes of a line are held is said, and that lines of a batch are.
+-- A session ends with its input: it is reported if bytes of a line are held, and if lines of a batch are.
 abbrev pub EndsQuietly : Talk → State → ℕ → Effect → State → Type 0
 EndsQuietly d old s e new = (e ≡ says_any s (cut_line d.held ++ lost_line d.batch))
     × (new ≡ with_session old s (ended_by Input))

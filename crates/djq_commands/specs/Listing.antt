@@ -17,7 +17,7 @@ use Rattle.djq_commands.specs.declared.listing.Listed.TheVariants.{Whole, Cut, S
 use Rattle.djq_commands.specs.Views.{Talk}
 use Rattle.djq_commands.specs.Sound.{GivesApart}
 
--- The engine's cursor stands here now, and nothing else of the engine has changed.
+-- The engine's cursor is at this position now, and nothing else of the engine has changed.
 pub record StandsAt (old : Kept) (id : CursorId) (h : HeldCursor) (position : Position) (new : Kept) : Type 0 where
   pub there : held_at new.cursors id ≡ Some (record h { position = position })
   pub others : OtherCursorsStay old.cursors id new.cursors
@@ -35,8 +35,8 @@ pub record WholeListing (old : Kept) (id : CursorId) (before : Talk) (count : �
   pub queued : after ≡ record before { pending = before.pending ++ text_of (listing_lines told end); room = after.room }
   pub counted : now ≤ was + (length told + 1) * answer_steps q
 
--- Its first lines are queued, and there is no room for the next one: with it the text is above what was kept for a
--- reply.
+-- Its first lines are queued, and there is no room for the next one: with it the text is above what was reserved
+-- for a reply.
 pub record CutListing (old : Kept) (id : CursorId) (before : Talk) (count : ℕ) (h : HeldCursor)
     (q : Listed) (given : List Tuple) (new : Kept) (after : Talk) (was now : ℕ) : Type 0 where
   pub told : List Tuple
@@ -51,7 +51,7 @@ pub record CutListing (old : Kept) (id : CursorId) (before : Talk) (count : ℕ)
   pub queued : after ≡ record before { pending = before.pending ++ text_of (map answer_line told); room = after.room }
   pub counted : now ≤ was + (length told + 1) * answer_steps q
 
--- how a listing of a cursor at a position came out
+-- the outcome of a listing of a cursor at a position
 abbrev pub ListsAt : Kept → CursorId → Talk → ℕ → HeldCursor → Listed → Position → HowListed → Kept
     → Talk → ℕ → ℕ → Type 0
 ListsAt old id before count h q (open_at given ended) Whole new after was now = WholeListing old id before count h q
@@ -63,7 +63,7 @@ ListsAt old id before count h q (stale s m) (Stale r n) new after was now = (r �
     × (after ≡ before) × (now ≤ was)
 ListsAt old id before count h q (stale s m) _ new after was now = ⊥
 
--- A listing of the engine's cursor is queued to a session, or told to be stale.
+-- A listing of the engine's cursor is queued to a session, or it is reported to be stale.
 pub record Lists (old : Kept) (id : CursorId) (before : Talk) (count : ℕ)
     (result : HowListed) (new : Kept) (after : Talk) (was now : ℕ) : Type 0 where
   pub cursor : HeldCursor

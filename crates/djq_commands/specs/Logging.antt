@@ -17,16 +17,16 @@ pub record OpenCommit : Type 0 where
   -- whether there is room for what one step more logs
   pub room : Bool
 
--- There is room for what one step logs: always in an empty commit, and where it was last made sure of.
+-- There is room for what one step logs: always in an empty commit, and if it was last made sure of.
 abbrev pub HasRoom : OpenCommit → Type 0
 HasRoom c = (c.lines ≡ []) ⊎ (c.room ≡ true)
 
--- the line, where it is to be logged
+-- the line, if it is to be logged
 abbrev pub line_where : Bool → Bytes → List Bytes
 line_where true line = line ∷ []
 line_where false line = []
 
--- the lines of an entry: one, which stands in the buffer, or those of a batch
+-- the lines of an entry: one, which is in the buffer, or those of a batch
 abbrev pub entry_lines : Bytes → Entry → List Bytes
 entry_lines bytes (Line start end) = slice_range bytes start end ∷ []
 entry_lines bytes (Batch held) = log_lines held
@@ -50,14 +50,14 @@ abbrev pub count_from : ℕ → List Entry → ℕ
 count_from n [] = n
 count_from n (e ∷ es) = count_from (n + entry_count e) es
 
--- each line stands within the first bytes of the buffer
+-- each line is within the first bytes of the buffer
 abbrev pub EndsAreWithin : ℕ → List Entry → Type 0
 EndsAreWithin n [] = ⊤
 EndsAreWithin n (Line start end ∷ es) = (start ≤ end) × (end ≤ n) × EndsAreWithin n es
 EndsAreWithin n (Batch held ∷ es) = EndsAreWithin n es
 
--- The logged lines stand in front of the buffer, entries are numbered by their first lines, there is memory for what
--- one step logs wherever the commit is empty, and for what one step more logs where this is said.
+-- The logged lines are at the front of the buffer, entries are numbered by their first lines, there is memory for
+-- what one step logs whenever the commit is empty, and for what one step more logs if this is set.
 pub record CommitIsKept (bytes : Bytes) (spare end : ℕ) (entries : List Entry) (entry_room : ℕ) (firsts : List ℕ)
     (first_room count : ℕ) (roomy : Bool) : Type 0 where
   pub within : end ≤ length bytes
@@ -73,7 +73,7 @@ pub record CommitIsKept (bytes : Bytes) (spare end : ℕ) (entries : List Entry)
   pub firsts_left : roomy ≡ true → length firsts < first_room
   pub few : roomy ≡ true → count < 2 ^ 64
 
--- The last entry of which the first line has at most this number, where there is one.
+-- The last entry of which the first line has at most this number, if there is one.
 pub record IsPlace (firsts : List ℕ) (i at : ℕ) : Type 0 where
   pub within : 0 < length firsts → at < length firsts
   pub none : length firsts ≡ 0 → at ≡ 0

@@ -26,7 +26,7 @@ SessionOpensTo old before c q (Ok _) new after = (id : CursorId) × OpensCursor 
 SessionOpensTo old before c q (Err _) new after = (new.store ≡ old.store) × SameCursors old.cursors new.cursors
     × (new.registered ≡ old.registered) × (after ≡ before)
 
--- A session opens a cursor over a query, or is told why it doesn't.
+-- A session opens a cursor over a query, or is sent why it doesn't.
 pub record SessionOpens (old : Kept) (before : Talk) (c q : Bytes) (result : Result ⊤ Refusal) (new : Kept)
     (after : Talk) :
     Type 0 where

@@ -1,4 +1,4 @@
--- What the functions of the core do to one session and the engine, as the machine says it of all sessions.
+-- What the functions of the core do to one session and the engine, as the machine defines it of all sessions.
 use Rattle.std.specs.Prelude.{ℕ, List, [], ◌∷◌, ◌≡◌, ◌+◌, ◌++◌, ◌≤◌, ◌||◌, Bool, Option, None, Some}
 use Rattle.djq_model.specs.Data.{Bytes}
 use Rattle.djq_protocol.specs.declared.command.Command.{Command}
@@ -15,20 +15,20 @@ use Rattle.djq_commands.specs.Sound.{IsSound}
 abbrev pub among : List OpenSession → ℕ → Talk → List OpenSession → List OpenSession
 among front s d back = front ++ record { id = s; session = d } ∷ back
 
--- a text for one session, where there is one
+-- a text for one session, if there is one
 abbrev pub part_to : ℕ → Option Bytes → List (ℕ × Bytes)
 part_to s None = []
 part_to s (Some text) = (s, text) ∷ []
 
--- what is queued to one session, where anything is, what it may cost, and what is kept
+-- what is queued to one session, if anything is, what it may cost, and what is logged
 abbrev pub to_keep : ℕ → Option Bytes → ℕ → Keeping → Effect
 to_keep s text cost kept = record { queued = part_to s text; cost = cost; kept = kept }
 
--- where nothing is kept
+-- if nothing is logged
 abbrev pub to_one : ℕ → Option Bytes → ℕ → Effect
 to_one s text cost = to_keep s text cost no_line
 
--- bytes with a text behind them, where there is one
+-- bytes followed by a text, if there is one
 abbrev pub with_text_behind : Bytes → Option Bytes → Bytes
 with_text_behind pending None = pending
 with_text_behind pending (Some text) = pending ++ text
@@ -54,11 +54,11 @@ pub record Performs (Machine : State → ℕ → Session → Effect → State �
       → IsSound new (among front s after back)
   pub counted : now ≤ was + cost
 
--- What a command that isn't one of a row does: which line says it makes no difference.
+-- What a command that isn't one of a row does: its line makes no difference.
 abbrev pub CommandDoes : Command → State → ℕ → Session → Effect → State → Type 0
 CommandDoes command st s x e st' = CommandStep st s x [] command e st'
 
--- Such a command is done, and its line is kept where this holds.
+-- Such a command is done, and its line is logged if this holds.
 abbrev pub ExecutesKeeping : Command → Bool → Bool → Kept → Talk → Kept → Talk → ℕ → ℕ → Type 0
 ExecutesKeeping command kept stops old before new after was now =
     Performs (λ st s x e st'. CommandDoes command st s x e st' × (e.kept ≡ kept_where kept)) stops old before

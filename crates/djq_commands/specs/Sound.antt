@@ -77,7 +77,7 @@ AreEndedWithout (x ∷ xs) = NoneOnceEnded (x.session).cause (x.session).cursors
 abbrev pub is_among_watches : List Bytes → Bytes → Bool
 is_among_watches ws q = list_any (λ w. bytes_eq w q) ws
 
--- 1 where it is
+-- 1 if it is
 abbrev pub times_in : List Bytes → Bytes → ℕ
 times_in ws q = if is_among_watches ws q then 1 else 0
 
@@ -113,7 +113,7 @@ pub record WatchersAreCounted (rs : List Registered) (xs : List OpenSession) : T
   pub once : SessionsWatchOnce xs
   pub quiet : AreQuiet xs
 
--- The same of a session that watches these queries, where so many others watch each.
+-- The same of a session that watches these queries, if so many others watch each.
 pub record SessionIsCounted (others : Bytes → ℕ) (rs : List Registered) (ws : List Bytes) : Type 0 where
   pub counted : (r : Registered) → Contains rs r
       → r.watchers ≡ others (listed_name r.query) + times_in ws (listed_name r.query)
@@ -125,7 +125,7 @@ pub record SessionIsCounted (others : Bytes → ℕ) (rs : List Registered) (ws 
 abbrev pub HasCount : List Registered → List Bytes → Type 0
 HasCount rs ws = (others : Bytes → ℕ) × SessionIsCounted others rs ws
 
--- Whatever others watch, the engine counts right afterwards where it did before.
+-- Whatever others watch, the engine counts right afterwards if it did before.
 abbrev pub StaysCounted : List Registered → List Bytes → List Registered → List Bytes → Type 0
 StaysCounted rs ws rs' ws' = (others : Bytes → ℕ) → SessionIsCounted others rs ws → SessionIsCounted others rs' ws'
 
@@ -150,7 +150,7 @@ pub record IsOwn (k : Kept) (d : Talk) : Type 0 where
   pub apart : CursorsDiffer (ids_of_cursors d.cursors)
   pub counted : HasCount k.registered d.watches
 
--- A session's command begins: it goes on, and there is room for a reply and for its last line.
+-- A session's command begins: it isn't ended, and there is room for a reply and for its last line.
 pub record CommandIsReady (k : Kept) (d : Talk) : Type 0 where
   pub own : IsOwn k d
   pub running : d.cause ≡ None
@@ -166,6 +166,6 @@ abbrev pub BatchesSuit : Store → List (Option HeldTransaction) → Type 0
 BatchesSuit st [] = ⊤
 BatchesSuit st (b ∷ bs) = BatchSuits st b × BatchesSuit st bs
 
--- the batches of the sessions, behind that of the loaded lines
+-- the batches of the sessions, after that of the loaded lines
 abbrev pub batches_of : Option HeldTransaction → List OpenSession → List (Option HeldTransaction)
 batches_of loading xs = loading ∷ map (λ (x : OpenSession). (x.session).batch) xs

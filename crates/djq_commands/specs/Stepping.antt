@@ -1,4 +1,4 @@
--- What a step of a session does, as the machine says it.
+-- What a step of a session does, as the machine defines it.
 use Rattle.std.specs.Prelude.{ℕ, ◌≡◌, ◌<◌, ◌≤◌, ◌⊎◌, Bool, true, false, None, length, ⊤}
 use Rattle.djq_model.specs.Data.{Bytes}
 use Rattle.djq_protocol.specs.Line.{a_line, too_long, front_of}
@@ -18,8 +18,8 @@ use Rattle.djq_commands.specs.declared.change.Left.TheVariants.{Nothing, Stoppin
 use Rattle.djq_commands.specs.Performs.{Performs, ExecutesKeeping}
 use Rattle.djq_commands.specs.Changing.{IsChange, LeavesChange}
 
--- As a line says a command: its relation has a column at least, its query an atom, and it asks for
--- an answer at least.
+-- As it is read from a line: a `rel` has a column at least, a query an atom, and a `next` asks for an answer at
+-- least.
 abbrev pub IsRunnable : Command → Type 0
 IsRunnable (Rel n cs) = 0 < length cs
 IsRunnable (Register q) = 0 < length q.atoms
@@ -39,12 +39,12 @@ refused_as Outside = Syntax
 refused_as Range = WrongType
 refused_as NoMem = NoMemory
 
--- The front of a session's bytes comes to this.
+-- The front of a session's bytes has this outcome.
 abbrev pub Fronts : LineOutcome → Bool → Kept → Talk → Kept → Talk → ℕ → ℕ → Type 0
 Fronts outcome stops old before new after was now = Performs (λ st s x e st'. FrontStep st s x outcome e st') stops old
     before new after was now
 
--- So it does, and its line is kept where this holds.
+-- So it does, and its line is logged if this holds.
 abbrev pub FrontsKeeping : LineOutcome → Bool → Bool → Kept → Talk → Kept → Talk → ℕ → ℕ → Type 0
 FrontsKeeping outcome kept stops old before new after was now =
     Performs (λ st s x e st'. FrontStep st s x outcome e st' × (e.kept ≡ kept_where kept)) stops old before new after
@@ -55,15 +55,15 @@ abbrev pub is_run : LineOutcome → Bool
 is_run (run l) = true
 is_run _ = false
 
--- What a step of a session that goes on does: its line is run, and logged where this holds; or none is run, since it
--- is blank or the session ends in its place, and none is logged.
+-- What a step of a session that isn't ended does: its line is run, and logged if this holds; or none is run, since
+-- it is blank or the session ends instead, and none is logged.
 abbrev pub StepsTo : Bool → Bool → Kept → Talk → Kept → Talk → Counts → Counts → Type 0
 StepsTo logged stops old before new after was now = (before.cause ≡ None)
     × (((l : Bytes) × FrontsKeeping (run l) logged stops old before new after was.listing now.listing)
     ⊎ ((logged ≡ false) × (outcome : LineOutcome) × (is_run outcome ≡ false)
     × Fronts outcome stops old before new after was.listing now.listing))
 
--- A command is done, or what is left of it is to tell a change.
+-- A command is done, or what is left of it is to publish a change.
 abbrev pub Obeys : Command → Left → Kept → Talk → Kept → Talk → ℕ → ℕ → Type 0
 Obeys command (Nothing logged) old before new after was now = ExecutesKeeping command logged false old before new after was
     now

@@ -1,4 +1,4 @@
--- How a change is told to the sessions that watch, and answered.
+-- How a change is published to the sessions that watch, and answered.
 use Rattle.std.specs.Prelude.{ℕ, List, [], ◌∷◌, ◌==◌, ◌≡◌, ◌++◌, ◌<◌, ◌≤◌, ◌⊎◌, Bool, true, None}
 use Rattle.std.specs.Prelude.{Some, MatchOption, if◌then◌else◌, All, filter, length, map, ⊤}
 use Rattle.std.specs.List.{list_any}
@@ -20,19 +20,19 @@ use Rattle.djq_commands.specs.declared.open.OpenSession.{OpenSession}
 use Rattle.djq_commands.specs.Views.{Talk, state_in}
 use Rattle.djq_commands.specs.Sound.{IsSound, without_watchers, watchers_in}
 
--- The store and the registered queries are the same, whoever watches them, and what was told of them stays.
+-- The store and the registered queries are the same, whoever watches them, and their deltas stay.
 pub record KeepsTold (old new : Kept) : Type 0 where
   pub store : new.store ≡ old.store
   pub listed : without_watchers new.registered ≡ without_watchers old.registered
   pub affected : new.affected ≡ old.affected
   pub told : new.told ≡ old.told
 
--- The lines of a query's delta are printed behind what is there; or the log is lost, or there is no room.
+-- The lines of a query's delta are printed after what is there; or the log is lost, or there is no room.
 abbrev pub Prints : Kept → QueryId → Bytes → Bool → Bytes → Bytes → Type 0
 Prints k id query whole old new = whole ≡ true → MatchOption (told_at k id) ⊥
     (λ changes. new ≡ old ++ text_of (delta_lines query changes (k.store).seq))
 
--- A session that watches hears of a delta: this text, where it is whole. It ends where too much is pending, or out of
+-- A session that watches is sent a delta: this text, if it is whole. It ends if too much is pending, or out of
 -- memory.
 abbrev pub HearsDelta : Bool → Bytes → State → ℕ → Session → Effect → State → Type 0
 HearsDelta whole text st s x e st' =
@@ -44,7 +44,7 @@ HearsDelta whole text st s x e st' =
 abbrev pub WatchesOn : Talk → Talk → Type 0
 WatchesOn before after = (after.watches ≡ before.watches) ⊎ (after.watches ≡ [])
 
--- The own session is answered, where it goes on; behind what it was told there may be no room.
+-- The own session is answered, if it isn't ended; after what it was sent there may be no room.
 abbrev pub AnswersLast : Bool → Bytes → State → ℕ → Session → Effect → State → Type 0
 AnswersLast roomy reply st s x e st' = MatchOption x.cause
     (((e ≡ says s reply) × (st' ≡ st)) ⊎ ((roomy ≡ true → ⊥) × EndsWith end_memory Memory st s e st'))
@@ -58,7 +58,7 @@ KeepsUntold queued (x ∷ xs) (y ∷ ys) = (y.id ≡ x.id) × ((list_any (λ par
 KeepsUntold queued [] (y ∷ ys) = ⊥
 KeepsUntold queued (x ∷ xs) [] = ⊥
 
--- So far a change has been told: what the machine has queued is queued to the sessions.
+-- So far a change has been published: what the machine has queued is queued to the sessions.
 pub record ToldSoFar (stopped : Bool) (start : List OpenSession) (m : Telling) (k : Kept) (xs : List OpenSession) : Type
     0 where
   pub seen : queue_all m.state m.queued ≡ state_in k stopped xs
@@ -71,7 +71,7 @@ pub record GoesOnTelling (old : Kept) (xs : List OpenSession) (new : Kept) (ys :
   pub ids : map (λ (x : OpenSession). x.id) ys ≡ map (λ (x : OpenSession). x.id) xs
   pub fewer : (q : Bytes) → watchers_in ys q ≤ watchers_in xs q
 
--- A delta is told to all who watch its query.
+-- A delta is published to all who watch its query.
 pub record TellsQuery (old : Kept) (id : QueryId) (query : Bytes) (xs : List OpenSession) (new : Kept)
     (ys : List OpenSession) : Type 0 where
   pub goes_on : GoesOnTelling old xs new ys
@@ -80,14 +80,14 @@ pub record TellsQuery (old : Kept) (id : QueryId) (query : Bytes) (xs : List Ope
       → (told_at old id ≡ None) ⊎ (told_at old id ≡ Some d.changes) → ToldSoFar stopped start m old xs
       → (m' : Telling) × TellsDelta (old.store).seq m d m' × ToldSoFar stopped start m' new ys
 
--- These queries read the relation that changed, and the logs of those that are watched tell the deltas.
+-- These queries read the relation that changed, and the logs of those that are watched have the deltas.
 pub record AreAffected (k : Kept) (readers : List Registered) (deltas : List Delta) : Type 0 where
   pub affected : k.affected ≡ map (λ r. r.id) readers
   pub there : All (λ r. registered_at k.registered r.id ≡ Some r) readers
   pub queries : map (λ d. d.query) deltas ≡ map (λ r. r.query) (filter is_watched readers)
   pub logs : LogsTell k (filter is_watched readers) deltas
 
--- The deltas of the affected queries are told, one after another.
+-- The deltas of the affected queries are published, one after another.
 pub record TellsAffected (old : Kept) (xs : List OpenSession) (new : Kept) (ys : List OpenSession) : Type 0 where
   pub goes_on : GoesOnTelling old xs new ys
   pub tells : (readers : List Registered) (deltas : List Delta) (stopped : Bool) (start : List OpenSession)
@@ -95,7 +95,7 @@ pub record TellsAffected (old : Kept) (xs : List OpenSession) (new : Kept) (ys :
       → AreAffected old readers deltas → ToldSoFar stopped start m old xs
       → (m' : Telling) × Walk (TellsDelta (old.store).seq) m deltas m' × ToldSoFar stopped start m' new ys
 
--- A change is told where it was accepted, and its own session answered last.
+-- A change is published if it was accepted, and its own session answered last.
 pub record TellsAll (accepted : Bool) (reply : Bytes) (old : Kept) (s : ℕ) (xs : List OpenSession) (new : Kept)
     (ys : List OpenSession) : Type 0 where
   pub sound : IsSound new ys

@@ -1,4 +1,4 @@
--- What the join machine sees of what the core keeps.
+-- What the join machine sees of the core.
 use Rattle.std.specs.Prelude.{ℕ, List, [], Bool, Option, None, Some, map}
 use Rattle.djq_model.specs.Data.{Bytes}
 use Rattle.djq_store_spec.specs.Held.{HeldTransaction}
@@ -59,7 +59,7 @@ pub record Visible : Type 0 where
   pub room : Bool
   pub batch : Option HeldTransaction
 
--- where the loading of lines has come to
+-- how far the loading of lines is
 abbrev pub loading_in : Visible → Loading
 loading_in c = record { store = (c.state).store; batch = c.batch }
 

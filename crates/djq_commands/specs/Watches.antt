@@ -14,7 +14,7 @@ pub record Rewatches (watches : List Bytes) (old : Kept) (before : Talk) (new : 
   pub session : after ≡ record before { watches = watches }
   pub counted : StaysCounted old.registered before.watches new.registered watches
 
--- It does where that was done; else all is as before.
+-- It does if that was done; else all is as before.
 abbrev pub RewatchesWhere : List Bytes → Kept → Talk → Result ⊤ Refusal → Kept → Talk → Type 0
 RewatchesWhere watches old before (Ok _) new after = Rewatches watches old before new after
 RewatchesWhere watches old before (Err _) new after = (new ≡ old) × (after ≡ before)

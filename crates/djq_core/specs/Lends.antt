@@ -1,4 +1,4 @@
--- What the open sessions end as, where one is lent.
+-- What the open sessions are once the loan of one ends.
 use Rattle.std.specs.Prelude.{ℕ, List, slice_set}
 use Rattle.std.specs.Borrow.{Fml, Lends, MutBor}
 use Rattle.djq_core.specs.contracts.sessions.Sessions.{the_row as sessions_row}

@@ -1,4 +1,4 @@
--- What loading lines stands on, while no session is open.
+-- What loading lines relies on, while no session is open.
 use Rattle.std.specs.Prelude.{
   ◌≡◌,
   Bool,
@@ -34,7 +34,7 @@ pub record IsUnused (k : Kept) : Type 0 where
   pub cursorless : (c : CursorId) → held_at k.cursors c ≡ None
   pub unwatched : IsUnwatched k
 
--- what a result comes to, by whether its line would be kept
+-- the result of loading, by whether its line would be logged
 abbrev pub comes_to : {A : Type 0} → Result A Refusal → Bool → Loaded
 comes_to (Ok a) kept = if kept then Ran else Refused
 comes_to (Err r) kept = refused_by r
@@ -44,11 +44,11 @@ abbrev pub is_batch : Command → Bool
 is_batch Batch = true
 is_batch _ = false
 
--- where loading has come to, by the engine and the batch that is open
+-- how far loading is, by the engine and the batch that is open
 abbrev pub loading_by : Kept → Option HeldTransaction → Loading
 loading_by k batch = record { store = k.store; batch = batch }
 
--- A line is loaded, and nobody watches behind it either. Batches suit as before.
+-- A line is loaded, and nobody watches after it either. Batches suit as before.
 pub record LoadsLine (line : Bytes) (how : Loaded) (old : Kept) (before : Option HeldTransaction) (new : Kept)
     (after : Option HeldTransaction) : Type 0 where
   pub loads : ReadingLoads (loading_by old before) line (reading_of line) how (loading_by new after)

@@ -26,7 +26,7 @@ opened_at xs at d = record { id = slice_index (ids_of xs) at; session = d }
 abbrev pub lies_at : List (Option Talk) → ℕ → Option Talk
 lies_at slots key = slice_index_or slots key None
 
--- the session of an id in front of others, where its slot has one
+-- the session of an id in front of others, if its slot has one
 abbrev pub lying_before : ℕ → Option Talk → List OpenSession → List OpenSession
 lying_before id None xs = xs
 lying_before id (Some d) xs = record { id = id; session = d } ∷ xs

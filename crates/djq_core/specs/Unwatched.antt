@@ -1,4 +1,4 @@
--- Changes that are told to nobody.
+-- Changes that are published to nobody.
 use Rattle.std.specs.Prelude.{ℕ, ◌≡◌, Some, IsSomeAnd, slice_get}
 use Rattle.djq_engine.specs.declared.cursor.QueryId.{QueryId}
 use Rattle.djq_engine.specs.Kept.{Kept, registered_at}

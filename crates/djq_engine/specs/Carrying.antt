@@ -80,7 +80,7 @@ pub record LeavesQueries (come gone : List Group) (old new : Parts) : Type 0 whe
 
 -- ---- the rows, and the queries
 
--- The catalog has the rows that lines leave, the queries that read a relation of them are kept over it, and the log of
+-- The catalog has the rows that lines leave, the queries that read a relation of them are live over it, and the log of
 -- each watched one has its delta, or is lost.
 pub record ChangesRows (lines : List HeldLine) (come gone : List Group) (old new : Parts) : Type 0 where
   pub relations : (new.catalog).relations ≡ relations_after (old.catalog).relations lines
@@ -110,7 +110,7 @@ abbrev pub AreHalves : List ℕ → Catalog → Catalog → Parts → (ℕ → L
 AreHalves places c d p f = (i : ℕ) (l : Live) → is_reader places i ≡ true → watched_at p.watchers.items i ≡ true
     → place_at p.queries.items i ≡ Some l → IsDelta (IsAnswer c.relations l.query) (IsAnswer d.relations l.query) (f i)
 
--- What listing counts at most for the rows that come, in order of registration.
+-- What listing counts at most for the rows that are inserted, in order of registration.
 abbrev pub come_costs : Parts → List Group → (ℕ → List Change) → ℕ
 come_costs p come f = sum_by (batch_cost_at p.watchers.items p.queries.items (group_relations come) f)
     (filter (is_reader (reached p.readers.items come)) p.order)
@@ -128,8 +128,8 @@ CountsInserts lines come p before now = (f : ℕ → List Change)
     → AreHalves (reached p.readers.items come) p.catalog (catalog_between p.catalog lines) p f
     → now ≤ before + come_costs p come f
 
--- What updates count at most: for the rows that come if no leaf has more than n tuples before, and for those that go
--- if no relation has more than m rows between.
+-- What updates count at most: for the rows that are inserted if no leaf has more than n tuples before, and for those
+-- that are deleted if no relation has more than m rows between.
 abbrev pub WorksHalves : List HeldLine → List Group → List Group → Parts → ℕ → ℕ → Type 0
 WorksHalves lines come gone p before now = (n m : ℕ)
     → AllAt (reached p.readers.items come) p.queries.items (λ l. HasAtMost l.reducts n)

@@ -27,17 +27,17 @@ use Rattle.djq_reach.specs.Places.{place_at, is_reader, readers_at, watched_at, 
 use Rattle.djq_reach.specs.Reaching.{Reach, Ages, Carries}
 use Rattle.djq_reach.specs.Tending.{Works, cost_at}
 
--- The cells stand for a row.
+-- The cells represent a row.
 abbrev pub HasRow : Catalog → ℕ → List ℕ → Type 0
 HasRow c at cells = (row : Tuple) × StandForRow c at cells row
 
--- The cells stand for a row that isn't there, and there is room for it.
+-- The cells represent a row that isn't there, and there is room for it.
 pub record IsNewRow (c : Catalog) (at : ℕ) (cells : List ℕ) (row : Tuple) : Type 0 where
   pub stand : StandForRow c at cells row
   pub absent : has_row (rows_at c.relations at) row ≡ false
   pub room : length (rows_at c.relations at) < ROWS
 
--- The cells stand for a row that is there.
+-- The cells represent a row that is there.
 pub record IsOld (c : Catalog) (at : ℕ) (cells : List ℕ) (row : Tuple) : Type 0 where
   pub stand : StandForRow c at cells row
   pub there : has_row (rows_at c.relations at) row ≡ true
@@ -70,7 +70,7 @@ pub record HasRows (at : ℕ) (rows : List CountedRow) (old new : Parts) : Type 
   pub relations : (new.catalog).relations ≡ with_rows_at (old.catalog).relations at rows
   pub carries : CarriesReaders at old new
 
--- A row came, whose texts were known.
+-- A row was inserted, whose texts were known.
 pub record PutsKnownRow (at : ℕ) (row : Tuple) (old new : Parts) : Type 0 where
   pub texts : (new.catalog).texts ≡ (old.catalog).texts
   pub has : HasRows at (with_row (counted_at (old.catalog).relations at) row) old new
@@ -80,12 +80,12 @@ pub record Waits (at : ℕ) (old new : Parts) : Type 0 where
   pub catalog : new.catalog ≡ old.catalog
   pub carries : CarriesReaders at old new
 
--- A row went.
+-- A row was deleted.
 pub record DropsRow (at : ℕ) (row : Tuple) (old new : Parts) : Type 0 where
   pub texts : (new.catalog).texts ≡ (old.catalog).texts
   pub has : HasRows at (without_copies (counted_at (old.catalog).relations at) row) old new
 
--- A row came, whose texts are known now.
+-- A row was inserted, whose texts are known now.
 pub record PutsRow (at : ℕ) (row : Tuple) (old new : Parts) : Type 0 where
   pub learns : LearnsAll (old.catalog).texts (texts_in row) (new.catalog).texts
   pub has : HasRows at (with_row (counted_at (old.catalog).relations at) row) old new
@@ -167,32 +167,32 @@ DeletesFrom at row old Absent new =
     × (new.catalog ≡ old.catalog) × (new.queries.items ≡ old.queries.items)
     × (new.logs.items ≡ old.logs.items)
 
--- What holds where a row came.
+-- What holds if a row was inserted.
 abbrev pub IfCame : Result AddOutcome AddRefusal → Type 0 → Type 0
 IfCame (Ok First) Holds = Holds
 IfCame (Ok (More n)) Holds = ⊤
 IfCame (Err refusal) Holds = ⊤
 
--- What holds where memory was refused for a row.
+-- What holds if memory was refused for a row.
 abbrev pub IfLacking : Result AddOutcome AddRefusal → Type 0 → Type 0
 IfLacking (Ok outcome) Holds = ⊤
 IfLacking (Err Full) Holds = ⊤
 IfLacking (Err NoMem) Holds = Holds
 
--- where neither was
+-- if neither was
 abbrev pub IfStill : Result AddOutcome AddRefusal → Type 0 → Type 0
 IfStill (Ok First) Holds = ⊤
 IfStill (Ok (More n)) Holds = Holds
 IfStill (Err Full) Holds = Holds
 IfStill (Err NoMem) Holds = ⊤
 
--- what holds where a row went
+-- what holds if a row was deleted
 abbrev pub IfWent : DeleteOutcome → Type 0 → Type 0
 IfWent Last Holds = Holds
 IfWent (Left n) Holds = ⊤
 IfWent Absent Holds = ⊤
 
--- what holds where no row went
+-- what holds if no row was deleted
 abbrev pub IfNoneWent : DeleteOutcome → Type 0 → Type 0
 IfNoneWent Last Holds = ⊤
 IfNoneWent (Left n) Holds = Holds
@@ -206,12 +206,12 @@ pub record AgesReaders (at : ℕ) (name : Bytes) (old new : Parts) : Type 0 wher
   pub logs : new.logs.items ≡ old.logs.items
   pub rest : KeepsRest old new
 
--- These answers of a query come or go where a relation has other rows.
+-- These answers of a query are added or removed if a relation has other rows.
 abbrev pub IsDeltaWith : ℕ → List CountedRow → List Relation → Live → List Change → Type 0
 IsDeltaWith at rows relations l changes =
     IsDelta (IsAnswer relations l.query) (IsAnswer (with_rows_at relations at rows) l.query) changes
 
--- Unless it is lost, the log of a watched query that reads the relation tells them.
+-- Unless it is lost, the log of a watched query that reads the relation has them.
 abbrev pub TellsRows : ℕ → List CountedRow → Parts → Parts → Type 0
 TellsRows at rows old new = (i : ℕ) (l : Live)
     → is_reader (readers_at old.readers.items at) i ≡ true → watched_at old.watchers.items i ≡ true
@@ -244,8 +244,8 @@ CountsRows at rows old before now = (f : ℕ → List Change) → DeltasWith at 
     → now ≤ before + sum_by (cost_at old.watchers.items old.queries.items at f)
     (readers_at old.readers.items at)
 
--- What taking a row in or out counts at most: so many times what the updates of the relation's readers
--- do.
+-- What inserting or deleting a row counts at most: so many times what the updates of the relation's
+-- readers do.
 abbrev pub WorksRows : ℕ → ℕ → Parts → ℕ → ℕ → Type 0
 WorksRows at times old before now =
     Works (readers_at old.readers.items at) old.queries.items at times before now

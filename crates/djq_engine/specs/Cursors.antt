@@ -1,4 +1,4 @@
--- Where cursors are.
+-- The places of cursors.
 use Rattle.std.specs.Prelude.{not, Bool, false, Option, None, Some}
 use Rattle.djq_live_query.specs.Cursors.{are_vacant}
 use Rattle.djq_live_query.specs.Live.{Live}

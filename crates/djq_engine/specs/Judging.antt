@@ -14,7 +14,7 @@ use Rattle.djq_database.specs.declared.relation_id.RelationId.{RelationId}
 abbrev pub bare_store : List Relation → ℕ → Store
 bare_store relations seq = record { relations = relations; texts = []; queries = []; seq = seq }
 
--- The relation of a name stands at this place, and a row suits it.
+-- The relation of a name is at this place, and a row suits it.
 pub record RowSuits (relations : List Relation) (name : Bytes) (row : Tuple) (at : ℕ) : Type 0 where
   pub below : at < length relations
   pub named : (relation_at relations at).name ≡ name
@@ -42,7 +42,7 @@ pub record MayGo (c : Catalog) (name : Bytes) (row : Tuple) (seq : ℕ) (found :
     pub cells : found.cells ≡ cells_of c.texts row
     pub last : copies_among (counted_at c.relations found.relation.at) row ≡ 1 → seq < LAST_SEQ
 
--- Its texts aren't all known, so that it isn't there; or it may go.
+-- Its texts aren't all known, so that it isn't there; or it may be deleted.
 abbrev pub JudgesDelete : Catalog → Bytes → Tuple → ℕ → List ℕ → Option RelationId → Type 0
 JudgesDelete c name row seq cells None =
     (delete_refusal (bare_store c.relations seq) name row ≡ None)

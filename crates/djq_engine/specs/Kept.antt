@@ -30,7 +30,7 @@ use Rattle.djq_reach.specs.Places.{place_at}
 use Rattle.djq_engine.specs.declared.cursor.CursorId.{CursorId}
 use Rattle.djq_engine.specs.declared.cursor.QueryId.{QueryId}
 
--- A cursor that the engine keeps: over which query, and how far it has come.
+-- A cursor that the engine has: over which query, and how far it is.
 pub record HeldCursor : Type 0 where
   pub id : CursorId
   pub query : Bytes
@@ -42,7 +42,7 @@ pub record Registered : Type 0 where
   pub query : Listed
   pub watchers : ℕ
 
--- What the engine keeps: the store of the join machine, and cursors; the registered queries, in
+-- What the engine has: the store of the join machine, and cursors; the registered queries, in
 -- order of registration; those that the last accepted change affected, in that order;
 -- and by place how a query's answers changed last, or that it was lost. Beside them the queries by
 -- place.
@@ -66,7 +66,7 @@ registered_at rs id = find (λ r. same_query r.id id) rs
 abbrev pub registered_of : List Registered → Bytes → Option Registered
 registered_of rs name = find (λ r. bytes_eq (listed_name r.query) name) rs
 
--- that an engine keeps a query
+-- that a query is registered in an engine
 abbrev pub IsRegistered : Kept → QueryId → Type 0
 IsRegistered k id = IsSome (registered_at k.registered id)
 
@@ -91,7 +91,7 @@ abbrev pub with_watchers : QueryId → (ℕ → ℕ) → List Registered → Lis
 with_watchers id f rs =
     change_first (λ r. same_query r.id id) (λ r. record r { watchers = f r.watchers }) rs
 
--- how a query's answers changed last; None where that was lost
+-- how a query's answers changed last; None if that was lost
 abbrev pub told_at : Kept → QueryId → Option (List Change)
 told_at k id = slice_index_or k.told id.at None
 
@@ -118,29 +118,29 @@ outdated_held queries outdater n h = record h {
   position = outdated (outdater_of queries outdater h.query) n h.position;
 }
 
--- the cursors behind a change of this number that was made or tried, where there was one
+-- the cursors after a change of this number that was made or tried, if there was one
 abbrev pub cursors_behind : Kept → Option RowsChange → ℕ → List HeldCursor
 cursors_behind old None n = old.cursors
 cursors_behind old (Some change) n =
     map (outdated_held old.store.queries change.outdater n) old.cursors
 
--- The cursors are as they are behind it.
+-- The cursors are as they are after it.
 abbrev pub Outdates : Kept → Option RowsChange → Kept → Type 0
 Outdates old o new =
     (id : CursorId) → held_at new.cursors id ≡ held_at (cursors_behind old o (new.store).seq) id
 
--- What the last change told, and whom it affected, is as before.
+-- The deltas of the last change, and whom it affected, are as before.
 pub record SameTellings (old new : Kept) : Type 0 where
   pub affected : new.affected ≡ old.affected
   pub told : new.told ≡ old.told
 
--- This is told of one query, and of the others what was told before.
+-- This is the delta of one query, and the others have that of before.
 pub record TellsOfQuery (old : Kept) (id : QueryId) (told : Option (List Change)) (new : Kept) : Type 0
   where
     pub here : told_at new id ≡ told
     pub others : (other : QueryId) → same_query other id ≡ false → told_at new other ≡ told_at old other
 
--- A new cursor stands in front of the answers of its query.
+-- A new cursor is before the first of the answers of its query.
 pub record OpensCursor (old : Kept) (query : Bytes) (id : CursorId) (new : Kept) : Type 0 where
   pub fresh : held_at old.cursors id ≡ None
   pub there : held_at new.cursors id
@@ -177,16 +177,16 @@ AtQuery k id P = AtPlace k id.query P
 abbrev pub IsThere : Kept → CursorId → List ℕ → Type 0
 IsThere k id answer = AtQuery k id (λ l. IsAnswerOf l.reducts answer)
 
--- that a tuple of cells can be shown by it: an answer, one that went, or one of another query with
+-- that a tuple of cells can be shown by it: an answer, one that was removed, or one of another query with
 -- answers of the same types
 abbrev pub IsShown : Kept → CursorId → List ℕ → Type 0
 IsShown k id answer = AtQuery k id (λ l. IsShowable k.store.texts l answer)
 
--- the answer of the query over which this cursor is stands for this tuple
+-- the answer of the query over which this cursor is represents this tuple
 abbrev pub AnswerIs : Kept → CursorId → List ℕ → Tuple → Type 0
 AnswerIs k id answer t = AtQuery k id (λ l. t ≡ values_of k.store.texts l answer)
 
--- What a read of a cursor gives: one answer that is left; the end exactly where none is; or what
+-- What a read of a cursor gives: one answer that is left; the end if and only if none is; or what
 -- made it stale.
 abbrev pub EngineNextGivesAt : Kept → HeldCursor → Listed → Position → Next → List ℕ → Kept → Type 0
 EngineNextGivesAt old h q (open_at given ended) Given answer new =
@@ -212,8 +212,7 @@ pub record EngineNextGives (old : Kept) (id : CursorId) (result : Next) (answer 
       (listed_of (old.store).queries h.query) (λ q. EngineNextGivesAt old h q h.position result answer new
       × (now ≤ before + read_steps result q)))
 
--- Whether a further answer is left is known of a cursor that isn't stale; where none is, it stands
--- at its end.
+-- Whether a further answer is left is known of a cursor that isn't stale; if none is, it is at its end.
 abbrev pub MoreGivesAt : Kept → HeldCursor → Listed → Position → Bool → Kept → Type 0
 MoreGivesAt old h q (open_at given ended) true new =
     ((t : Tuple) × IsLeft (AnswersOf (old.store).relations q) given t)
@@ -222,7 +221,7 @@ MoreGivesAt old h q (open_at given ended) false new =
     AreAll (AnswersOf (old.store).relations q) given × MovesCursor old h (open_at given true) new
 MoreGivesAt old h q (stale r m) more new = ⊥
 
--- Whether a further answer is left for a held cursor is told, and no more is counted than one answer takes.
+-- Whether a further answer is left for a held cursor is returned, and no more is counted than one answer costs.
 pub record MoreGives (old : Kept) (id : CursorId) (result : Bool) (new : Kept) (before now : ℕ) :
     Type 0 where
   pub gives : IsSomeAnd (held_at old.cursors id) (λ h. IsSomeAnd
@@ -242,7 +241,7 @@ IsOpenAt (stale r n) = ⊥
 abbrev pub IsFresh : Kept → CursorId → Type 0
 IsFresh k id = IsSomeAnd (held_at k.cursors id) (λ h. IsOpenAt h.position)
 
--- A cursor is gone, and nothing else.
+-- A cursor is closed, and nothing else changes.
 pub record ClosesCursor (old : Kept) (id : CursorId) (new : Kept) : Type 0 where
   pub gone : held_at new.cursors id ≡ None
   pub others : OtherCursorsStay old.cursors id new.cursors
@@ -266,8 +265,7 @@ DropsRegistered old query (Ok done) new =
     new ≡ filter (λ r. not (bytes_eq (listed_name r.query) query)) old
 DropsRegistered old query (Err r) new = new ≡ old
 
--- Of a query that was dropped nothing is told any more, and it isn't affected; else nothing has
--- changed of what is told.
+-- A query that was dropped has no delta any more, and isn't affected; else no delta has changed.
 abbrev pub DropsTelling : Kept → Bytes → Result ⊤ Refusal → Kept → Type 0
 DropsTelling old query (Ok done) new = IsSomeAnd (registered_of old.registered query)
     (λ r. TellsOfQuery old r.id None new
@@ -290,7 +288,7 @@ pub record ExplainsTree (q : Query) (lines : List ℕ) : Type 0 where
   pub named : IsTreeOf (edges_of q) (head_of q) tree
   pub are : lines ≡ explain_of (map (λ a. a.relation) q.atoms) (variable_names q) tree
 
--- They explain what is registered: a query is explained by its tree, and of a union nothing is said here.
+-- They explain what is registered: a query is explained by its tree, and of a union nothing is stated here.
 abbrev pub TreeExplains : Listed → List ℕ → Type 0
 TreeExplains (a_query q) lines = ExplainsTree q lines
 TreeExplains (a_union name qs) lines = ⊤
@@ -307,13 +305,13 @@ pub record QueryExplainGives (st : Store) (query : Bytes) (result : Result (List
       result (λ lines. IsSomeAnd (listed_of st.queries query) (λ q. TreeExplains q lines))
       (OutOfMemoryWhere (IsSomeAnd (listed_of st.queries query) HasTree))
 
--- Two queries in a place, before and behind a call, are the same query with the same tree.
+-- Two queries in a place, before and after a call, are the same query with the same tree.
 pub record SameShape (l m : Live) : Type 0 where
   pub query : m.query ≡ l.query
   pub numbered : m.numbered ≡ l.numbered
   pub tree : (m.reducts).tree ≡ (l.reducts).tree
 
--- They have the same tables, so what is an answer is one, and a cursor can go on.
+-- They have the same tables, so what is an answer is one, and a cursor can continue.
 pub record SameLiveTables (l m : Live) : Type 0 where
   pub query : m.query ≡ l.query
   pub numbered : m.numbered ≡ l.numbered
@@ -329,11 +327,11 @@ abbrev pub KeepsPlaces : (Listed → Bool) → Kept → Kept → Type 0
 KeepsPlaces reached old new = (i : ℕ) (l : Live) → place_at old.places i ≡ Some l
     → IsSomeAnd (place_at new.places i) (KeepsQuery reached l)
 
--- where no table changes
+-- if no table changes
 abbrev pub KeepsTables : Kept → Kept → Type 0
 KeepsTables = KeepsPlaces (λ q. false)
 
--- whether a change that was made or tried outdates a query, where there was one
+-- whether a change that was made or tried outdates a query, if there was one
 abbrev pub is_tried : Option RowsChange → Listed → Bool
 is_tried None q = false
 is_tried (Some change) q = is_outdated change q
@@ -344,14 +342,14 @@ DropsPlace old query (Ok done) new = IsSomeAnd (registered_of old.registered que
     (λ r. new.places ≡ slice_set old.places r.id.at None)
 DropsPlace old query (Err r) new = new.places ≡ old.places
 
--- The queries in their places are kept over a catalog with the relations and the texts of the store.
+-- The queries in their places are live over a catalog with the relations and the texts of the store.
 pub record PlacesAreKept (k : Kept) : Type 0 where
   pub catalog : Catalog
   pub relations : catalog.relations ≡ k.store.relations
   pub texts : catalog.texts ≡ k.store.texts
   pub live : (i : ℕ) (l : Live) → place_at k.places i ≡ Some l → IsLive catalog l
 
--- A registered query stands in the place of its id.
+-- A registered query is in the place of its id.
 abbrev pub IdsArePlaced : Kept → Type 0
 IdsArePlaced k = All (λ r. AtPlace k r.id (λ l. r.query ≡ a_query l.query)) k.registered
 
@@ -366,16 +364,16 @@ CursorsAreRegistered k = (id : CursorId) (h : HeldCursor) → held_at k.cursors 
     → (h.id ≡ id)
     × IsSomeAnd (registered_at k.registered id.query) (λ r. h.query ≡ listed_name r.query)
 
--- cells in the head's order stand for the answer that a change tells
+-- cells in the head's order represent the answer of a change
 abbrev pub CellsAre : Kept → Live → List ℕ → Change → Type 0
 CellsAre k l cells c = StandFor k.store.texts (head_types l) cells c.answer
 
--- What is told of a query has cells in its head's order.
+-- The delta of a query has cells in its head's order.
 abbrev pub ToldCellsFit : Kept → Type 0
 ToldCellsFit k = (id : QueryId) (changes : List Change) → told_at k id ≡ Some changes
     → AtPlace k id (λ l. All (λ c. (cells : List ℕ) × CellsAre k l cells c) changes)
 
--- One change that is told of a query, by its sign and the cells of its answer.
+-- One change of a query's delta, by its sign and the cells of its answer.
 abbrev pub TellsChangeCells : Kept → QueryId → ℕ → Sign → List ℕ → Type 0
 TellsChangeCells k id nth sign cells = AtPlace k id (λ l. IsSomeAnd (told_at k id)
     (λ changes. IsSomeAnd (slice_get changes nth) (λ c. (sign ≡ c.sign) × CellsAre k l cells c)))

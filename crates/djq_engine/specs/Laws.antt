@@ -6,8 +6,8 @@ use Rattle.djq_protocol.specs.declared.limits.TheConstants.{QUERIES}
 use Rattle.djq_engine.specs.Kept.{Kept, same_query, PlacesAreKept, IdsArePlaced, PlacesAreRegistered}
 use Rattle.djq_engine.specs.Kept.{CursorsAreRegistered, ToldCellsFit}
 
--- The queries that are registered are those in places, of which there are so many at most; they are kept over the
--- relations; cursors are over them; what is told of them has cells; and their ids and names differ.
+-- The queries that are registered are those in places, of which there are so many at most; they are live over the
+-- relations; cursors are over them; their deltas have cells; and their ids and names differ.
 pub record IsEngine (e : Kept) : Type 0 where
   pub queries : map (λ r. r.query) e.registered ≡ (e.store).queries
   pub apart : AllPairs (λ r s. same_query r.id s.id ≡ false) e.registered

@@ -12,9 +12,9 @@ use Rattle.djq_live_query.specs.Shown.{IsShownIn}
 use Rattle.djq_engine.specs.declared.cursor.QueryId.{QueryId}
 use Rattle.djq_engine.specs.Kept.{Kept, registered_at, held_at}
 
--- The query of an id, as it is lent. It is kept over a catalog with the relations and the texts of
--- the store, so its tables are those of its tree over the rows as they are: a tuple is an answer
--- exactly where they have its projections. Its cursors stand where those of the engine do.
+-- The query of an id, as it is lent. It is live over a catalog with the relations and the texts of
+-- the store, so its tables are those of its tree over the rows as they are: a tuple is an answer if
+-- and only if they have its projections. Its cursors are as far as those of the engine.
 pub record LendsQuery (k : Kept) (id : QueryId) (l : Live) : Type 0 where
   pub query : IsSomeAnd (registered_at k.registered id) (λ r. r.query ≡ a_query l.query)
   pub place : slice_index_or k.places id.at None ≡ Some l
@@ -28,6 +28,6 @@ pub record LendsQuery (k : Kept) (id : QueryId) (l : Live) : Type 0 where
       → option_map (λ h. h.position) (held_at k.cursors (record { query = id; cursor = slot }))
       ≡ option_map (position_of (k.store).texts l) (slot_at l.cursors slot)
 
--- whether an answer came or went
+-- whether an answer was added or removed
 abbrev pub sign_of : Bool → Sign
 sign_of came = if came then Came else Went

@@ -32,7 +32,7 @@ pub record OpensAt (slot : ℕ) (l m : Live) : Type 0 where
   pub opens : QueryOpensIn l slot m
   pub live : (c : Catalog) → IsLive c l → IsLive c m
 
--- A cursor goes out of a slot.
+-- A cursor is removed from a slot.
 pub record ClosesAt (slot : ℕ) (l m : Live) : Type 0 where
   pub closes : m ≡ record l { cursors = slice_set l.cursors slot None }
   pub live : (c : Catalog) → IsLive c l → IsLive c m
@@ -43,7 +43,7 @@ pub record ReadsAt (slot : ℕ) (result : Next) (answer : List ℕ) (before now 
   pub gives : (c : Catalog) → IsLive c l → QueryNextGives c l slot result answer m
   pub counted : (c : Catalog) → IsLive c l → now ≤ before + next_steps result (length l.query.head)
 
--- Whether an answer is left is told.
+-- Whether an answer is left is returned.
 pub record TellsMore (slot : ℕ) (result : Bool) (before now : ℕ) (l m : Live) : Type 0 where
   pub gives : (c : Catalog) → IsLive c l → QueryMoreGives c l slot result m
   pub counted : (c : Catalog) → IsLive c l → now ≤ before + most_steps (length l.query.head)

@@ -24,7 +24,7 @@ pub record AreReaders (relations : List Relation) (readers : List (List ℕ)) (g
   pub reading : (r i : ℕ) → r < length relations → is_reader (readers_at readers r) i
       ≡ reads_place (relation_at relations r).name (place_at gs i)
 
--- The open cursors of a query become stale by this relation, where there is one.
+-- The open cursors of a query become stale by this relation, if there is one.
 abbrev pub AgesBy : Option Bytes → ℕ → Live → Option Live → Type 0
 AgesBy None n l new = new ≡ Some l
 AgesBy (Some relation) n l (Some m) = Ages relation n l m

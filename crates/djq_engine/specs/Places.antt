@@ -1,4 +1,4 @@
--- The registered queries in their places and their cursors, as the engine keeps them, and what
+-- The registered queries in their places and their cursors, as the engine stores them, and what
 -- contracts see of them.
 use Rattle.std.specs.Prelude.{ℕ, zero, suc, List, [], ◌∷◌, ◌++◌, ◌==◌, Bool, false, not, Option}
 use Rattle.std.specs.Prelude.{None, Some, is_some, option_map, if◌then◌else◌, map, filter}
@@ -21,7 +21,7 @@ use Rattle.djq_engine.specs.Kept.{HeldCursor, Registered, Kept}
 abbrev pub is_live : List (Option Live) → ℕ → Bool
 is_live gs i = is_some (place_at gs i)
 
--- what stands for the query of a vacant place
+-- a query in place of that of a vacant place
 abbrev pub no_query : Listed
 no_query = a_query (record { name = []; head = []; atoms = []; comparisons = [] })
 
@@ -92,18 +92,18 @@ query_registered_as gs watchers i = record {
 abbrev pub registered_in : List (Option Live) → List ℕ → List ℕ → List Registered
 registered_in gs watchers order = map (query_registered_as gs watchers) order
 
--- what a log tells of the answers of a query
+-- the delta of a query that a log has
 abbrev pub told_of : List Bytes → Option Live → Log → Option (List Change)
 told_of texts None log = None
 told_of texts (Some l) log = if log.lost then None else Some (map (change_of texts l) log.lines)
 
--- what the logs tell, by place
+-- the deltas that the logs have, by place
 abbrev pub told_from : List Bytes → List (Option Live) → List Log → List (Option (List Change))
 told_from texts [] logs = []
 told_from texts (g ∷ gs) [] = []
 told_from texts (g ∷ gs) (log ∷ logs) = told_of texts g log ∷ told_from texts gs logs
 
--- What the engine keeps for watching: the readers of each relation, how many sessions watch the
+-- What the engine stores for watching: the readers of each relation, how many sessions watch the
 -- query in each place, its log, and the places that the last accepted change affected.
 pub record Watches : Type 0 where
   pub readers : List (List ℕ)

@@ -10,11 +10,11 @@ use Rattle.djq_enumeration.specs.Log.{Log}
 use Rattle.djq_reach.specs.Places.{place_at, readers_at, watchers_at, log_at, AreOnce}
 use Rattle.djq_engine.specs.Places.{places_without}
 
--- What stands in each place is as before.
+-- The content of each place is as before.
 abbrev pub SamePlaces : List (Option Live) → List (Option Live) → Type 0
 SamePlaces old new = (i : ℕ) → place_at new i ≡ place_at old i
 
--- There are as many places as before, or one more where none of them was vacant.
+-- There are as many places as before, or one more if none of them was vacant.
 abbrev pub GrowsFull : List (Option Live) → List (Option Live) → Type 0
 GrowsFull old new = (length new ≡ length old)
     ⊎ ((length new ≡ length old + 1)
@@ -37,12 +37,12 @@ pub record SameLists (old new : List (List ℕ)) : Type 0 where
   pub long : length new ≡ length old
   pub each : (r : ℕ) → readers_at new r ≡ readers_at old r
 
--- A place goes out of all lists.
+-- A place is removed from all lists.
 pub record LeavesAll (at : ℕ) (old new : List (List ℕ)) : Type 0 where
   pub long : length new ≡ length old
   pub each : (r : ℕ) → readers_at new r ≡ places_without at (readers_at old r)
 
--- A place comes last among the readers of each relation that the query reads.
+-- A place is appended to the readers of each relation that the query reads.
 pub record JoinsReaders (relations : List Relation) (q : Query) (at : ℕ)
     (old new : List (List ℕ)) : Type 0 where
   pub long : length new ≡ length old
@@ -50,7 +50,7 @@ pub record JoinsReaders (relations : List Relation) (q : Query) (at : ℕ)
       ≡ (if reads q (relation_at relations r).name then readers_at old r ++ at ∷ []
       else readers_at old r)
 
--- It comes last in some of the lists.
+-- It is appended to some of the lists.
 pub record JoinsSome (at : ℕ) (old new : List (List ℕ)) : Type 0 where
   pub long : length new ≡ length old
   pub each : (r : ℕ) → (readers_at new r ≡ readers_at old r)

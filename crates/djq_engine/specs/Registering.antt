@@ -7,7 +7,7 @@ use Rattle.djq_engine.specs.declared.parts.Parts.{Parts}
 use Rattle.djq_reach.specs.Places.{place_at, watchers_at, log_at}
 use Rattle.djq_engine.specs.Placing.{SamePlaces, SameLists, SameWatchers, SameLogs, JoinsReaders}
 
--- A query stands in a place where none was, which comes behind the others in order, and behind the
+-- A query is in a place that was vacant, which is appended to the others in order, and to the
 -- readers of each relation that it reads.
 pub record Registers (q : Live) (old new : Parts) : Type 0 where
   pub place : ℕ

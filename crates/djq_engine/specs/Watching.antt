@@ -1,4 +1,4 @@
--- What an engine says of the queries that sessions watch.
+-- What an engine has of the queries that sessions watch.
 use Rattle.std.specs.Prelude.{ℕ, List, [], ◌∷◌, ◌++◌, ◌≡◌, ◌≤◌, ◌+◌, ◌*◌, ◌⊎◌, ◌&&◌, Bool, true}
 use Rattle.std.specs.Prelude.{false, None, Some, IsSomeAnd, Result, Ok, Err, min, filter, length}
 use Rattle.std.specs.Prelude.{map, sum_by, ⊤}
@@ -30,11 +30,11 @@ use Rattle.djq_engine.specs.declared.cursor.QueryId.{QueryId}
 use Rattle.djq_engine.specs.Kept.{Kept, Registered, registered_at, registered_of, TellsOfQuery}
 use Rattle.djq_engine.specs.Kept.{is_watched, readers_of, affected_of, told_at}
 
--- The log of a query tells a delta, or was lost.
+-- The log of a query has a delta, or was lost.
 abbrev pub LogTells : Kept → Registered → Delta → Type 0
 LogTells k r d = (told_at k r.id ≡ None) ⊎ (told_at k r.id ≡ Some d.changes)
 
--- The logs of queries tell deltas, one by one.
+-- The logs of queries have deltas, one by one.
 abbrev pub LogsTell : Kept → List Registered → List Delta → Type 0
 LogsTell k [] [] = ⊤
 LogsTell k (r ∷ rs) (d ∷ ds) = LogTells k r d × LogsTell k rs ds
@@ -53,8 +53,8 @@ IfOutOfMemory (accepted change) Holds = ⊤
 IfOutOfMemory (out_of_memory change) Holds = Holds change
 IfOutOfMemory unchanged Holds = ⊤
 
--- Whether what comes of a command on rows reaches the log of a query: where its change was accepted,
--- of each watched query that it outdates; where memory was refused, of each that it outdates.
+-- Whether the outcome of a command on rows reaches the log of a query: if its change was accepted, of each watched
+-- query that it outdates; if memory was refused, of each that it outdates.
 abbrev pub reaches : RowsOutcome → Registered → Bool
 reaches (accepted change) r = is_outdated change r.query && is_watched r
 reaches (out_of_memory change) r = is_outdated change r.query
@@ -79,23 +79,22 @@ pub record EngineTellsChange (old : Kept) (outcome : RowsOutcome) (new : Kept) (
     pub affected : Affects outcome old new
     pub logs : IfAccepted outcome
         (λ change. LogsTell new (affected_of old.registered change) deltas)
-    -- where memory was refused, the logs of the queries that it would outdate tell of nothing
+    -- if memory was refused, the logs of the queries that it would outdate are empty
     pub discards : IfOutOfMemory outcome (λ change. (id : QueryId)
         → IsSomeAnd (registered_at old.registered id) (λ r. is_outdated change r.query ≡ true)
         → told_at new id ≡ Some [])
-    -- the logs of all others tell what they told
+    -- the logs of all others have what they had
     pub stays : (id : QueryId) → IsSomeAnd (registered_at old.registered id)
         (λ r. reaches outcome r ≡ false) → told_at new id ≡ told_at old id
 
--- A query is enrolled last, unwatched, where it was registered.
+-- A query is enrolled last, unwatched, if it was registered.
 abbrev pub Enrols : List Registered → Query → Result QueryOutcome Refusal → List Registered → Type 0
 Enrols old q (Ok (HasRegistered most)) new =
     (id : QueryId) × (registered_at old id ≡ None)
     × (new ≡ old ++ record { id = id; query = a_query q; watchers = 0 } ∷ [])
 Enrols old q _ new = new ≡ old
 
--- Of a query that was registered no change is told yet. Else what is told of each is as before; and
--- so are the affected queries.
+-- A query that was registered has no change yet. Else the deltas are as before; and so are the affected queries.
 abbrev pub EnrolsTelling : Kept → Query → Result QueryOutcome Refusal → Kept → Type 0
 EnrolsTelling old q (Ok (HasRegistered most)) new = (new.affected ≡ old.affected)
     × IsSomeAnd (registered_of new.registered q.name) (λ r. TellsOfQuery old r.id (Some []) new)
@@ -164,15 +163,14 @@ pub record CountsLines (result : Result ℕ DoneRefusal) (old : Kept) (lines : L
         → now ≤ before + sum_by (λ r. lines_steps (old.store).relations lines n result r.query)
         (readers_of old.registered (lines_change (old.store).relations lines))
 
--- how often: a further copy of a row reaches no query; where memory is refused, rows that were taken
--- in are given back
+-- how often: a further copy of a row reaches no query; if memory is refused, rows that were inserted are deleted again
 abbrev pub add_times : Result AddOutcome Refusal → ℕ
 add_times (Ok First) = 1
 add_times (Ok (More copies)) = 0
 add_times (Err NoMemory) = 3
 add_times (Err _) = 0
 
--- how often where a row is deleted: once where its last copy goes, else not at all
+-- how often if a row is deleted: once if its last copy is, else not at all
 abbrev pub delete_times : Result DeleteOutcome Refusal → ℕ
 delete_times (Ok Last) = 1
 delete_times (Ok (Left copies)) = 0

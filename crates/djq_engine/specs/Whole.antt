@@ -6,7 +6,7 @@ use Rattle.djq_engine.specs.Places.{Watches, kept_of}
 use Rattle.djq_engine.specs.Sound.{QueriesAreSound}
 use Rattle.djq_reach.specs.Tending.{LogsCanBeShown}
 
--- what is kept for watching
+-- what is stored for watching
 abbrev pub watches_in : Parts → Watches
 watches_in p = record {
   readers = p.readers.items;

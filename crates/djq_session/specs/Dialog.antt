@@ -13,17 +13,17 @@ use Rattle.djq_session.specs.Keeps.{KeepsRoom}
 
 -- A session.
 pub record Dialog (C Q : Type 0) : Type 0 where
-  -- bytes that came and aren't run
+  -- bytes that arrived and aren't run
   pub held : Bytes
-  -- bytes that were queued and aren't taken
+  -- bytes that were queued and aren't sent
   pub pending : Bytes
-  -- how many bytes more can be queued without taking memory
+  -- how many bytes more can be queued without allocating
   pub room : ℕ
-  -- why it takes no further commands
+  -- why it accepts no further commands
   pub cause : Option EndCause
   -- in the order in which they were opened
   pub cursors : List (NamedCursor C)
-  -- what it watches, in the order in which it came
+  -- what it watches, in the order of watching
   pub watches : List Q
   -- the lines that its batch holds, if one is open
   pub batch : Option HeldTransaction
@@ -36,7 +36,7 @@ named cursors name = find (λ n. bytes_eq n.name name) cursors
 abbrev pub cursor_is_named : {C : Type 0} → Bytes → NamedCursor C → Bool
 cursor_is_named name n = bytes_eq n.name name
 
--- A session has few cursors, whose names differ, and room for its last line as long as it goes on.
+-- A session has few cursors, whose names differ, and room for its last line as long as it isn't ended.
 pub record DialogIsKept {C : Type 0} (why : Option EndCause) (spare : ℕ) (names : List (NamedCursor C)) : Type 0 where
   pub room : KeepsRoom why spare
   pub few : length names ≤ CURSORS
@@ -51,11 +51,11 @@ abbrev pub holds_no_line : Front → Bool
 holds_no_line dry = true
 holds_no_line _ = false
 
--- whether a session's next line may be run: it goes on, and holds a whole line, or a front that is too long for one
+-- whether a session's next line may be run: it isn't ended, and holds a whole line, or a front that is too long for one
 abbrev pub dialog_is_ready : {C Q : Type 0} → Dialog C Q → Bool
 dialog_is_ready d = is_none d.cause && not (holds_no_line (front_of d.held))
 
--- Nothing came, nothing is queued, and nothing is named.
+-- Nothing arrived, nothing is queued, and nothing is named.
 pub record IsNewDialog {C Q : Type 0} (d : Dialog C Q) : Type 0 where
   pub held : d.held ≡ []
   pub pending : d.pending ≡ []
@@ -90,7 +90,7 @@ abbrev pub KeepsFor : {A E : Type 0} → ℕ → ℕ → ℕ → Result A E → 
 KeepsFor count old new (Ok a) = (count + LAST_LINE_BYTES ≤ new) × (old ≤ new)
 KeepsFor count old new (Err e) = (old ≤ new) × (old < count + LAST_LINE_BYTES)
 
--- A text is queued, the cause kept, and the batch dropped, if one was open.
+-- A text is queued, the cause stored, and the batch dropped, if one was open.
 abbrev pub DialogEndsWith : {C Q : Type 0} → Dialog C Q → Dialog C Q → Bytes → EndCause → Type 0
 DialogEndsWith old new text cause = new
     ≡ record old { pending = old.pending ++ text; room = new.room; cause = Some cause; batch = None }
@@ -100,14 +100,14 @@ abbrev pub held_in_batch : Option HeldTransaction → HeldTransaction
 held_in_batch None = nothing_held
 held_in_batch (Some held) = held
 
--- The last cursor is gone, and what was kept for it is given back.
+-- The last cursor is removed, and what was stored for it is returned.
 abbrev pub PopsCursor : {C Q : Type 0} → Dialog C Q → Dialog C Q → Option C → Type 0
 PopsCursor old new None = (old.cursors ≡ []) × (new ≡ old)
 PopsCursor {C = C} old new (Some c) = (name : Bytes)
     × (old.cursors ≡ new.cursors ++ record { name = name; cursor = c } ∷ [])
     × (new ≡ record old { cursors = new.cursors })
 
--- The last watch is gone, and is given back.
+-- The last watch is removed, and is returned.
 abbrev pub PopsWatch : {C Q : Type 0} → Dialog C Q → Dialog C Q → Option Q → Type 0
 PopsWatch old new None = (old.watches ≡ []) × (new ≡ old)
 PopsWatch old new (Some q) = (old.watches ≡ new.watches ++ q ∷ []) × (new ≡ record old { watches = new.watches })

@@ -10,7 +10,7 @@ use Rattle.djq_store_spec.specs.Asking.{Tells, listed_types, misfit}
 use Rattle.djq_live_query.specs.Live.{Live}
 use Rattle.djq_live_query.specs.Member.{queries_at}
 
--- Whether a tuple is an answer of what is registered is told, or why it doesn't suit its answers.
+-- Whether a tuple is an answer of what is registered is returned, or why it doesn't suit its answers.
 abbrev pub TellsMembership : List Relation → Listed → Tuple → Result Bool Refusal → Type 0
 TellsMembership relations q t result = Answers (misfit (listed_types relations (Some q)) t) result
     (λ yes. Tells (AnswersOf relations q t) yes) (OutOfMemoryWhere ⊥)

@@ -17,7 +17,7 @@ Explains (a_query q) (Members count) = ⊥
 Explains (a_union name qs) (Tree lines) = ⊥
 Explains (a_union name qs) (Members count) = count ≡ length qs
 
--- The lines of a query may find no memory: it has a tree too. A union's members take none.
+-- The lines of a query may find no memory: it has a tree too. A union's members need none.
 abbrev pub ExplainTakesMemory : Listed → Type 0
 ExplainTakesMemory (a_query q) = HasTree (a_query q)
 ExplainTakesMemory (a_union name qs) = ⊥

@@ -1,4 +1,4 @@
--- What the unions of a store, and the affected, are behind a change of rows.
+-- The unions of a store, and the affected, after a change of rows.
 use Rattle.std.specs.Prelude.{ℕ, zero, suc, List, ◌≡◌, ◌≤◌, ◌⊎◌, Bool, true, false, Option, None, Some, is_some, Result}
 use Rattle.std.specs.Prelude.{Ok, Err, if◌then◌else◌, filter, length, map, sum_by, vec_capacity, ⊤}
 use Rattle.std.specs.List.{list_any}
@@ -20,13 +20,13 @@ use Rattle.djq_store.specs.Affecting.{is_reached_id, is_affected}
 use Rattle.djq_store.specs.Places.{joined_at}
 use Rattle.djq_store.specs.Settling.{SettlesAt, is_settled, settling_steps}
 
--- what holds where rows changed
+-- what holds if rows changed
 abbrev pub IfMade : Option Turn → Type 0 → Type 0
 IfMade None Holds = ⊤
 IfMade (Some Lacked) Holds = ⊤
 IfMade (Some turn) Holds = Holds
 
--- The affected are those of the order that the engine's change affects, or unions of them. Where no union
+-- The affected are those of the order that the engine's change affects, or unions of them. If no union
 -- reads a relation that changed, they are the engine's, which are in that order.
 abbrev pub AffectsAll : List Bytes → Parts → Parts → Type 0
 AffectsAll relations old new =
@@ -34,12 +34,12 @@ AffectsAll relations old new =
     ⊎ ((list_any (is_settled old.engine relations) old.unions.items ≡ false)
     × (new.affected.items ≡ map (λ id. id.at) old.engine.affected))
 
--- Where the change was made, they are known; where memory was refused, they stay.
+-- If the change was made, they are recorded; if memory was refused, they stay.
 abbrev pub FollowsAffected : Turn → List Bytes → Parts → Parts → Type 0
 FollowsAffected Lacked relations old new = new.affected ≡ old.affected
 FollowsAffected _ relations old new = AffectsAll relations old new
 
--- The unions are settled behind a change of these relations, and nothing else changes.
+-- The unions are updated after a change of these relations, and nothing else changes.
 pub record UnionsFollow (relations : List Bytes) (turn : Turn) (old new : Parts) : Type 0 where
   pub engine : new.engine ≡ old.engine
   pub long : length new.unions.items ≡ length old.unions.items
@@ -50,7 +50,7 @@ pub record UnionsFollow (relations : List Bytes) (turn : Turn) (old new : Parts)
   pub affected : FollowsAffected turn relations old new
   pub room : vec_capacity old.affected ≤ vec_capacity new.affected
 
--- Where there was no change, nothing does.
+-- If there was no change, nothing does.
 abbrev pub FollowsBy : Option Turn → List Bytes → Parts → Parts → Type 0
 FollowsBy None relations old new = new ≡ old
 FollowsBy (Some turn) relations old new = UnionsFollow relations turn old new
@@ -60,14 +60,14 @@ abbrev pub following_steps : Option Turn → Kept → List Bytes → List (Optio
 following_steps None e relations us = 0
 following_steps (Some turn) e relations us = sum_by (settling_steps e relations turn) us
 
--- how rows changed, by what came of a command
+-- how rows changed, by the outcome of a command
 abbrev pub add_turn : Result AddOutcome Refusal → Option Turn
 add_turn (Ok First) = Some Changed
 add_turn (Ok (More copies)) = None
 add_turn (Err NoMemory) = Some Lacked
 add_turn (Err _) = None
 
--- how rows changed, by what came of a row that is deleted
+-- how rows changed, by the outcome of a deletion
 abbrev pub delete_turn : Result DeleteOutcome Refusal → Option Turn
 delete_turn (Ok Last) = Some Changed
 delete_turn (Ok (Left copies)) = None

@@ -24,7 +24,7 @@ pub record OpensUnion (cursor : ℕ) (u v : United) : Type 0 where
   pub opens : UnionOpensIn u cursor v
   pub united : (qs : List (Option Live)) → IsUnited qs u → IsUnited qs v
 
--- A cursor goes out of its slot.
+-- A cursor is removed from its slot.
 pub record ClosesUnion (cursor : ℕ) (u v : United) : Type 0 where
   pub closes : v ≡ record u { cursors = slice_set u.cursors cursor None }
   pub united : (qs : List (Option Live)) → IsUnited qs u → IsUnited qs v
@@ -45,7 +45,7 @@ pub record ReadsUnion (qs : List (Option Live)) (cursor : ℕ) (result : Next) (
   pub gives : (c : Catalog) → AreKept c qs → UnionNextGives c qs u cursor result answer v
   pub counted : now ≤ before + union_read_steps result (union_of qs u)
 
--- Whether an answer is left is told.
+-- Whether an answer is left is returned.
 pub record TellsUnionMore (qs : List (Option Live)) (cursor : ℕ) (result : Bool) (before now : ℕ)
     (u v : United) : Type 0 where
   pub gives : (c : Catalog) → AreKept c qs → UnionMoreGives c qs u cursor result v

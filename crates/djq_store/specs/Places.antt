@@ -15,12 +15,12 @@ use Rattle.djq_united.specs.United.{United, members_in, first_of_members, union_
 use Rattle.djq_store.specs.declared.joined.Joined.{Joined}
 use Rattle.djq_store.specs.declared.parts.Parts.{Parts}
 
--- What stands in places: in those of queries, which are so many, and behind them in those of unions.
+-- The content of places: of those of queries, which are so many, and after them of those of unions.
 unfoldable pub vacant : {A : Type 0} → ℕ → List (Option A)
 vacant zero = []
 vacant (suc n) = None ∷ vacant n
 
--- what stands in the places of queries, filled up to as many as may be, and then in those of unions
+-- the content of the places of queries, filled up to as many as may be, and then of those of unions
 unfoldable pub in_places : {A : Type 0} → List (Option A) → List (Option A) → List (Option A)
 in_places queries unions = queries ++ (vacant (QUERIES - length queries) ++ unions)
 
@@ -28,7 +28,7 @@ in_places queries unions = queries ++ (vacant (QUERIES - length queries) ++ unio
 abbrev pub by_place : {A : Type 0} → ℕ → (ℕ → A) → (ℕ → A) → A
 by_place at of_query of_union = if nat_lt at QUERIES then of_query at else of_union (at - QUERIES)
 
--- the union in a slot, where there is one
+-- the union in a slot, if there is one
 abbrev pub joined_at : List (Option Joined) → ℕ → Option Joined
 joined_at us k = slice_index_or us k None
 
@@ -90,7 +90,7 @@ union_cursor_of texts gs id None = None
 union_cursor_of texts gs id (Some j) =
     option_map (held_union_cursor texts gs j.union id) (slot_at j.union.cursors id.cursor)
 
--- what the log of a union tells
+-- the delta that the log of a union has
 abbrev pub told_of_union : List Bytes → List (Option Live) → Option Joined → Option (List Change)
 told_of_union texts gs None = None
 told_of_union texts gs (Some j) = told_of texts (first_member gs j.union) j.log

@@ -9,8 +9,8 @@ use Rattle.djq_live_query.specs.declared.listing.Next.TheVariants.{Given, End, S
 use Rattle.djq_engine.specs.declared.cursor.CursorId.{CursorId}
 use Rattle.djq_engine.specs.Kept.{Kept, HeldCursor, AnswerIs, IsShown, MovesCursor, held_at, read_steps}
 
--- What a read of a cursor gives: one answer that is left; the end exactly where none is; or what made
--- it stale. The answer can be shown by the query, of a union by its first member.
+-- What a read of a cursor gives: one answer that is left; the end if and only if none is; or what
+-- made it stale. The answer can be shown by the query, of a union by its first member.
 abbrev pub NextGivesAt : Kept → HeldCursor → Listed → Position → Next → List ℕ → Kept → Type 0
 NextGivesAt old h q (open_at given ended) Given answer new =
     (t : Tuple) × IsLeft (AnswersOf (old.store).relations q) given t

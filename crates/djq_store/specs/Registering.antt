@@ -15,7 +15,7 @@ abbrev pub is_registered : Result QueryOutcome Refusal → Bool
 is_registered (Ok (HasRegistered most)) = true
 is_registered _ = false
 
--- A union of the queries under these names is enrolled last, unwatched, where it was registered.
+-- A union of the queries under these names is enrolled last, unwatched, if it was registered.
 abbrev pub EnrolsUnion : Kept → Bytes → List Bytes → Result ℕ Refusal → Kept → Type 0
 EnrolsUnion old name members (Ok most) new =
     (id : QueryId) × (qs : List Query) × AreUnder (old.store).queries members qs
@@ -23,8 +23,7 @@ EnrolsUnion old name members (Ok most) new =
     × (new.registered ≡ old.registered ++ record { id = id; query = a_union name qs; watchers = 0 } ∷ [])
 EnrolsUnion old name members (Err r) new = new.registered ≡ old.registered
 
--- Of a union that was registered no change is told yet. Else what is told of each is as before; and so are
--- the affected.
+-- A union that was registered has no change yet. Else the deltas are as before; and so are the affected.
 abbrev pub EnrolsUnionTelling : Kept → Bytes → Result ℕ Refusal → Kept → Type 0
 EnrolsUnionTelling old name (Ok most) new = (new.affected ≡ old.affected)
     × IsSomeAnd (registered_of new.registered name) (λ r. TellsOfQuery old r.id (Some []) new)

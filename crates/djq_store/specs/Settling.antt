@@ -50,17 +50,17 @@ outdated_union None n u = u
 outdated_union (Some relation) n u =
     record u { cursors = outdated_slots relation n u.cursors }
 
--- A log tells how the answers of a union changed, unless that is lost.
+-- A log has how the answers of a union changed, unless that is lost.
 abbrev pub TellsUnionLog : Kept → List Bytes → Joined → Log → Type 0
 TellsUnionLog e relations j log = log.lost ≡ false → AtFirstMember e j.union.members
     (TellUnion e j.union.members (touched_in e.places relations j.union.members) log.lines)
 
--- It does so where a session watches the union; else it stays.
+-- It does if a session watches the union; else it stays.
 abbrev pub TellsWatched : Bool → Kept → List Bytes → Joined → Log → Type 0
 TellsWatched true e relations j log = TellsUnionLog e relations j log
 TellsWatched false e relations j log = log ≡ j.log
 
--- The log of a union that a change outdates tells of nothing where memory was refused.
+-- The log of a union that a change outdates is empty if memory was refused.
 abbrev pub SettlesLog : Kept → List Bytes → Turn → Joined → Log → Type 0
 SettlesLog e relations Changed j log = TellsWatched (nat_lt 0 j.watchers) e relations j log
 SettlesLog e relations Lacked j log = (log.lines ≡ []) × (log.lost ≡ false)
@@ -70,17 +70,17 @@ abbrev pub SettlesLogBy : Option Bytes → Kept → List Bytes → Turn → Join
 SettlesLogBy None e relations turn j log = log ≡ j.log
 SettlesLogBy (Some relation) e relations turn j log = SettlesLog e relations turn j log
 
--- A union behind a change of these relations, of this number.
+-- A union after a change of these relations, of this number.
 pub record Settles (e : Kept) (relations : List Bytes) (n : ℕ) (turn : Turn) (j k : Joined) : Type 0 where
   pub union : k.union ≡ outdated_union (first_read_by e.places relations j.union.members) n j.union
-  -- outdated, it goes with whatever tables its members have
+  -- outdated, it fits whatever tables its members have
   pub united : is_some (first_read_by e.places relations j.union.members) ≡ true
       → (old new : List (Option Live)) → IsUnited old j.union
       → KeepMembers HasSameShape old new j.union.members → IsUnited new k.union
   pub watchers : k.watchers ≡ j.watchers
   pub log : SettlesLogBy (first_read_by e.places relations j.union.members) e relations turn j k.log
 
--- A slot behind such a change: one without a union stays so, and the union of another settles.
+-- A slot after such a change: one without a union stays so, and the union of another is updated.
 abbrev pub SettlesAt : Kept → List Bytes → ℕ → Turn → Option Joined → Option Joined → Type 0
 SettlesAt e relations n turn None new = new ≡ None
 SettlesAt e relations n turn (Some j) None = ⊥
@@ -93,17 +93,17 @@ is_settled e relations (Some j) = is_some (first_read_by e.places relations j.un
 
 -- ---- what it counts
 
--- the tests that are asked of the members for what is told of them
+-- the tests that are asked of the members for their deltas
 abbrev pub asking_steps : Kept → List Bytes → List ℕ → ℕ
 asking_steps e relations members =
     sum_by (count_in e) (touched_in e.places relations members) * atoms_of (members_at e members)
 
--- what telling of a union counts at most
+-- what listing the delta of a union counts at most
 abbrev pub telling_steps : Kept → List Bytes → Turn → Joined → ℕ
 telling_steps e relations Lacked j = 0
 telling_steps e relations Changed j = if nat_lt 0 j.watchers then asking_steps e relations j.union.members else 0
 
--- what the union in a slot counts, where it is outdated
+-- what the union in a slot counts, if it is outdated
 abbrev pub settling_steps : Kept → List Bytes → Turn → Option Joined → ℕ
 settling_steps e relations turn None = 0
 settling_steps e relations turn (Some j) =

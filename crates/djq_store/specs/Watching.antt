@@ -1,4 +1,4 @@
--- What a store says of the queries and unions that sessions watch.
+-- What a store has of the queries and unions that sessions watch.
 use Rattle.std.specs.Prelude.{ℕ, List, [], ◌≡◌, ◌≤◌, ◌+◌, Bool, true, false, Option, None, Some, IsSomeAnd}
 use Rattle.djq_store_spec.specs.Changes.{RowsChange, RowsOutcome, tried, is_outdated}
 use Rattle.djq_store_spec.specs.DeltaCost.{Delta, ListsDeltas, deltas_steps}
@@ -20,11 +20,11 @@ pub record TellsChange (old : Kept) (outcome : RowsOutcome) (new : Kept) (before
     pub affected : Affects outcome old new
     pub logs : IfAccepted outcome
         (λ change. LogsTell new (affected_of old.registered change) deltas)
-    -- where memory was refused, the logs of what it would outdate tell of nothing
+    -- if memory was refused, the logs of what it would outdate are empty
     pub discards : IfOutOfMemory outcome (λ change. (id : QueryId)
         → IsSomeAnd (registered_at old.registered id) (λ r. is_outdated change r.query ≡ true)
         → told_at new id ≡ Some [])
-    -- the logs of what it doesn't outdate tell what they told; of a query that it outdates and that no session watches
-    -- nothing is said: its log may tell for a union
+    -- the logs of what it doesn't outdate have what they had; of a query that it outdates and that no session watches
+    -- nothing is stated: its log may have a delta for a union
     pub stays : (id : QueryId) → IsSomeAnd (registered_at old.registered id)
         (λ r. is_reached (tried outcome) r ≡ false) → told_at new id ≡ told_at old id

@@ -1,4 +1,4 @@
--- What holds of what a store keeps, between any two calls.
+-- What holds of the parts of a store, between any two calls.
 use Rattle.std.specs.Prelude.{ℕ, List, ◌≡◌, ◌+◌, ◌≤◌, ◌&&◌, nat_lt, Bool, true, false, Option, None}
 use Rattle.std.specs.Prelude.{Some, is_some, IsSomeAnd, All, count_by, filter, length, map}
 use Rattle.std.specs.Prelude.{slice_index_or, vec_capacity}
@@ -21,14 +21,14 @@ abbrev pub wants : ℕ → Option Joined → Bool
 wants at None = false
 wants at (Some j) = nat_lt 0 j.watchers && is_reader j.union.members at
 
--- What the log of a union tells can be shown by its first member.
+-- What the log of a union has can be shown by its first member.
 abbrev pub IsShownByFirst : Kept → Joined → Type 0
 IsShownByFirst e j = j.log.lost ≡ false → IsSomeAnd (first_member e.places j.union)
     (λ l. All (λ n. IsShowable (e.store).texts l n.answer) j.log.lines)
 
--- Each union is one of queries that are registered, its cursors can go on, and what its log tells can be
--- shown. The order has each place where something is registered once, no more than there may be, and the
--- queries in the order of the engine. Names differ.
+-- Each union is one of queries that are registered, its cursors can continue, and what its log has can be
+-- shown. The order has each place with something registered once, no more than there may be, and the queries
+-- in the order of the engine. Names differ.
 pub record IsListed (e : Kept) (us : List (Option Joined)) (order : List ℕ) : Type 0 where
   pub united : (k : ℕ) (j : Joined) → joined_at us k ≡ Some j → IsUnited e.places j.union
   pub shown : (k : ℕ) (j : Joined) → joined_at us k ≡ Some j → IsShownByFirst e j
