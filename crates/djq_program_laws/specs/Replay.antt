@@ -68,7 +68,7 @@ ServedWhole _ = Unit {0}
 -- was served from what they gave on, until it was over, a session sent `stop`, or the log failed: by
 -- moves that are a run of the join machine, which counted no more of listings than it may cost, with
 -- each session sent what is its, and each turn a round of its own. What the run logs is in the log. The hub
--- shows what is left of its turns, so each turn that was made is the next of these. At the end it shows this past.
+-- shows what is left of its turns, so each turn that was read is the next of these. At the end it shows this past.
 pub record Plays (log : Option LogSeen) (turns : List Coming) (most : ℕ) (counted counted' : Counts)
     (past : Option (List Told)) : Type 0 where
   pub found : List Bytes

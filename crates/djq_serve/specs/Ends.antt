@@ -21,7 +21,7 @@ use Rattle.djq_serve.specs.Server.{Server, Move, MakesMove, waiting, closing, se
 use Rattle.djq_serve.specs.Goes.{seen, Goes}
 use Rattle.djq_serve.specs.Fair.{RunsFairly, LeavesNoLine, TakesSingleTurns}
 
--- All turns were made, or fewer, by the answer.
+-- All turns were read, or fewer, by the answer.
 abbrev pub TurnsTaken : Served → ℕ → ℕ → Type 0
 TurnsTaken TurnsUsed turns taken = taken ≡ turns
 TurnsTaken _ turns taken = taken ≤ turns

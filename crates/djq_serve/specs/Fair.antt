@@ -38,7 +38,7 @@ LeavesNoLine most old moves new = (before later : List Move) (at : Server)
     → moves ≡ before ++ later → Walk (MakesMove most) old before at → Walk (MakesMove most) at later new
     → at.phase ≡ waiting → (t : ℕ) → may_run at.state t ≡ false
 
--- **If a round has one turn at most** each is a round of its own: it is made as a round begins, and not
+-- **If a round has one turn at most** each is a round of its own: it is read as a round begins, and not
 -- before all that the one before it brought was run and offered.
 abbrev pub TakesSingleTurns : ℕ → Server → List Move → Type 0
 TakesSingleTurns most old moves = most ≤ 1 → (before later : List Move) (m : Move) (at next : Server)

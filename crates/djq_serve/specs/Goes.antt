@@ -12,13 +12,13 @@ use Rattle.djq_serve.specs.Told.{Shown, HubTells, turns_in}
 use Rattle.djq_serve.specs.Server.{Server, Move, MakesMove, all_told}
 
 -- All that is seen of the server beside its machine and its log: what the hub shows, what was counted, and
--- how many turns were made.
+-- how many turns were read.
 pub record Seen : Type 0 where
   pub hub : Shown
   pub counted : Counts
   pub turns : ℕ
 
--- what is seen if the hub shows this, this was counted, and so many turns were made
+-- what is seen if the hub shows this, this was counted, and so many turns were read
 abbrev pub seen : Shown → Counts → ℕ → Seen
 seen hub counted turns = record { hub = hub; counted = counted; turns = turns }
 

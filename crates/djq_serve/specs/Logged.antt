@@ -82,7 +82,7 @@ IsClosed _ = ⊥
 -- **What isn't logged isn't answered.** The last group is of the lines that the steps of the last commit log,
 -- and the log had been handed all others before. From the first step of this commit on the hub is asked for
 -- nothing but to close sessions, and after its last step the machine makes none but by these. So nothing that
--- any of its steps queued is sent, of those that log nothing neither; no turn is made and no line is run after
+-- any of its steps queued is sent, of those that log nothing neither; no turn is read and no line is run after
 -- it.
 pub record Unanswered (last : Group) (moves : List Move) : Type 0 where
   pub before : List Move

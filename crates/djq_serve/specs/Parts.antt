@@ -58,7 +58,7 @@ after_turn left (Ends s) = running 0 0 [] (input_over s)
 after_turn left HubOver = running 0 0 [] no_turn
 after_turn left Failed = closing HubFault
 
--- A turn was made, of which this is the rest.
+-- A turn was read, of which this is the rest.
 pub record TakesOne (rest : Rest) (hub : Shown) (old : State) (hub' : Shown) (new : State) : Type 0 where
   pub first : (most : ℕ) (counted : Counts) (turns : ℕ) (log : LogPlace)
       → GoesLogging most (seen hub counted turns) (server old waiting) log
@@ -74,7 +74,7 @@ after_turns (Ends s) = running 0 0 [] (input_over s)
 after_turns HubOver = running 0 0 [] no_turn
 after_turns Failed = closing HubFault
 
--- The turns of a round were made, at most so many.
+-- The turns of a round were read, at most so many.
 pub record Gathers (limit taken : ℕ) (rest : Rest) (hub : Shown) (old : State) (hub' : Shown) (new : State) : Type 0
   where
     pub goes : (most : ℕ) → limit ≤ most → (counted : Counts) (turns : ℕ) (log : LogPlace)
@@ -127,7 +127,7 @@ pub record FinishesRound (result : Option Served) (rest : Rest) (hub : Shown) (o
       → GoesLogging most (seen hub counted turns) (server old (running from count groups (rest_to_last rest))) log
       (seen hub' counted turns) (server new (phase_of result)) log'
 
--- A round whose turns were made is ended.
+-- A round whose turns were read is ended.
 pub record EndsRoundBy (result : Option Served) (rest : Rest) (hub : Shown) (counted : Counts) (old : State)
     (log : LogPlace) (hub' : Shown) (counted' : Counts) (new : State) (log' : LogPlace) : Type 0 where
   pub goes : (most turns : ℕ)

@@ -46,9 +46,9 @@ pub data Next : Type 0 where
 
 -- The server's place.
 pub data Phase : Type 0 where
-  -- it makes the first turn of a round
+  -- it reads the first turn of a round
   waiting : Phase
-  -- it makes a further turn of the round, at most so many, or runs the lines that the turns brought
+  -- it reads a further turn of the round, at most so many, or runs the lines that the turns brought
   gathering : ℕ → Phase
   -- it runs a line: of the first session of at least this id that has one, or else of the first of all.
   -- In this commit so many lines were run, and they logged these groups
@@ -140,7 +140,7 @@ Brings left HubOver piece old more done new next = Stays old done new × (more �
 Brings left Failed piece old more done new next = Stays old done new × (more ≡ [])
     × (next ≡ closing HubFault)
 
--- A turn is made, after which so many of the round may follow.
+-- A turn is read, after which so many of the round may follow.
 abbrev pub TakesTurn : ℕ → State → Move → Server → Type 0
 TakesTurn left old m new = (turn : Turn) × (piece : Bytes) × (more : List Told)
     × (m.told ≡ Turning turn piece ∷ more) × (m.logged ≡ [])

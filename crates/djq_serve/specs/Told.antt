@@ -87,6 +87,6 @@ abbrev pub turn_in : Told → ℕ
 turn_in (Turning turn piece) = 1
 turn_in _ = 0
 
--- how many turns were made
+-- how many turns were read
 abbrev pub turns_in : List Told → ℕ
 turns_in told = sum_by turn_in told

@@ -18,7 +18,7 @@ pub(crate) struct Gathered {
     pub(crate) rest: Rest,
 }
 
-/// Makes the turns of a round: one, and then further ones while one is at hand, up to the limit.
+/// Reads the turns of a round: one, and then further ones while one is at hand, up to the limit.
 /// The end of a session's input, and of the hub, end it.
 pub(crate) fn gather<M: Machine, H: Hub>(
     machine: &mut M,
@@ -47,7 +47,7 @@ pub(crate) fn gather<M: Machine, H: Hub>(
     Gathered { taken, rest }
 }
 
-/// Makes a turn of the hub, and feeds the machine what it brings.
+/// Reads a turn of the hub, and feeds the machine what it brings.
 fn take_turn<M: Machine, H: Hub>(machine: &mut M, hub: &mut H, buffer: &mut [u8]) -> Rest
     requires room { length buffer.old ≡ READ_BYTES }
     requires agrees { Agrees (M.state machine.old) (H.ids hub.old) }

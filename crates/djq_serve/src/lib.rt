@@ -1,6 +1,6 @@
 //! The loop of `djq serve` and `djq replay`: many sessions of a join machine, over a hub.
 //!
-//! [`serve`] works in rounds. A round makes a turn of the hub, which may wait, and then further ones while one is
+//! [`serve`] works in rounds. A round reads a turn of the hub, which may wait, and then further ones while one is
 //! at hand. What they bring is fed to the machine: a session that opens is admitted, and bytes of a session are
 //! held. Then the lines that the sessions have are run, one of each session in turn, and then what is pending for
 //! the open sessions is sent. It is generic in the machine and the hub, so it is proved from their contracts alone.
@@ -45,7 +45,7 @@
 //! `specs/Fair.antt`). What a log contains of them is in `specs/Logged.antt`, and also that a line that isn't
 //! logged isn't answered.
 //!
-//! How it works inside: `gathering` makes the turns of a round, `running` runs its lines, `committing` logs them
+//! How it works inside: `gathering` reads the turns of a round, `running` runs its lines, `committing` logs them
 //! and flushes, `flushing` sends to sessions and closes them, `finishing` ends the round, and `serving` serves
 //! rounds and closes what is left.
 #![tactic(auto)]

@@ -22,9 +22,9 @@ use djq_log::Log;
 use djq_machine::Machine;
 
 /// Serves the sessions of a hub in rounds, until a session sends `stop`, nothing more will arrive, this many
-/// turns were made, or the hub fails. Then each session that is open is closed.
+/// turns were read, or the hub fails. Then each session that is open is closed.
 ///
-/// `turns` is how many turns are made at most, and `most` how many in a round. The hub has the sessions of the
+/// `turns` is how many turns are read at most, and `most` how many in a round. The hub has the sessions of the
 /// machine and no others, as when neither has opened one. The buffer has as many bytes as are read at a time.
 /// Nothing is allocated but by the machine and the hub.
 pub fn serve<M: Machine, H: Hub, L: Ledgers>(
