@@ -1,7 +1,7 @@
-//! A join query server, as a program: `djq run` serves one session from standard input to standard output, `djq
-//! serve ADDR` the sessions that connect by TCP, `djq replay` those of a schedule, and `djq gen N SEED` that of a
-//! generated load, and `djq mirror Q` prints the answers that a session was sent. With `--log PATH` the second and
-//! the third begin with what the lines of that file restore, and log what changes that.
+//! A join query server, as a program: `djq run` serves one session from standard input to standard output, and
+//! `djq serve ADDR` the sessions that connect by TCP, `djq replay` those of a schedule, and `djq gen N SEED` that
+//! of a generated load, and `djq mirror Q` prints the answers that a session was sent. With `--log PATH` the
+//! second and the third begin with what the lines of that file restore, and log what changes that.
 //!
 //! `main` makes the real source, sink, hub and disk, of which the sink and the hub note their calls for the
 //! proofs, and calls [`run_program`], which is the program over any of them.

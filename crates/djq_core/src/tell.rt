@@ -106,9 +106,9 @@ fn tell_watcher(
     queued.count(session);
 }
 
-/// A delta is sent to all sessions that watch its query. It is printed once. The query is looked for at
-/// a place of what a session watches first, and the answer is the one after its last place:
-/// queries are published in order of registration, in which most are watched too.
+/// A delta is sent to all sessions that watch its query. It is printed once. In what a session watches the
+/// query is looked for at the place `near` first, and the place after its last one is returned: queries are
+/// published in order of registration, in which most are watched too.
 fn tell_query(
     engine: &mut Store,
     sessions: &mut Sessions,
@@ -172,7 +172,7 @@ fn tell_affected(
     }
 }
 
-/// The same, if somebody watches one.
+/// Publishes them, if somebody watches one.
 fn tell_watched(
     engine: &mut Store,
     sessions: &mut Sessions,

@@ -33,12 +33,12 @@
 //! ```
 //!
 //! Inside, `parts` has what is stored side by side, and each call is a few lines over it. A change of
-//! rows is made in `judge`, whether the row may be added or deleted, which changes nothing; `change`,
-//! the catalog first; and djq_reach, the queries that read the relation, one after another. If one of
-//! them finds no memory, the row is removed again from those before it, and from the catalog. The lines
-//! of a transaction are passed to djq_transaction, which judges them and changes the catalog;
-//! djq_queries, the queries that read a relation of which rows are inserted or deleted; and
-//! `outdating`, the cursors and the affected queries, once for all lines.
+//! rows passes `judge`, which decides whether the row may be added or deleted, and changes nothing;
+//! `change`, which changes the catalog first; and djq_reach, which changes the queries that read the
+//! relation, one after another. If one of them finds no memory, the row is removed again from those
+//! before it, and from the catalog. The lines of a transaction are passed to djq_transaction, which
+//! judges them and changes the catalog; djq_queries, the queries that read a relation of which rows are
+//! inserted or deleted; and `outdating`, the cursors and the affected queries, once for all lines.
 //!
 //! A read of a cursor is bounded by the head alone, since just the free-connex queries are
 //! registered (Bagan, Durand, Grandjean, *On acyclic conjunctive queries and constant delay

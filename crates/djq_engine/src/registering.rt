@@ -35,7 +35,7 @@ fn reads(query: &Query, relation: &Name) -> bool
         .any(|atom| atom.relation == *relation)
 }
 
-/// Appends a place to a list, or doesn't.
+/// Appends a place to a list if it is to be there.
 fn join(list: &mut QueryPlaces, joins: bool, at: usize) -> Result<(), NoMem>
     ensures ok { OnOk result (list.new ≡ (if joins then list.old ++ at ∷ [] else list.old)) }
     ensures err { OnErr result (list.new ≡ list.old) }

@@ -124,8 +124,8 @@ impl Engine {
     /// known, and cursors over the relation become stale. If it was, it has a further copy: that needs no memory, is no
     /// change, and is inserted into no query.
     ///
-    /// For each atom over the relation of each query the update count rises by at most 16(m + v)(n + 1), if the query
-    /// has m atoms and v variables, holes counted in, and no relation that it reads more than n rows before; out of
+    /// For each atom over the relation of each query the update count rises by at most 16(m + v)(n + 1), with m atoms
+    /// and v variables in the query, holes counted in, and at most n rows before in each relation that it reads; out of
     /// memory by three times that. A query that is flat counts at most 16(m + v) for each, whatever the rows; out of
     /// memory twice that.
     ///

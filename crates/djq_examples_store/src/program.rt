@@ -100,8 +100,8 @@ fn answers_line_by_line_however_the_input_is_cut(rt: HostRuntime) -> Result<(), 
     Ok(())
 }
 
-/// Runs the session over a sink whose write of this number fails, and returns how many bytes it wrote; or, if the
-/// status isn't that of a failed write, a number that is never right.
+/// Runs the session over a sink whose write of this number fails, and returns how many bytes it accepted; or, if
+/// the status isn't that of a failed write, a number that is never right.
 fn written_before(rt: &HostRuntime, write: u64) -> Result<usize, Fail>
     requires { 0 < write }
 {

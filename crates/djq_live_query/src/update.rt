@@ -40,8 +40,8 @@ impl LiveQuery {
     /// are appended to the log. [`outdate`](LiveQuery::outdate) is to be called before a cursor is
     /// read.
     ///
-    /// For each atom over the relation the update count rises by at most 16(m + v)(n + 1), if the query
-    /// has m atoms and v variables, holes counted in, and no leaf more than n tuples before. If the
+    /// For each atom over the relation the update count rises by at most 16(m + v)(n + 1), with m atoms
+    /// and v variables in the query, holes counted in, and at most n tuples in each leaf before. If the
     /// query is flat, by at most 16(m + v), whatever the number of tuples.
     ///
     /// # Errors
@@ -115,10 +115,10 @@ impl LiveQuery {
     /// If the delta is wanted, the answers that all of them together added are appended to the log,
     /// each once. [`outdate`](LiveQuery::outdate) is to be called before a cursor is read.
     ///
-    /// For each atom over the relation the update count rises by at most 16(m + v)(n + k + 1), if the
-    /// query has m atoms and v variables, holes counted in, no leaf more than n tuples before, and k
-    /// rows are inserted: by no more than one row may count if so many are there. If the query is flat,
-    /// by at most 16(m + v) for each row, whatever the number of tuples.
+    /// For each atom over the relation the update count rises by at most 16(m + v)(n + k + 1), with m
+    /// atoms and v variables in the query, holes counted in, at most n tuples in each leaf before, and
+    /// k new rows: by no more than one row may count if so many are there. If the query is flat, by at
+    /// most 16(m + v) for each row, whatever the number of tuples.
     ///
     /// # Errors
     ///
@@ -235,10 +235,10 @@ impl LiveQuery {
     /// each once. It needs no memory but the log's. [`outdate`](LiveQuery::outdate) is to be called
     /// before a cursor is read.
     ///
-    /// For each atom over the relation the update count rises by at most 16(m + v)(n + 1), if the query
-    /// has m atoms and v variables, holes counted in, and no leaf more than n tuples before, however
-    /// many rows are deleted. If the query is flat, by at most 16(m + v) for each row, whatever the
-    /// number of tuples.
+    /// For each atom over the relation the update count rises by at most 16(m + v)(n + 1), with m atoms
+    /// and v variables in the query, holes counted in, and at most n tuples in each leaf before,
+    /// however many rows are deleted. If the query is flat, by at most 16(m + v) for each row, whatever
+    /// the number of tuples.
     pub fn delete_many<L: Ledgers>(
         &mut self,
         relation: RelationId,

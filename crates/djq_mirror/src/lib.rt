@@ -9,7 +9,7 @@
 //! = 1          put in
 //! = 2          put in
 //! end                                        Live
-//! + q 3        put in
+//! + q 3        inserted
 //! at q 3
 //! - q 1        removed
 //! stale c r 5                                Idle: the answers aren't known any more

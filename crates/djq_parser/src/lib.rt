@@ -10,7 +10,7 @@
 //! add edge 1 x         Syntax: x is no literal
 //! add edge 1 99999999999999999999      Range: past 64 bits
 //! next c 1001          Syntax: a count is from 1 to 1000
-//! done 99999999999     Command::Done { count: Some(4294967295) }: the last is also each larger one
+//! done 99999999999     Command::Done { count: Some(4294967295) }: larger ones are read as this
 //! ```
 //!
 //! It runs no command, and asks nothing of relations and queries: whether a relation exists and a

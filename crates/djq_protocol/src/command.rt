@@ -92,7 +92,7 @@ pub enum Command {
     /// `done [COUNT]`: the lines that are held are carried out as one change.
     Done {
         /// The number of held lines that it gives, if it gives one; at most
-        /// [`LAST_COUNT`](crate::limits::LAST_COUNT), which is also each larger one.
+        /// [`LAST_COUNT`](crate::limits::LAST_COUNT), as which each larger one is read.
         count: Option<u32>,
     },
     /// `abandon`: they are dropped.

@@ -51,7 +51,7 @@ pub const HELD: usize = 65_536;
 /// The most bytes of the lines that a batch holds.
 pub const HELD_BYTES: usize = 16_777_216;
 
-/// The number that represents each larger one of `done`. No batch holds as many lines.
+/// The number as which `done` reads each larger one. No batch holds as many lines.
 pub const LAST_COUNT: u32 = 4_294_967_295;
 
 /// The most sessions that are open at once.

@@ -63,7 +63,7 @@ fn insert_at<L: Ledgers>(
     }
 }
 
-/// Deletes a row from it, and if it is watched its log begins anew, with the answers that were removed.
+/// Deletes a row from the query in a place. If it is watched, its log begins anew, with the answers that were removed.
 fn delete_at<L: Ledgers>(
     queries: &mut Vec<Option<LiveQuery>>,
     watchers: &[u32],
@@ -97,7 +97,7 @@ fn delete_at<L: Ledgers>(
     }
 }
 
-/// Deletes a row again that was inserted into it.
+/// Deletes a row again from the query in a place.
 fn give_back_at<L: Ledgers>(
     queries: &mut Vec<Option<LiveQuery>>,
     at: usize,

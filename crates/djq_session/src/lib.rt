@@ -9,7 +9,7 @@
 //! need memory: one, or as its input ends two, of which the other reports that held lines are dropped. And
 //! a short reply is written to room that [`Session::keep`] makes before its command begins. So what a
 //! command did is always answered. An idle session holds its bytes, and besides a constant: a buffer above
-//! 16,384 bytes is given back when the last of its bytes is sent. What a batch holds is one buffer of
+//! 16,384 bytes is given back when the last of its bytes is removed. What a batch holds is one buffer of
 //! djq_transaction, and a line is copied into it from the bytes that arrived.
 //!
 //! ```text

@@ -192,7 +192,7 @@ fn place_of(conns: &[Conn], id: u64) -> Option<usize>
     search(conns, id)
 }
 
-/// The same by a search. It is a function of its own so that the usual path, of a full connection, is free of it.
+/// The same by a search. It is a function of its own so that the path of a full connection is free of it.
 #[cold]
 #[inline(never)]
 fn search(conns: &[Conn], id: u64) -> Option<usize>
