@@ -30,12 +30,12 @@ abbrev pub AnswersGo : Type 0
 AnswersGo = (before after : List Relation) (q : Listed) (changes : List Change) → HaveRows after before
     → IsDelta (AnswersOf before q) (AnswersOf after q) changes → All (λ c. c.sign ≡ Went) changes
 
--- By a row that is inserted, rows are only inserted.
+-- An insertion of a row only adds rows.
 abbrev pub RowComes : Type 0
 RowComes = (relations : List Relation) (name : Bytes) (row : Tuple)
     → HaveRows relations (row_in relations name row).after
 
--- By a row that is deleted, rows are only deleted.
+-- A deletion of a row only removes rows.
 abbrev pub RowGoes : Type 0
 RowGoes = (relations : List Relation) (name : Bytes) (row : Tuple)
     → HaveRows (row_out relations name row).after relations

@@ -57,8 +57,7 @@ less_at pending j x i z = pending i z && not ((i == j) && (z == x))
 abbrev pub less_of : Forest → (ℕ → ℕ → Bool) → ℕ → ℕ → ℕ → ℕ → Bool
 less_of f pending k y i z = pending i z && not (is_source f k y i z)
 
--- g is f once the edge j has propagated to slot x, and all that hangs on it has been propagated; what is pending besides stays
--- so
+-- g is f once the edge j has propagated to slot x, and all that hangs on it; what is pending besides stays so
 pub record HasTold (f g : Forest) (j x : ℕ) : Type 0 where
   pub same : HasSameEntries f g
   pub on : LivesOn f g

@@ -23,7 +23,7 @@ pub record IsShape (ks : List Knot) (es : List Edge) : Type 0 where
   -- what rests on another one has a higher rank, and each knot has one at most that rests on it
   pub rises : (j : ℕ) → j < length es → (nth_knot ks (lower (nth_edge es j))).rank < (nth_knot ks (upper (nth_edge es j))).rank
   pub one_upper : (i j : ℕ) → i < length es → j < length es → lower (nth_edge es i) ≡ lower (nth_edge es j) → i ≡ j
-  -- the small one has a column for each of the edge
+  -- the small one has a column for each of the edge's
   pub columns : (j : ℕ) → j < length es → length (nth_edge es j).columns ≡ (nth_knot ks (nth_edge es j).small).width
 
 -- a knot's arrays are equally long, and those of an edge have a place for each slot of its knots: they grow first, and

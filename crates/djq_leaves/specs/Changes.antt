@@ -143,21 +143,21 @@ OverLoses = (c d : Catalog) (q : Query) (n : Numbered) (ps : List Shape) (r s : 
     (cells : List (List ℕ)) (gone : List Tuple) → IsOver c q n ps r → WentAll c d at cells gone
     → EachLeafChanges (λ p old new. LosesAll p cells old new) at n ps r s → IsOver d q n ps s
 
--- A row that is added to a catalog, if it wasn't there, is inserted.
+-- Adding a row to a catalog, if it wasn't there, is an insertion.
 abbrev pub AddedCame : Type 0
 AddedCame = (c d : Catalog) (at : ℕ) (cells : List ℕ) (row : Tuple) → IsCatalog d
     → at < length c.relations → StandForRow c at cells row → d.texts ≡ c.texts
     → d.relations ≡ with_rows_at c.relations at (with_row (counted_at c.relations at) row)
     → Came c d at cells row
 
--- A row whose copies are deleted from a catalog is deleted.
+-- Deleting all copies of a row from a catalog is a deletion.
 abbrev pub DeletedWent : Type 0
 DeletedWent = (c d : Catalog) (at : ℕ) (cells : List ℕ) (row : Tuple) → IsCatalog d
     → at < length c.relations → StandForRow c at cells row → d.texts ≡ c.texts
     → d.relations ≡ with_rows_at c.relations at (without_copies (counted_at c.relations at) row)
     → Went c d at cells row
 
--- A row that is deleted after others is deleted together with them.
+-- A deletion after others of the relation is one of them all.
 abbrev pub FurtherWent : Type 0
 FurtherWent = (c d e : Catalog) (at : ℕ) (cells : List (List ℕ)) (gone : List Tuple) (k : List ℕ)
     (row : Tuple) → at < length c.relations → e.texts ≡ d.texts → WentAll c d at cells gone

@@ -2,17 +2,17 @@
 ghost use Rattle.djq_leaves.specs.Changes.{AddedCame, DeletedWent, FurtherWent, CopiesKeepRows};
 ghost use Rattle.djq_leaves.specs.Changes.{LeafIsEmpty, LeafGains, LeafIsFilled};
 
-/// A row that a catalog added, with one copy, is inserted.
+/// Adding a row to a catalog, with one copy, is an insertion.
 pub fn added_came()
     ensures { AddedCame }
 {}
 
-/// A row that a catalog deleted, with its last copy, is deleted.
+/// Deleting a row from a catalog, with its last copy, is a deletion.
 pub fn deleted_went()
     ensures { DeletedWent }
 {}
 
-/// A row that is deleted after others of its relation is deleted together with them.
+/// A deletion after others of the relation is one of them all.
 pub fn further_went()
     ensures { FurtherWent }
 {}

@@ -14,7 +14,7 @@ pub record Spells (c : Command) (line : Bytes) : Type 0 where
   pub says : SaysCommand c tokens
   pub spelled : IsSpelling tokens line
 
--- Tokens are read as a command if and only if the grammar relates them.
+-- Tokens are read as a command if and only if they are tokens of it.
 abbrev pub CommandsAreSaid : Type 0
 CommandsAreSaid = (ts : List Token) (c : Command) → (command_in ts ≡ Some c) ↔ SaysCommand c ts
 

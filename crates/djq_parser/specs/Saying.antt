@@ -65,12 +65,12 @@ abbrev pub SaysType : ColumnType → Token → Type 0
 SaysType IntColumn t = t ≡ word (codes "int")
 SaysType TextColumn t = t ≡ word (codes "text")
 
--- an integer is written as a word that denotes it, a text by a token of its bytes
+-- an integer is written as a word that denotes it, a text as a token of its bytes
 abbrev pub SaysValue : Value → Token → Type 0
 SaysValue (Int i) t = (w : Bytes) × (t ≡ word w) × IsInteger w i
 SaysValue (Text s) t = t ≡ text s
 
--- a variable is written as its name, a hole by `_`, and a constant as a value is
+-- a variable is written as its name, a hole as `_`, and a constant as a value is
 abbrev pub SaysTerm : Term → Token → Type 0
 SaysTerm (Variable x) t = SaysName x t
 SaysTerm Hole t = t ≡ word (codes "_")

@@ -43,7 +43,7 @@ usage_line =
 -- was fed are those that were read, in order, and what was read is run and answered before the next read. What was
 -- written and then what is pending is all that it queued, in order; and if a write failed, nothing was done after
 -- it. No more was counted than it may cost. At each moment of it each open cursor had given different answers of
--- its query over the rows that were there then, and all of them if it was sent the end. And the status means
+-- its query over the rows that were there then, and all of them if it was sent the end. And the status reports
 -- exactly how far the run got.
 pub record Serves (start : State) (status : Status) (before now : Outside) : Type 0 where
   pub state : State
@@ -70,7 +70,7 @@ pub record Listens (addr : Bytes) (answer : Listened) (old new : Shown) : Type 0
 -- in rounds of at most so many turns: by moves that are a run of the join machine, which the hub records, with
 -- each session sent what is its, lines run by turns and none left for the next round. What the run logs is in the
 -- log, one group a commit, before anything of the commit is sent; and each move has the moments of the disk
--- through which it was stored. And the status means exactly why it ended.
+-- through which it was stored. And the status reports exactly why it ended.
 pub record ServesHub (log : Option LogSeen) (status : Status) (addr : Bytes) (turns : ℕ) (hub : HubSeen)
     (counted : Counts) (hub' : HubSeen) (counted' : Counts) : Type 0 where
   pub found : List Bytes

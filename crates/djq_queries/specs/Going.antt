@@ -57,7 +57,7 @@ pub record CanGoOutAll (places : List ℕ) (at : ℕ) (cells : List (List ℕ)) 
   pub goes : RowsWentOut before after at cells rows
   pub kept : AllAt places gs (λ l. IsKept before l)
 
--- Deleted rows are deleted from a query.
+-- Rows that their relation lost are deleted from a query.
 pub record LetsGoAll (at : ℕ) (cells : List (List ℕ)) (l m : Live) : Type 0 where
   pub follows : KeptAfter (λ c d rows. WentAll c d at cells rows) l m
   pub same : SameQuery l m

@@ -22,7 +22,7 @@ pub record Seen : Type 0 where
 abbrev pub seen : Shown → Counts → ℕ → Seen
 seen hub counted turns = record { hub = hub; counted = counted; turns = turns }
 
--- The count of lookups and links of listings rose in a move by as much as that has.
+-- The count of lookups and links of listings rose in a move by what the move records.
 abbrev pub ListsMove : ℕ → Move → ℕ → Type 0
 ListsMove before m now = m.listed ≡ now - before
 
@@ -63,7 +63,7 @@ pub record GoesLogging (most : ℕ) (o : Seen) (old : Server) (log : LogPlace) (
   pub goes : Goes most o old o' new
   pub logs : Walk LogsMove log goes.moves log'
 
--- so it moves, whatever was counted before, and nothing is counted, turned or logged
+-- so it moves, whatever was counted before, and nothing is counted, read or logged
 abbrev pub GoesQuietly : ℕ → Shown → Server → Shown → Server → Type 0
 GoesQuietly most hub old hub' new = (counted : Counts) (turns : ℕ) (log : LogPlace)
     → GoesLogging most (seen hub counted turns) old log (seen hub' counted turns) new log

@@ -139,7 +139,7 @@ PassesLine relations texts width old h known new = (front : List HeldLine)
     → IsNet relations texts width front old
     → IsNet relations known width (front ++ h ∷ []) new × HasItsPlace relations front texts h known
 
--- Over whatever lines a table has, they pass no further than one more.
+-- A line is refused after whatever lines a table has.
 abbrev pub RefusesLine : List Relation → List Bytes → ℕ → Net → HeldLine → List Bytes → LineRefusal → Type 0
 RefusesLine relations texts width old h known r = (front : List HeldLine)
     → IsNet relations texts width front old → StopsAtLine relations front texts h known r
