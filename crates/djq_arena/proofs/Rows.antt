@@ -6,7 +6,7 @@ use Rattle.std.proofs.lemmas.Bool.{cases_eq}
 use Rattle.std.proofs.lemmas.Nat.{and_le_r}
 use Rattle.djq_arena.specs.declared.store.Store.{Store}
 use Rattle.djq_arena.specs.Store.{cells_at, live_of, rows_in, store_rows, IsAlike, IsAppended, IsSame, HoldsSlot}
-use Rattle.djq_arena.specs.Store.{IsPrepared, IsPut, IsUnlinked, IsReleased, IsRenewed, class, hash, bucket_of_slot}
+use Rattle.djq_arena.specs.Store.{IsPrepared, IsPut, IsUnlinked, IsReleased, IsRenewed, bucket_number, hash, bucket_of_slot}
 use Rattle.djq_arena.specs.Store.{free_of, ChainsAreSound}
 use Rattle.djq_arena.specs.Rows.{Row, slots, IsRow, IsRowHeld, IsAbsent}
 use Rattle.djq_arena.specs.Chains.{IsOut}
@@ -189,16 +189,16 @@ pub record Seeking (a : Store) (u : List ℕ) (at : Option ℕ) (step : ℕ) : T
   pub room : length ahead + step ≤ a.len
 
 pub seeking : (a : Store) (u : List ℕ) (at : Option ℕ) → ChainsAreSound a
-    → class (length a.heads.items) u < length a.heads.items → at
-    ≡ link_at a.heads.items (class (length a.heads.items) u) → Seeking a u at 0
+    → bucket_number (length a.heads.items) u < length a.heads.items → at
+    ≡ link_at a.heads.items (bucket_number (length a.heads.items) u) → Seeking a u at 0
 seeking a u at h inside head =
-    let k = class (length a.heads.items) u in
+    let k = bucket_number (length a.heads.items) u in
     let b = h.store.buckets.each k inside in
     record {
       ahead = b.slots;
       chained = rw head b.chained;
       only = b.only;
-      misses = λ i out held same. held (b.all i (ap (class (length a.heads.items)) same) out);
+      misses = λ i out held same. held (b.all i (ap (bucket_number (length a.heads.items)) same) out);
       room = omega (
         arith,
         bucket_short (bucket_of_slot (length a.heads.items) a.width a.cells.items) k a.bucket.items
@@ -305,6 +305,6 @@ nearer a u i at next s here is =
       chain_is a.len a.bucket.items next f.rest (rw is f.chained) (omega (arith, s.room, long)),
     )
 
-pub class_inside : (m : ℕ) (u : List ℕ) → 0 < m → class m u < m
-unfolding class
+pub class_inside : (m : ℕ) (u : List ℕ) → 0 < m → bucket_number m u < m
+unfolding bucket_number
 class_inside m u h = omega (arith, and_le_r (hash u) (m - 1))

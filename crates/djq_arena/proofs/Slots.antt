@@ -11,7 +11,7 @@ use Rattle.djq_arena.specs.declared.store.Store.{Store}
 use Rattle.djq_arena.specs.declared.chain.Ends.{Ends}
 use Rattle.djq_arena.specs.Chains.{pair_at, IsOut, AreBelow, Agree, first_of, last_of, Linked}
 use Rattle.djq_arena.specs.Rows.{Row, SlotRows, slots, IsRowHeld, AreWideRows, AreRows}
-use Rattle.djq_arena.specs.Store.{class, cells_at, bucket_of_slot, IsStore, live_of, free_of, ChainsAreSound, rows_in}
+use Rattle.djq_arena.specs.Store.{bucket_number, cells_at, bucket_of_slot, IsStore, live_of, free_of, ChainsAreSound, rows_in}
 use Rattle.djq_arena.specs.Store.{store_rows, IsSame, IsPrepared, IsTidy}
 use Rattle.djq_arena.specs.Buckets.{AreBuckets}
 use Rattle.djq_arena.proofs.Chains.{out_front, different_out, different_here, below_front, below_back, below_here}
@@ -65,7 +65,7 @@ pub buckets_moved : (m w : ℕ) (old new : List ℕ) (bucket more heads : List (
     → AreBuckets (bucket_of_slot m w new) more heads xs
 buckets_moved m w old new bucket more heads xs b h k =
     buckets_kept (bucket_of_slot m w old) (bucket_of_slot m w new) bucket more heads xs b
-    (λ i held. ap (class m) (alike_at w old new xs i h held)) k
+    (λ i held. ap (bucket_number m) (alike_at w old new xs i h held)) k
 
 -- a new slot
 pub record Extends (a b : Store) (u : List ℕ) : Type 0 where

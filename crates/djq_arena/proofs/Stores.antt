@@ -9,7 +9,7 @@ use Rattle.djq_arena.specs.declared.chain.Ends.{Ends}
 use Rattle.djq_arena.specs.declared.store.Store.{Store}
 use Rattle.djq_arena.specs.Chains.{pair_at, last_from, first_of, last_of, Linked, Onward, IsOut, AreDistinctSlots}
 use Rattle.djq_arena.specs.Chains.{AreBelow, set_next, entered, chain_without, IsSlotBelow, Avoids}
-use Rattle.djq_arena.specs.Store.{class, cells_at, bucket_of_slot, ends_of, extended, shrunk, beside, IsStore, live_of}
+use Rattle.djq_arena.specs.Store.{bucket_number, cells_at, bucket_of_slot, ends_of, extended, shrunk, beside, IsStore, live_of}
 use Rattle.djq_arena.specs.Store.{free_of, ChainsAreSound, IsLoose, IsAppended, IsUnlinked, IsReleased, IsRenewed}
 use Rattle.djq_arena.specs.Store.{HoldsSlot, AreInBuckets, rows_in, store_rows, IsSame}
 use Rattle.djq_arena.specs.Buckets.{link_at, AreBuckets, StandsInChain, IsUnlisted}
@@ -61,7 +61,7 @@ pub record Relinks (a b : Store) (i k : ℕ) : Type 0 where
 
 link_store : (a b : Store) (xs fs : List ℕ) (i k : ℕ) → IsStore a xs fs → Relinks a b i k → IsOut i (xs ++ fs)
     → i < length a.order.items → a.len + a.spare < length a.order.items
-    → k < length a.heads.items → k ≡ class (length a.heads.items) (cells_at a.width a.cells.items i)
+    → k < length a.heads.items → k ≡ bucket_number (length a.heads.items) (cells_at a.width a.cells.items i)
     → IsStore b (xs ++ i ∷ []) fs
 link_store a b xs fs i k h r out within room inside its = record {
   live = r.live ∙ ap (extended i) h.live ∙ extended_is xs i;
@@ -103,7 +103,7 @@ link_store a b xs fs i k h r out within room inside its = record {
         (λ j away. out_swap j xs (i ∷ []) away))
 
 pub links : (a b : Store) (i k : ℕ) → ChainsAreSound a → IsLoose a i → Relinks a b i k → k < length a.heads.items → k
-    ≡ class (length a.heads.items) (cells_at a.width a.cells.items i) → IsAppended a b i
+    ≡ bucket_number (length a.heads.items) (cells_at a.width a.cells.items i) → IsAppended a b i
 links a b i k h l r inside its =
     let s = link_store a b (live_of a) (free_of a) i k h.store r l.out l.within l.room inside its in
     record {
@@ -161,7 +161,7 @@ pub record Unlinks (a b : Store) (i k : ℕ) : Type 0 where
 
 unlink_store : (a b : Store) (xs : List ℕ) (i : ℕ) (ys fs : List ℕ) (k : ℕ) → IsStore a (xs ++ i ∷ ys) fs
     → Unlinks a b i k
-    → k < length a.heads.items → k ≡ class (length a.heads.items) (cells_at a.width a.cells.items i)
+    → k < length a.heads.items → k ≡ bucket_number (length a.heads.items) (cells_at a.width a.cells.items i)
     → IsStore b (xs ++ ys) fs
 unlink_store a b xs i ys fs k h u inside its = record {
   live = u.live ∙ ap (shrunk (pair_at a.order.items i)) h.live ∙ shrunk_is (pair_at a.order.items i) xs i ys prev next;
@@ -229,7 +229,7 @@ unlink_store a b xs i ys fs k h u inside its = record {
 
 pub unlinks : (a b : Store) (i k : ℕ) → ChainsAreSound a → HoldsSlot (live_of a) i → Unlinks a b i k
     → k < length a.heads.items → k
-    ≡ class (length a.heads.items) (cells_at a.width a.cells.items i) → IsUnlinked a b i
+    ≡ bucket_number (length a.heads.items) (cells_at a.width a.cells.items i) → IsUnlinked a b i
 unlinks a b i k h held u inside its =
     let was = subst (λ xs. IsStore a xs (free_of a)) held.is h.store in
     let s = unlink_store a b held.front i held.back (free_of a) k was u inside its in
@@ -337,7 +337,7 @@ releases a b i h l r =
 
 -- a held slot stands in its bucket
 pub held_in_bucket : (a : Store) (i k : ℕ) → ChainsAreSound a → HoldsSlot (live_of a) i → k < length a.heads.items → k
-    ≡ class (length a.heads.items) (cells_at a.width a.cells.items i)
+    ≡ bucket_number (length a.heads.items) (cells_at a.width a.cells.items i)
     → StandsInChain a.bucket.items (link_at a.heads.items k) i
 held_in_bucket a i k h held inside its =
     bucket_stands (bucket_of_slot (length a.heads.items) a.width a.cells.items) k a.bucket.items
@@ -514,7 +514,7 @@ done_before j i xs done below out =
 -- slot j comes into bucket k
 pub listed_more : (w : ℕ) (cells : List ℕ) (links heads : List (Option ℕ)) (j k : ℕ)
     → AreInBuckets w cells links heads j
-    → j < length links → k < length heads → k ≡ class (length heads) (cells_at w cells j)
+    → j < length links → k < length heads → k ≡ bucket_number (length heads) (cells_at w cells j)
     → AreInBuckets w cells (slice_set links j (link_at heads k)) (slice_set heads k (Some j)) (j + 1)
 listed_more w cells links heads j k r within inside its = record {
   slots = j ∷ r.slots;

@@ -40,8 +40,8 @@ unfoldable pub hash : List ℕ → ℕ
 hash u = fold mixed 0 u
 
 -- a row's bucket, of m
-unfoldable pub class : ℕ → List ℕ → ℕ
-class m u = bit_and (hash u) (m - 1)
+unfoldable pub bucket_number : ℕ → List ℕ → ℕ
+bucket_number m u = bit_and (hash u) (m - 1)
 
 -- the cells in slot i
 unfoldable pub cells_at : ℕ → List ℕ → ℕ → List ℕ
@@ -49,7 +49,7 @@ cells_at width cells i = take width (drop (i * width) cells)
 
 -- the bucket that a slot falls into by its cells, of m
 abbrev pub bucket_of_slot : ℕ → ℕ → List ℕ → ℕ → ℕ
-bucket_of_slot m width cells i = class m (cells_at width cells i)
+bucket_of_slot m width cells i = bucket_number m (cells_at width cells i)
 
 -- the rows that lie in these slots
 unfoldable pub rows_in : ℕ → List ℕ → List ℕ → List Row

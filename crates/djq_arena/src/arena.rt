@@ -8,8 +8,8 @@ ghost use Rattle.djq_arena.specs.declared.link.TheConstants.{SLOTS};
 use crate::chain::{Ends, pair_of};
 use crate::link::Link;
 use crate::store::{
-    Store, bucket_in, buckets, cells_of, find_any, find_from, hash_of, link, put_fresh, release,
-    renew, reuse, unlink,
+    Store, bucket_in, buckets, cells_of, find_any, find_from, hash_of, link, move_to_end,
+    put_fresh, release, reuse, unlink,
 };
 use std::alloc::{AllocError, Global};
 use std::marker::Model;
@@ -178,14 +178,14 @@ impl Arena {
     }
 
     /// Moves the row in a slot to the end of the order. Its slot stays the same.
-    pub fn renew(&mut self, slot: u32)
+    pub fn move_to_end(&mut self, slot: u32)
         requires { IsRowHeld self.old.rows slot }
         ensures renewed { (xs : List Row) (r : Row) (ys : List Row) → self.old.rows ≡ xs ++ r ∷ ys
             → r.slot ≡ slot → self.new.rows ≡ (xs ++ ys) ++ r ∷ [] }
         ensures room { self.new.room ≡ self.old.room }
         ensures width { self.new.width ≡ self.old.width }
     {
-        renew(&mut self.store, slot);
+        move_to_end(&mut self.store, slot);
     }
 
     /// The cells of the row in a slot.

@@ -37,7 +37,7 @@ pub fn follow(links: &mut Vec<Pair>, slot: u32, next: Link)
 
 /// Appends a slot to its chain, after the last one.
 #[tactic(auto, unfolding(crate::specs::Chains::entered))]
-pub fn enter(links: &mut Vec<Pair>, last: Link, slot: u32)
+pub fn link_back(links: &mut Vec<Pair>, last: Link, slot: u32)
     requires last { IsSlotBelow (length links.old.items) last }
     requires slot { slot < length links.old.items }
     requires number { slot < SLOTS }
@@ -55,7 +55,7 @@ pub fn enter(links: &mut Vec<Pair>, last: Link, slot: u32)
 /// Removes a slot with these neighbours from its chain, which has these ends. Each neighbour is read once: if there
 /// is none, an end changes instead.
 #[tactic(auto, unfolding(crate::specs::Chains::chain_without))]
-pub fn leave(links: &mut Vec<Pair>, ends: &mut Ends, pair: &Pair)
+pub fn remove_link(links: &mut Vec<Pair>, ends: &mut Ends, pair: &Pair)
     requires prev { IsSlotBelow (length links.old.items) pair.now.prev }
     requires next { IsSlotBelow (length links.old.items) pair.now.next }
     ensures links { links.new.items ≡ chain_without pair.now links.old.items }

@@ -15,7 +15,7 @@
 //! push 7 7   slot 0      rows, the oldest first    7 7   8 8   9 9
 //! push 8 8   slot 1
 //! push 9 9   slot 2
-//! renew 0                                          8 8   9 9   7 7     still in slot 0
+//! move_to_end 0                                          8 8   9 9   7 7     still in slot 0
 //! remove 1                                         9 9   7 7
 //! push 5 5   slot 1                                9 9   7 7   5 5
 //! ```
@@ -33,6 +33,6 @@ mod link;
 mod store;
 
 pub use arena::Arena;
-pub use chain::{Ends, Pair, ends_after_push, enter, leave, pair_of};
+pub use chain::{Ends, Pair, ends_after_push, link_back, pair_of, remove_link};
 pub use link::{Link, SLOTS};
 pub use store::hash_of;

@@ -2,13 +2,13 @@ ghost use Rattle.std.specs.Prelude.{◌≡◌, ◌+◌, ◌*◌, ◌<◌, ◌≤
 ghost use Rattle.std.specs.Prelude.{Some, None, ℕ, IfOk, OnErr, slice_set, replicate, IsTrue, ◌↔◌};
 ghost use Rattle.std.specs.Prelude.{MatchOption, List, vec_len, vec_capacity};
 ghost use Rattle.djq_arena.specs.Rows.{slots, IsAbsent, IsRow};
-ghost use Rattle.djq_arena.specs.Store.{mixed, hash, class, cells_at, AreInBuckets, IsPrepared, IsPut};
+ghost use Rattle.djq_arena.specs.Store.{mixed, hash, bucket_number, cells_at, AreInBuckets, IsPrepared, IsPut};
 ghost use Rattle.djq_arena.specs.Store.{IsRenewed, ChainsAreSound, IsLoose, IsAppended, IsUnlinked};
 ghost use Rattle.djq_arena.specs.Store.{IsSame, IsReleased, HasSlotRoom, HoldsSlot, live_of, store_rows};
 ghost use Rattle.djq_arena.specs.Buckets.{link_at, StandsInChain, IsBehind, IsUnlisted};
 ghost use Rattle.djq_arena.specs.declared.link.TheConstants.{SLOTS};
 
-use crate::chain::{Ends, Pair, ends_after_push, enter, follow, leave, pair_of};
+use crate::chain::{Ends, Pair, ends_after_push, follow, link_back, pair_of, remove_link};
 use crate::link::Link;
 use std::alloc::{AllocError, Global};
 
@@ -59,10 +59,10 @@ pub fn hash_of(cells: &[u64]) -> u64
 }
 
 /// The bucket of a row with this hash, of so many.
-#[tactic(auto, unfolding(crate::specs::Store::class))]
+#[tactic(auto, unfolding(crate::specs::Store::bucket_number))]
 fn bucket_by(buckets: usize, code: u64) -> usize
     requires { 0 < buckets }
-    ensures class { (u : List ℕ) → code ≡ hash u → result ≡ class buckets u }
+    ensures bucket_number { (u : List ℕ) → code ≡ hash u → result ≡ bucket_number buckets u }
     ensures within { result < buckets }
 {
     code as usize & (buckets - 1)
@@ -82,7 +82,7 @@ pub fn cells_of(store: &Store, slot: u32) -> &[u64]
 /// The bucket of a row with this hash.
 pub fn bucket_in(store: &Store, code: u64) -> usize
     requires { 0 < length store.now.heads.items }
-    ensures class { (u : List ℕ) → code ≡ hash u → result ≡ class (length store.now.heads.items) u }
+    ensures bucket_number { (u : List ℕ) → code ≡ hash u → result ≡ bucket_number (length store.now.heads.items) u }
     ensures within { result < length store.now.heads.items }
 {
     bucket_by(store.heads.len(), code)
@@ -127,7 +127,7 @@ fn link_of(links: &Vec<Link>, at: usize) -> Link
 #[inline(always)]
 pub fn find_from(store: &Store, head: Link, cells: &[u64]) -> Option<u32>
     requires sound { ChainsAreSound store.now }
-    requires head { head ≡ link_at store.now.heads.items (class (length store.now.heads.items) cells.now) }
+    requires head { head ≡ link_at store.now.heads.items (bucket_number (length store.now.heads.items) cells.now) }
     ensures { MatchOption result (IsAbsent (store_rows store.now) cells.now)
         (λ slot. IsRow (store_rows store.now) slot cells.now) }
 {
@@ -145,7 +145,7 @@ pub fn find_from(store: &Store, head: Link, cells: &[u64]) -> Option<u32>
 #[inline(never)]
 pub fn find_any(store: &Store, head: Link, cells: &[u64]) -> Option<u32>
     requires sound { ChainsAreSound store.now }
-    requires head { head ≡ link_at store.now.heads.items (class (length store.now.heads.items) cells.now) }
+    requires head { head ≡ link_at store.now.heads.items (bucket_number (length store.now.heads.items) cells.now) }
     ensures { MatchOption result (IsAbsent (store_rows store.now) cells.now)
         (λ slot. IsRow (store_rows store.now) slot cells.now) }
 {
@@ -153,15 +153,15 @@ pub fn find_any(store: &Store, head: Link, cells: &[u64]) -> Option<u32>
 }
 
 /// Puts a slot at the head of its bucket.
-fn push_bucket(bucket: &mut Vec<Link>, heads: &mut Vec<Link>, class: usize, slot: u32)
-    requires class { class < length heads.old.items }
+fn push_bucket(bucket: &mut Vec<Link>, heads: &mut Vec<Link>, bucket_number: usize, slot: u32)
+    requires bucket_number { bucket_number < length heads.old.items }
     requires slot { slot < length bucket.old.items }
     requires number { slot < SLOTS }
-    ensures bucket { bucket.new.items ≡ slice_set bucket.old.items slot (link_at heads.old.items class) }
-    ensures heads { heads.new.items ≡ slice_set heads.old.items class (Some slot) }
+    ensures bucket { bucket.new.items ≡ slice_set bucket.old.items slot (link_at heads.old.items bucket_number) }
+    ensures heads { heads.new.items ≡ slice_set heads.old.items bucket_number (Some slot) }
 {
-    bucket[slot as usize] = link_of(heads, class);
-    heads[class] = Link::to(slot);
+    bucket[slot as usize] = link_of(heads, bucket_number);
+    heads[bucket_number] = Link::to(slot);
 }
 
 /// The slot before this one in its bucket, if any. A bucket is short, and whoever removes a row has mostly just
@@ -188,14 +188,14 @@ fn before(bucket: &Vec<Link>, head: Link, slot: u32) -> Link
 }
 
 /// Removes a slot from its bucket.
-fn unlist(bucket: &mut Vec<Link>, heads: &mut Vec<Link>, class: usize, slot: u32)
-    requires class { class < length heads.old.items }
-    requires stands { StandsInChain bucket.old.items (link_at heads.old.items class) slot }
-    ensures unlisted { IsUnlisted bucket.old.items bucket.new.items heads.old.items heads.new.items class slot }
+fn unlist(bucket: &mut Vec<Link>, heads: &mut Vec<Link>, bucket_number: usize, slot: u32)
+    requires bucket_number { bucket_number < length heads.old.items }
+    requires stands { StandsInChain bucket.old.items (link_at heads.old.items bucket_number) slot }
+    ensures unlisted { IsUnlisted bucket.old.items bucket.new.items heads.old.items heads.new.items bucket_number slot }
 {
     let after = link_of(bucket, slot as usize);
-    match before(bucket, link_of(heads, class), slot).get() {
-        None => heads[class] = after,
+    match before(bucket, link_of(heads, bucket_number), slot).get() {
+        None => heads[bucket_number] = after,
         Some(prev) => bucket[prev as usize] = after,
     }
 }
@@ -207,9 +207,9 @@ pub fn link(store: &mut Store, slot: u32, code: u64)
     requires here { code ≡ hash (cells_at store.old.width store.old.cells.items slot) }
     ensures linked { IsAppended store.old store.new slot }
 {
-    let class = bucket_in(store, code);
-    push_bucket(&mut store.bucket, &mut store.heads, class, slot);
-    enter(&mut store.order, store.live.last, slot);
+    let bucket_number = bucket_in(store, code);
+    push_bucket(&mut store.bucket, &mut store.heads, bucket_number, slot);
+    link_back(&mut store.order, store.live.last, slot);
     store.live = ends_after_push(&store.live, slot);
     store.len += 1;
 }
@@ -220,10 +220,10 @@ pub fn unlink(store: &mut Store, slot: u32)
     requires held { HoldsSlot (live_of store.old) slot }
     ensures unlinked { IsUnlinked store.old store.new slot }
 {
-    let class = bucket_in(store, hash_of(cells_of(store, slot)));
-    unlist(&mut store.bucket, &mut store.heads, class, slot);
+    let bucket_number = bucket_in(store, hash_of(cells_of(store, slot)));
+    unlist(&mut store.bucket, &mut store.heads, bucket_number, slot);
     let neighbours = pair_of(&store.order, slot);
-    leave(&mut store.order, &mut store.live, &neighbours);
+    remove_link(&mut store.order, &mut store.live, &neighbours);
     store.len -= 1;
 }
 
@@ -348,9 +348,9 @@ fn list_all(bucket: &mut [Link], heads: &mut [Link], cells: &[u64], width: usize
     ensures buckets { length heads.new ≡ length heads.old }
 {
     for slot in 0..bucket.len() {
-        let class = bucket_by(heads.len(), hash_of(cells_among(cells, width, slot)));
-        bucket[slot] = link_among(heads, class);
-        heads[class] = Link::to(slot as u32);
+        let bucket_number = bucket_by(heads.len(), hash_of(cells_among(cells, width, slot)));
+        bucket[slot] = link_among(heads, bucket_number);
+        heads[bucket_number] = Link::to(slot as u32);
     }
 }
 
@@ -476,13 +476,13 @@ pub fn put_fresh(
 }
 
 /// Moves a row to the end of the order. Its slot stays, and so does its bucket, which has no order.
-pub fn renew(store: &mut Store, slot: u32)
+pub fn move_to_end(store: &mut Store, slot: u32)
     requires sound { ChainsAreSound store.old }
     requires held { HoldsSlot (live_of store.old) slot }
     ensures renewed { IsRenewed store.old store.new slot }
 {
     let neighbours = pair_of(&store.order, slot);
-    leave(&mut store.order, &mut store.live, &neighbours);
-    enter(&mut store.order, store.live.last, slot);
+    remove_link(&mut store.order, &mut store.live, &neighbours);
+    link_back(&mut store.order, store.live.last, slot);
     store.live = ends_after_push(&store.live, slot);
 }

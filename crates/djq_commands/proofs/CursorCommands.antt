@@ -21,10 +21,10 @@ use Rattle.djq_machine.specs.Command.{open_refusal, with_cursor, CommandStep, Ne
 use Rattle.djq_session.specs.declared.named.NamedCursor.{NamedCursor}
 use Rattle.djq_session.specs.Dialog.{Replies, named, cursor_is_named, DialogEndsWith}
 use Rattle.djq_engine.specs.declared.cursor.CursorId.{CursorId}
-use Rattle.djq_engine.specs.Kept.{Kept, HeldCursor, held_at, IsHeld, OpensCursor, ClosesCursor, same_id}
+use Rattle.djq_engine.specs.StoreModel.{StoreModel, HeldCursor, held_at, IsHeld, OpensCursor, ClosesCursor, same_id}
 use Rattle.djq_commands.specs.declared.open.OpenSession.{OpenSession}
 use Rattle.djq_commands.specs.declared.listing.Listed.TheVariants.{Whole, Cut as WasCut, Stale as WasStale}
-use Rattle.djq_commands.specs.Views.{Talk, cursor_query, cursor_position, cursor_in, session_in, state_in}
+use Rattle.djq_commands.specs.Views.{SessionModel, cursor_query, cursor_position, cursor_in, session_in, state_in}
 use Rattle.djq_commands.specs.Sound.{ids_of_cursors, all_ids, AreHeld, IsApart, CursorsDiffer, NoneOnceEnded}
 use Rattle.djq_commands.specs.Sound.{QuietOnceEnded, StaysCounted, CommandIsReady, AreOwned, IsSound, IsOwn}
 use Rattle.djq_commands.specs.Sound.{is_cursor_among}
@@ -44,7 +44,7 @@ use Rattle.djq_commands.proofs.CutReplies.{ends_costing}
 -- ---- Opening and closing a cursor.
 
 -- The session's command is answered after its cursors have changed.
-pub answered : (M : State → ℕ → Session → Effect → State → Type 0) (old new : Kept) (before mid after : Talk)
+pub answered : (M : State → ℕ → Session → Effect → State → Type 0) (old new : StoreModel) (before mid after : SessionModel)
     (text : Bytes)
     → Replies mid after text → mid.pending ≡ before.pending
     → StaysCounted old.registered before.watches new.registered mid.watches
@@ -58,12 +58,12 @@ answered M old new before mid after text r same stays still does = record {
   text = Some text;
   cost = 0;
   kept = no_line;
-  pending = ap (λ (d : Talk). d.pending) r ∙ ap (λ (p : Bytes). p ++ text) same;
+  pending = ap (λ (d : SessionModel). d.pending) r ∙ ap (λ (p : Bytes). p ++ text) same;
   does = λ front back s stopped sound.
       let seen : record mid { room = after.room }
       ≡ unqueued before after = ap (λ (p : Bytes). record mid { pending = p; room = after.room }) same
-      ∙ sym (ap (λ (d : Talk). unqueued before d) r) in
-      subst (λ (d : Talk). M (state_in old stopped (among front s before back)) s (session_in old.cursors s before)
+      ∙ sym (ap (λ (d : SessionModel). unqueued before d) r) in
+      subst (λ (d : SessionModel). M (state_in old stopped (among front s before back)) s (session_in old.cursors s before)
       (to_one s (Some text) 0) (state_in new stopped (among front s d back)))
       seen (does front back s stopped (parts old front s before back sound)).0;
   sound = λ front back s sound. sound_replied new front s mid after text back r
@@ -85,7 +85,7 @@ opens_apart a b id c h ia ib ic =
     subst CursorsDiffer (sym (regroup a b [] c id))
     (put_in (a ++ b) id c (subst CursorsDiffer (sym (append_assoc a b c)) h) (apart_join id a b ia ib) ic)
 
-opened : (old new : Kept) (before : Talk) (c q : Bytes) (id : CursorId) → OpensCursor old q id new → before.cause ≡ None
+opened : (old new : StoreModel) (before : SessionModel) (c q : Bytes) (id : CursorId) → OpensCursor old q id new → before.cause ≡ None
     → (front back : List OpenSession) (s : ℕ) (stopped : Bool) (room : ℕ) → Around old.cursors front s before back
     → (state_in new stopped
     (among front s (record before
@@ -140,33 +140,33 @@ opened old new before c q id o running front back s stopped room p =
       },
     )
 
-pub does_open : (old new : Kept) (before mid after : Talk) (c q : Bytes) (result : Result ⊤ Refusal)
+pub does_open : (old new : StoreModel) (before mid after : SessionModel) (c q : Bytes) (result : Result ⊤ Refusal)
     → CommandIsReady old before → SessionOpens old before c q result new mid
     → Replies mid after (ok_reply (codes "ok open") result)
     → Executes (Open c q) false old before new after 0 0
 does_open old new before mid after c q (Ok u) ready opens r =
     let o = opens.opens in
     let same : mid ≡ record before { cursors = before.cursors ++ record { name = c; cursor = o.0 } ∷ [] } = o.2 in
-    answered _ old new before mid after (ok_reply (codes "ok open") (Ok u)) r (ap (λ (d : Talk). d.pending) same)
+    answered _ old new before mid after (ok_reply (codes "ok open") (Ok u)) r (ap (λ (d : SessionModel). d.pending) same)
     (stays_same old.registered new.registered before.watches mid.watches (o.1).registered
-    (ap (λ (d : Talk). d.watches) same))
-    (subst (λ (d : Talk). QuietOnceEnded d.cause d.watches) (sym same)) (λ front back s stopped p.
+    (ap (λ (d : SessionModel). d.watches) same))
+    (subst (λ (d : SessionModel). QuietOnceEnded d.cause d.watches) (sym same)) (λ front back s stopped p.
     let step = opened old new before c q o.0 o.1 ready.running front back s stopped after.room p in (
       record {
         result = Ok u;
         answer = subst (λ (w : Option Refusal). Answers w (Ok u) (λ _. ⊤) (OutOfMemoryWhere ⊤))
             (refusal_same old before c q) opens.answer;
         effect = refl;
-        state = ap (λ (d : Talk). state_in new stopped (among front s (record d { room = after.room }) back)) same
+        state = ap (λ (d : SessionModel). state_in new stopped (among front s (record d { room = after.room }) back)) same
             ∙ step.0;
       },
-      subst (λ (d : Talk). Around new.cursors front s d back) (sym same) step.1,
+      subst (λ (d : SessionModel). Around new.cursors front s d back) (sym same) step.1,
     ))
 does_open old new before mid after c q (Err e) ready opens r =
     let o = opens.opens in
     let failed : Result ⊤ Refusal = Err e in
     replied _ old new before after (ok_reply (codes "ok open") failed)
-    (subst (λ (d : Talk). Replies d after (refusal_line e)) o.3 r) o.1
+    (subst (λ (d : SessionModel). Replies d after (refusal_line e)) o.3 r) o.1
     (stays_same old.registered new.registered before.watches before.watches o.2 refl) (λ st s x store same. record {
       result = failed;
       answer = subst (λ (w : Option Refusal). Answers w failed (λ _. ⊤) (OutOfMemoryWhere ⊤))
@@ -186,7 +186,7 @@ held_found : (hs : List HeldCursor) (front : List (NamedCursor CursorId)) (n : N
 held_found hs [] n back h = (h.0.0, h.0.1)
 held_found hs (x ∷ front) n back h = held_found hs front n back h.1
 
-pub is_held : (k : Kept) (names : List (NamedCursor CursorId)) (c : Bytes) (n : NamedCursor CursorId)
+pub is_held : (k : StoreModel) (names : List (NamedCursor CursorId)) (c : Bytes) (n : NamedCursor CursorId)
     → AreHeld k.cursors (ids_of_cursors names) → named names c ≡ Some n → IsHeld k n.cursor
 is_held k names c n h f =
     let cut = cut_found (cursor_is_named c) names n f in
@@ -195,7 +195,7 @@ is_held k names c n h f =
     ap (λ (o : Option HeldCursor). is_some o) r.1
 
 -- the cursors of a session around one of them, and those of the others
-closed : (old new : Kept) (before : Talk) (c : Bytes) (n : NamedCursor CursorId) → ClosesCursor old n.cursor new
+closed : (old new : StoreModel) (before : SessionModel) (c : Bytes) (n : NamedCursor CursorId) → ClosesCursor old n.cursor new
     → before.cause ≡ None → Cut (cursor_is_named c) before.cursors n
     → (front back : List OpenSession) (s : ℕ) (stopped : Bool) (room : ℕ) → Around old.cursors front s before back
     → (state_in new stopped
@@ -282,26 +282,26 @@ pub at_none : (hs : List HeldCursor) (names : List (NamedCursor CursorId)) (c : 
 at_none hs names c P Q f p = subst (λ (o : Option Cursor). MatchOption o P Q)
     (sym (cursor_seen hs names c ∙ ap (option_map (cursor_in hs)) f)) p
 
-pub does_close : (old new : Kept) (before mid after : Talk) (c : Bytes) (n : NamedCursor CursorId)
+pub does_close : (old new : StoreModel) (before mid after : SessionModel) (c : Bytes) (n : NamedCursor CursorId)
     → CommandIsReady old before → named before.cursors c ≡ Some n → ClosesCursor old n.cursor new → mid
     ≡ record before { cursors = drop_first (cursor_is_named c) before.cursors }
     → Replies mid after (line (codes "ok")) → Executes (Close c) false old before new after 0 0
 does_close old new before mid after c n ready f o same r =
-    answered _ old new before mid after (line (codes "ok")) r (ap (λ (d : Talk). d.pending) same)
+    answered _ old new before mid after (line (codes "ok")) r (ap (λ (d : SessionModel). d.pending) same)
     (stays_same old.registered new.registered before.watches mid.watches o.registered
-    (ap (λ (d : Talk). d.watches) same))
-    (subst (λ (d : Talk). QuietOnceEnded d.cause d.watches) (sym same)) (λ front back s stopped p.
+    (ap (λ (d : SessionModel). d.watches) same))
+    (subst (λ (d : SessionModel). QuietOnceEnded d.cause d.watches) (sym same)) (λ front back s stopped p.
     let step = closed old new before c n o ready.running (cut_found (cursor_is_named c) before.cursors n f) front back s
     stopped after.room p in (
       at_found old.cursors before.cursors c n _ _ f (
         refl,
-        ap (λ (d : Talk). state_in new stopped (among front s (record d { room = after.room }) back)) same
+        ap (λ (d : SessionModel). state_in new stopped (among front s (record d { room = after.room }) back)) same
             ∙ step.0,
       ),
-      subst (λ (d : Talk). Around new.cursors front s d back) (sym same) step.1,
+      subst (λ (d : SessionModel). Around new.cursors front s d back) (sym same) step.1,
     ))
 
-pub does_close_none : (k : Kept) (before after : Talk) (c : Bytes) → named before.cursors c ≡ None
+pub does_close_none : (k : StoreModel) (before after : SessionModel) (c : Bytes) → named before.cursors c ≡ None
     → Replies before after (refusal_line NoCursor)
     → Executes (Close c) false k before k after 0 0
 does_close_none k before after c f r =
@@ -312,8 +312,8 @@ does_close_none k before after c f r =
 -- ---- What `next` does to the state.
 
 -- what costs no more than nothing
-pub counting : (M : State → ℕ → Session → Effect → State → Type 0) (stops : Bool) (old : Kept) (before : Talk)
-    (new : Kept) (after : Talk) (was now : ℕ) → now ≤ was → Performs M stops old before new after 0 0
+pub counting : (M : State → ℕ → Session → Effect → State → Type 0) (stops : Bool) (old : StoreModel) (before : SessionModel)
+    (new : StoreModel) (after : SessionModel) (was now : ℕ) → now ≤ was → Performs M stops old before new after 0 0
     → Performs M stops old before new after was now
 counting M stops old before new after was now le p = record {
   text = p.text;
@@ -363,7 +363,7 @@ ids_cut : (names : List (NamedCursor CursorId)) (c : Bytes) (n : NamedCursor Cur
 ids_cut names c n cut = ap ids_of_cursors cut.list ∙ ids_append cut.front (n ∷ cut.back)
 
 -- the cursors of a session where one of them has moved
-own_moved : (old new : Kept) (names : List (NamedCursor CursorId)) (c : Bytes) (n : NamedCursor CursorId)
+own_moved : (old new : StoreModel) (names : List (NamedCursor CursorId)) (c : Bytes) (n : NamedCursor CursorId)
     (h : HeldCursor)
     (p : Position) → NameCut names c n → StandsAt old n.cursor h p new
     → AreHeld old.cursors (ids_of_cursors names) → CursorsDiffer (ids_of_cursors names)
@@ -383,7 +383,7 @@ own_moved old new names c n h p cut s held apart =
     ))
 
 -- A cursor among all has moved.
-moved_among : (old new : Kept) (before : Talk) (c : Bytes) (n : NamedCursor CursorId) (h : HeldCursor) (p : Position)
+moved_among : (old new : StoreModel) (before : SessionModel) (c : Bytes) (n : NamedCursor CursorId) (h : HeldCursor) (p : Position)
     → NameCut before.cursors c n → held_at old.cursors n.cursor ≡ Some h → StandsAt old n.cursor h p new
     → (front back : List OpenSession) (s : ℕ) (stopped : Bool) (room : ℕ) → Around old.cursors front s before back
     → (state_in new stopped (among front s (record before { room = room }) back)
@@ -451,7 +451,7 @@ moved_among old new before c n h p cut held s front back i stopped room a =
     joined e f g = cc
 
 -- the machine runs `next` where its cursor stands
-pub next_at : (old : Kept) (before : Talk) (c : Bytes) (n : NamedCursor CursorId) (h : HeldCursor) (q : Listed)
+pub next_at : (old : StoreModel) (before : SessionModel) (c : Bytes) (n : NamedCursor CursorId) (h : HeldCursor) (q : Listed)
     (count : ℕ)
     (st st' : State) (s : ℕ) (x : Session) (e : Effect)
     → named before.cursors c ≡ Some n → held_at old.cursors n.cursor ≡ Some h → listed_of (old.store).queries h.query
@@ -467,7 +467,7 @@ next_at old before c n h q count st st' s x e f held known store same step =
     (subst (λ w. IsSomeAnd (listed_of w.queries h.query) (λ p. NextStepAt st s c p count h.position e st')) (sym store)
     (subst (λ (o : Option Listed). IsSomeAnd o (λ p. NextStepAt st s c p count h.position e st')) (sym known) step))))
 
-does_whole : (old new : Kept) (before after : Talk) (c : Bytes) (n : NamedCursor CursorId) (h : HeldCursor) (q : Listed)
+does_whole : (old new : StoreModel) (before after : SessionModel) (c : Bytes) (n : NamedCursor CursorId) (h : HeldCursor) (q : Listed)
     (given : List Tuple) (ended : Bool) (count was now : ℕ)
     → named before.cursors c ≡ Some n → held_at old.cursors n.cursor ≡ Some h → listed_of (old.store).queries h.query
     ≡ Some q → h.position ≡ open_at given ended
@@ -481,14 +481,14 @@ does_whole old new before after c n h q given ended count was now f held known a
       text = Some text;
       cost = (length w.told + 1) * answer_steps q;
       kept = no_line;
-      pending = ap (λ (d : Talk). d.pending) w.queued;
+      pending = ap (λ (d : SessionModel). d.pending) w.queued;
       does = λ front back s stopped sound.
           let a = parts old front s before back sound in
           let m = moved_among old new before c n h p cut held w.stands front back s stopped after.room a in
           let seen : record before { room = after.room }
-          ≡ unqueued before after = sym (ap (λ (d : Talk). unqueued before d) w.queued) in
+          ≡ unqueued before after = sym (ap (λ (d : SessionModel). unqueued before d) w.queued) in
           let e = to_one s (Some text) ((length w.told + 1) * answer_steps q) in
-          subst (λ (d : Talk). CommandStep (state_in old stopped (among front s before back)) s
+          subst (λ (d : SessionModel). CommandStep (state_in old stopped (among front s before back)) s
           (session_in old.cursors s before) [] (Next c count) e (state_in new stopped (among front s d back))) seen
           (next_at old before c n h q count (state_in old stopped (among front s before back))
           (state_in new stopped (among front s (record before { room = after.room }) back)) s
@@ -499,7 +499,7 @@ does_whole old new before after c n h q given ended count was now f held known a
       sound = λ front back s sound.
           let a = parts old front s before back sound in
           let m = moved_among old new before c n h p cut held w.stands front back s false after.room a in
-          subst (λ (d : Talk). IsSound new (among front s d back)) (sym w.queued)
+          subst (λ (d : SessionModel). IsSound new (among front s d back)) (sym w.queued)
           (whole new front s (record before { pending = before.pending ++ text; room = after.room }) back
           (around_bytes new.cursors front s before before.held (before.pending ++ text) after.room back m.1)
           (recount old new.registered front s before
@@ -509,7 +509,7 @@ does_whole old new before after c n h q given ended count was now f held known a
       counted = w.counted;
     }
 
-does_cut : (old mid new : Kept) (before between last after : Talk) (c : Bytes) (n : NamedCursor CursorId)
+does_cut : (old mid new : StoreModel) (before between last after : SessionModel) (c : Bytes) (n : NamedCursor CursorId)
     (h : HeldCursor)
     (q : Listed) (given : List Tuple) (ended : Bool) (count was now : ℕ)
     → CommandIsReady old before → named before.cursors c ≡ Some n → held_at old.cursors n.cursor ≡ Some h
@@ -525,16 +525,16 @@ does_cut old mid new before between last after c n h q given ended count was now
       store = g.store ∙ w.stands.store;
       gone = λ x a. g.gone x
           (subst (λ (cs : List CursorId). is_cursor_among x cs ≡ true)
-          (sym (ap (λ (d : Talk). ids_of_cursors d.cursors) w.queued)) a);
+          (sym (ap (λ (d : SessionModel). ids_of_cursors d.cursors) w.queued)) a);
       others = λ x a.
-          let same = ap (λ (d : Talk). ids_of_cursors d.cursors) w.queued in
+          let same = ap (λ (d : SessionModel). ids_of_cursors d.cursors) w.queued in
           let here = (apart_split x (ids_of_cursors cut.front) (n.cursor ∷ ids_of_cursors cut.back)
           (subst (IsApart x) (ids_cut before.cursors c n cut) a)).1.0 in
           g.others x (subst (IsApart x) (sym same) a) ∙ w.stands.others x (same_id_flip n.cursor x here);
       session = refl;
       counted = stays_on old.registered mid.registered new.registered before.watches between.watches []
           (stays_same old.registered mid.registered before.watches between.watches w.stands.registered
-          (ap (λ (d : Talk). d.watches) w.queued)) g.counted;
+          (ap (λ (d : SessionModel). d.watches) w.queued)) g.counted;
     } in
     let left : after ≡ record before {
       cursors = [];
@@ -545,9 +545,9 @@ does_cut old mid new before between last after c n h q given ended count was now
       pending = with_text_behind
           before.pending (Some text);
     }
-    = r ∙ ap (λ (d : Talk). record d
+    = r ∙ ap (λ (d : SessionModel). record d
     { pending = d.pending ++ end_memory; room = after.room; cause = Some Memory; batch = None })
-    (g.session ∙ ap (λ (d : Talk). record d { cursors = []; watches = [] }) w.queued)
+    (g.session ∙ ap (λ (d : SessionModel). record d { cursors = []; watches = [] }) w.queued)
     ∙ ap (λ (bs : Bytes). record before
     { cursors = []; watches = []; room = after.room; cause = Some Memory; batch = None; pending = bs })
     (append_assoc before.pending lines end_memory) in
@@ -568,7 +568,7 @@ does_cut old mid new before between last after c n h q given ended count was now
       state = refl;
     }))))
 
-does_stale : (old new : Kept) (before mid after : Talk) (c : Bytes) (n : NamedCursor CursorId) (h : HeldCursor)
+does_stale : (old new : StoreModel) (before mid after : SessionModel) (c : Bytes) (n : NamedCursor CursorId) (h : HeldCursor)
     (q : Listed)
     (relation : Bytes) (seq count was now : ℕ) (r : Bytes) (m : ℕ)
     → named before.cursors c ≡ Some n → held_at old.cursors n.cursor ≡ Some h → listed_of (old.store).queries h.query
@@ -576,9 +576,9 @@ does_stale : (old new : Kept) (before mid after : Talk) (c : Bytes) (n : NamedCu
     → r ≡ relation → m ≡ seq → new ≡ old → mid ≡ before → now ≤ was → Replies mid after (stale_line c r m)
     → Executes (Next c count) false old before new after was now
 does_stale old new before mid after c n h q relation seq count was now r m f held known at er em en eb le reply =
-    subst (λ (k : Kept). Executes (Next c count) false old before k after was now) (sym en)
+    subst (λ (k : StoreModel). Executes (Next c count) false old before k after was now) (sym en)
     (counting _ false old before old after was now le
-    (refused _ old before after (stale_line c r m) (subst (λ (d : Talk). Replies d after (stale_line c r m)) eb reply)
+    (refused _ old before after (stale_line c r m) (subst (λ (d : SessionModel). Replies d after (stale_line c r m)) eb reply)
     (λ st s x store same.
     next_at old before c n h q count st st s x (to_one s (Some (stale_line c r m)) 0) f held known store same
     (subst (λ (p : Position). NextStepAt st s c q count p (to_one s (Some (stale_line c r m)) 0) st) (sym at)
@@ -586,7 +586,7 @@ does_stale old new before mid after c n h q relation seq count was now r m f hel
 
 -- What a listing came to, by where its cursor stood.
 
-whole_at : (old new : Kept) (before after : Talk) (c : Bytes) (n : NamedCursor CursorId) (h : HeldCursor) (q : Listed)
+whole_at : (old new : StoreModel) (before after : SessionModel) (c : Bytes) (n : NamedCursor CursorId) (h : HeldCursor) (q : Listed)
     (p : Position) (count was now : ℕ)
     → named before.cursors c ≡ Some n → held_at old.cursors n.cursor ≡ Some h → listed_of (old.store).queries h.query
     ≡ Some q → h.position ≡ p
@@ -596,13 +596,13 @@ whole_at old new before after c n h q (open_at given ended) count was now f held
     after c n h q given ended count was now f held known at l
 whole_at old new before after c n h q (stale r m) count was now f held known at l = absurd l
 
-pub does_next_whole : (old new : Kept) (before after : Talk) (c : Bytes) (n : NamedCursor CursorId) (count was now : ℕ)
+pub does_next_whole : (old new : StoreModel) (before after : SessionModel) (c : Bytes) (n : NamedCursor CursorId) (count was now : ℕ)
     → named before.cursors c ≡ Some n → Lists old n.cursor before count Whole new after was now
     → Executes (Next c count) false old before new after was now
 does_next_whole old new before after c n count was now f l = whole_at old new before after c n l.cursor l.query
     (l.cursor).position count was now f l.held l.registered refl l.lists
 
-cut_at : (old mid new : Kept) (before between last after : Talk) (c : Bytes) (n : NamedCursor CursorId) (h : HeldCursor)
+cut_at : (old mid new : StoreModel) (before between last after : SessionModel) (c : Bytes) (n : NamedCursor CursorId) (h : HeldCursor)
     (q : Listed) (p : Position) (count was now : ℕ)
     → CommandIsReady old before → named before.cursors c ≡ Some n → held_at old.cursors n.cursor ≡ Some h
     → listed_of (old.store).queries h.query ≡ Some q → h.position ≡ p
@@ -613,7 +613,7 @@ cut_at old mid new before between last after c n h q (open_at given ended) count
     does_cut old mid new before between last after c n h q given ended count was now ready f held known at l g r
 cut_at old mid new before between last after c n h q (stale a b) count was now ready f held known at l g r = absurd l
 
-pub does_next_cut : (old mid new : Kept) (before between after : Talk) (c : Bytes) (n : NamedCursor CursorId)
+pub does_next_cut : (old mid new : StoreModel) (before between after : SessionModel) (c : Bytes) (n : NamedCursor CursorId)
     (count was now : ℕ)
     → CommandIsReady old before → named before.cursors c ≡ Some n
     → Lists old n.cursor before count WasCut mid between was now
@@ -623,29 +623,29 @@ does_next_cut old mid new before between after c n count was now ready f l cut =
     cut_at old mid new before between (record between { cursors = []; watches = [] }) after c n l.cursor l.query
     (l.cursor).position count was now ready f l.held l.registered refl l.lists cut.gives_up cut.ends
 
-cut_owns : (old mid : Kept) (before between : Talk) (c : Bytes) (n : NamedCursor CursorId) (h : HeldCursor) (q : Listed)
+cut_owns : (old mid : StoreModel) (before between : SessionModel) (c : Bytes) (n : NamedCursor CursorId) (h : HeldCursor) (q : Listed)
     (p : Position) (count was now : ℕ)
     → IsOwn old before → named before.cursors c ≡ Some n
     → ListsAt old n.cursor before count h q p WasCut mid between was now → IsOwn mid between
 cut_owns old mid before between c n h q (open_at given ended) count was now own f w =
-    let same = ap (λ (d : Talk). d.cursors) w.queued in
+    let same = ap (λ (d : SessionModel). d.cursors) w.queued in
     let cut = name_cut before.cursors c n f in
     record {
       cursors_held = subst (λ (ns : List (NamedCursor CursorId)). AreHeld mid.cursors (ids_of_cursors ns)) (sym same)
           (own_moved old mid before.cursors c n h w.position cut w.stands own.cursors_held own.apart);
       apart = subst (λ (ns : List (NamedCursor CursorId)). CursorsDiffer (ids_of_cursors ns)) (sym same) own.apart;
       counted = count_moved old.registered mid.registered before.watches between.watches w.stands.registered
-          (ap (λ (d : Talk). d.watches) w.queued) own.counted;
+          (ap (λ (d : SessionModel). d.watches) w.queued) own.counted;
     }
 cut_owns old mid before between c n h q (stale a b) count was now own f w = absurd w
 
-pub owns_still : (old mid : Kept) (before between : Talk) (c : Bytes) (n : NamedCursor CursorId) (count was now : ℕ)
+pub owns_still : (old mid : StoreModel) (before between : SessionModel) (c : Bytes) (n : NamedCursor CursorId) (count was now : ℕ)
     → IsOwn old before → named before.cursors c ≡ Some n → Lists old n.cursor before count WasCut mid between was now
     → IsOwn mid between
 owns_still old mid before between c n count was now own f l = cut_owns old mid before between c n l.cursor l.query
     (l.cursor).position count was now own f l.lists
 
-stale_at : (old new : Kept) (before mid after : Talk) (c : Bytes) (n : NamedCursor CursorId) (h : HeldCursor)
+stale_at : (old new : StoreModel) (before mid after : SessionModel) (c : Bytes) (n : NamedCursor CursorId) (h : HeldCursor)
     (q : Listed)
     (p : Position) (r : Bytes) (m count was now : ℕ)
     → named before.cursors c ≡ Some n → held_at old.cursors n.cursor ≡ Some h → listed_of (old.store).queries h.query
@@ -656,7 +656,7 @@ stale_at old new before mid after c n h q (open_at given ended) r m count was no
 stale_at old new before mid after c n h q (stale a b) r m count was now f held known at l reply =
     does_stale old new before mid after c n h q a b count was now r m f held known at l.0 l.1 l.2 l.3 l.4 reply
 
-pub does_next_stale : (old new : Kept) (before mid after : Talk) (c : Bytes) (n : NamedCursor CursorId) (r : Bytes)
+pub does_next_stale : (old new : StoreModel) (before mid after : SessionModel) (c : Bytes) (n : NamedCursor CursorId) (r : Bytes)
     (m count was now : ℕ)
     → named before.cursors c ≡ Some n → Lists old n.cursor before count (WasStale r m) new mid was now
     → Replies mid after (stale_line c r m) → Executes (Next c count) false old before new after was now
@@ -664,7 +664,7 @@ does_next_stale old new before mid after c n r m count was now f l reply =
     stale_at old new before mid after c n l.cursor l.query (l.cursor).position r m count was now f l.held l.registered
     refl l.lists reply
 
-pub does_next_none : (k : Kept) (before after : Talk) (c : Bytes) (count was : ℕ) → named before.cursors c ≡ None
+pub does_next_none : (k : StoreModel) (before after : SessionModel) (c : Bytes) (count was : ℕ) → named before.cursors c ≡ None
     → Replies before after (refusal_line NoCursor) → Executes (Next c count) false k before k after was was
 does_next_none k before after c count was f r =
     counting _ false k before k after was was (omega arith)

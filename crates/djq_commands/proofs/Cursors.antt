@@ -19,9 +19,9 @@ use Rattle.djq_machine.specs.Command.{open_refusal}
 use Rattle.djq_session.specs.declared.named.NamedCursor.{NamedCursor}
 use Rattle.djq_session.specs.Dialog.{named}
 use Rattle.djq_engine.specs.declared.cursor.CursorId.{CursorId}
-use Rattle.djq_engine.specs.Kept.{HeldCursor, held_at, same_id, SameCursors, OtherCursorsStay, outdated_held, Kept}
+use Rattle.djq_engine.specs.StoreModel.{HeldCursor, held_at, same_id, SameCursors, OtherCursorsStay, outdated_held, StoreModel}
 use Rattle.djq_commands.specs.declared.open.OpenSession.{OpenSession}
-use Rattle.djq_commands.specs.Views.{cursor_query, cursor_position, cursor_in, session_seen, Talk, session_in, state_in}
+use Rattle.djq_commands.specs.Views.{cursor_query, cursor_position, cursor_in, session_seen, SessionModel, session_in, state_in}
 use Rattle.djq_commands.specs.Sound.{ids_of_cursors, all_ids, GivesApart, AreHeld, IsApart, CursorsDiffer}
 use Rattle.djq_commands.specs.Sound.{is_cursor_among, AreOwned, IsBelowAll, Rises, NoneOnceEnded, AreEndedWithout}
 use Rattle.djq_commands.specs.Sound.{WatchersAreCounted, IsSound}
@@ -385,26 +385,26 @@ rises_push (x ∷ xs) n h a = (below_join x xs (n ∷ []) h.0 (a.0, tt), rises_p
 
 -- The ids and the cursors of sessions.
 
-pub ids_are : (front : List OpenSession) (s : ℕ) (d : Talk) (back : List OpenSession)
+pub ids_are : (front : List OpenSession) (s : ℕ) (d : SessionModel) (back : List OpenSession)
     → map (λ (x : OpenSession). x.id) (among front s d back)
     ≡ map (λ (x : OpenSession). x.id) front ++ s ∷ map (λ (x : OpenSession). x.id) back
 ids_are [] s d back = refl
 ids_are (x ∷ front) s d back = ap (λ (r : List ℕ). x.id ∷ r) (ids_are front s d back)
 
-pub cursors_are : (front : List OpenSession) (s : ℕ) (d : Talk) (back : List OpenSession)
+pub cursors_are : (front : List OpenSession) (s : ℕ) (d : SessionModel) (back : List OpenSession)
     → all_ids (among front s d back) ≡ all_ids front ++ (ids_of_cursors d.cursors ++ all_ids back)
 cursors_are [] s d back = refl
 cursors_are (x ∷ front) s d back = ap (λ (r : List CursorId). ids_of_cursors (x.session).cursors ++ r)
     (cursors_are front s d back)
     ∙ sym (append_assoc (ids_of_cursors (x.session).cursors) (all_ids front) (ids_of_cursors d.cursors ++ all_ids back))
 
-pub open_are : (hs : List HeldCursor) (front : List OpenSession) (s : ℕ) (d : Talk) (back : List OpenSession)
+pub open_are : (hs : List HeldCursor) (front : List OpenSession) (s : ℕ) (d : SessionModel) (back : List OpenSession)
     → map (session_seen hs) (among front s d back) ≡ map (session_seen hs) front ++ session_in hs s d
     ∷ map (session_seen hs) back
 open_are hs front s d back = map_append (session_seen hs) front (record { id = s; session = d } ∷ back)
 
 -- What is known of a session and of those around it.
-pub record Around (hs : List HeldCursor) (front : List OpenSession) (s : ℕ) (d : Talk) (back : List OpenSession) :
+pub record Around (hs : List HeldCursor) (front : List OpenSession) (s : ℕ) (d : SessionModel) (back : List OpenSession) :
     Type 0
   where
     pub rising : Rises (map (λ (x : OpenSession). x.id) front ++ s ∷ map (λ (x : OpenSession). x.id) back)
@@ -426,7 +426,7 @@ pub ended_join : (xs ys : List OpenSession) → AreEndedWithout xs → AreEndedW
 ended_join [] ys h g = g
 ended_join (x ∷ xs) ys h g = (h.0, ended_join xs ys h.1 g)
 
-pub parts : (k : Kept) (front : List OpenSession) (s : ℕ) (d : Talk) (back : List OpenSession)
+pub parts : (k : StoreModel) (front : List OpenSession) (s : ℕ) (d : SessionModel) (back : List OpenSession)
     → IsSound k (among front s d back) → Around k.cursors front s d back
 parts k front s d back sound =
     let held = subst (λ (cs : List CursorId). AreHeld k.cursors cs) (cursors_are front s d back) sound.cursors_held in
@@ -446,7 +446,7 @@ parts k front s d back sound =
       ended_back = ended.1.1;
     }
 
-pub whole : (k : Kept) (front : List OpenSession) (s : ℕ) (d : Talk) (back : List OpenSession)
+pub whole : (k : StoreModel) (front : List OpenSession) (s : ℕ) (d : SessionModel) (back : List OpenSession)
     → Around k.cursors front s d back → WatchersAreCounted k.registered (among front s d back)
     → IsSound k (among front s d back)
 whole k front s d back p counted = record {
@@ -470,17 +470,17 @@ not_here hs x s l = step (eqb x.id s) refl
     step true e = let same : x.id ≡ s = eqb-true x.id s e in absurd (omega (arith, same, l))
     step false e = refl
 
-here : (hs : List HeldCursor) (s : ℕ) (d : Talk) → eqb (session_in hs s d).id s ≡ true
+here : (hs : List HeldCursor) (s : ℕ) (d : SessionModel) → eqb (session_in hs s d).id s ≡ true
 here hs s d = eq-eqb s s refl
 
-found_in : (hs : List HeldCursor) (front : List OpenSession) (s : ℕ) (d : Talk) (rest : List Session)
+found_in : (hs : List HeldCursor) (front : List OpenSession) (s : ℕ) (d : SessionModel) (rest : List Session)
     → IsAbove s (map (λ (x : OpenSession). x.id) front)
     → find (λ (x : Session). eqb x.id s) (map (session_seen hs) front ++ session_in hs s d ∷ rest)
     ≡ Some (session_in hs s d)
 found_in hs [] s d rest a = cond-true _ _ _ (here hs s d)
 found_in hs (x ∷ front) s d rest a = cond-false _ _ _ (not_here hs x s a.0) ∙ found_in hs front s d rest a.1
 
-changed_in : (hs : List HeldCursor) (front : List OpenSession) (s : ℕ) (d : Talk) (rest : List Session)
+changed_in : (hs : List HeldCursor) (front : List OpenSession) (s : ℕ) (d : SessionModel) (rest : List Session)
     (f : Session → Session) → IsAbove s (map (λ (x : OpenSession). x.id) front)
     → change_first (λ (x : Session). eqb x.id s) f (map (session_seen hs) front ++ session_in hs s d ∷ rest)
     ≡ map (session_seen hs) front ++ f (session_in hs s d) ∷ rest
@@ -489,7 +489,7 @@ changed_in hs (x ∷ front) s d rest f a = cond-false _ _ _ (not_here hs x s a.0
     ∙ ap (λ (r : List Session). session_seen hs x ∷ r) (changed_in hs front s d rest f a.1)
 
 -- the state with a session among others, as the machine sees it
-abbrev pub around : Kept → Bool → List OpenSession → Session → List OpenSession → State
+abbrev pub around : StoreModel → Bool → List OpenSession → Session → List OpenSession → State
 around k stopped front x back = record {
   store = k.store;
   stopped = stopped;
@@ -497,13 +497,13 @@ around k stopped front x back = record {
       ∷ map (session_seen k.cursors) back;
 }
 
-pub state_is : (k : Kept) (stopped : Bool) (front : List OpenSession) (s : ℕ) (d : Talk) (back : List OpenSession)
+pub state_is : (k : StoreModel) (stopped : Bool) (front : List OpenSession) (s : ℕ) (d : SessionModel) (back : List OpenSession)
     → state_in k stopped (among front s d back) ≡ around k stopped front (session_in k.cursors s d) back
 state_is k stopped front s d back = ap
     (λ (xs : List Session). record { store = k.store; stopped = stopped; sessions = xs })
     (open_are k.cursors front s d back)
 
-pub found : (k : Kept) (stopped : Bool) (front : List OpenSession) (s : ℕ) (d : Talk) (back : List OpenSession)
+pub found : (k : StoreModel) (stopped : Bool) (front : List OpenSession) (s : ℕ) (d : SessionModel) (back : List OpenSession)
     → Around k.cursors front s d back
     → session_of (state_in k stopped (among front s d back)) s ≡ Some (session_in k.cursors s d)
 found k stopped front s d back p =
@@ -511,7 +511,7 @@ found k stopped front s d back p =
     ap (λ (xs : List Session). find (λ (x : Session). eqb x.id s) xs) (open_are k.cursors front s d back)
     ∙ found_in k.cursors front s d (map (session_seen k.cursors) back) above.0
 
-pub changed_here : (k : Kept) (stopped : Bool) (front : List OpenSession) (s : ℕ) (d : Talk) (back : List OpenSession)
+pub changed_here : (k : StoreModel) (stopped : Bool) (front : List OpenSession) (s : ℕ) (d : SessionModel) (back : List OpenSession)
     (f : Session → Session) → Around k.cursors front s d back
     → with_session (state_in k stopped (among front s d back)) s f
     ≡ around k stopped front (f (session_in k.cursors s d)) back
@@ -522,14 +522,14 @@ changed_here k stopped front s d back f p =
     ∙ changed_in k.cursors front s d (map (session_seen k.cursors) back) f above.0)
 
 -- the same session, whatever room it has
-pub becomes : (k : Kept) (stopped : Bool) (front : List OpenSession) (s : ℕ) (d e : Talk) (back : List OpenSession)
+pub becomes : (k : StoreModel) (stopped : Bool) (front : List OpenSession) (s : ℕ) (d e : SessionModel) (back : List OpenSession)
     (f : Session → Session) → Around k.cursors front s d back
     → session_in k.cursors s e ≡ f (session_in k.cursors s d) → state_in k stopped (among front s e back)
     ≡ with_session (state_in k stopped (among front s d back)) s f
 becomes k stopped front s d e back f p same = state_is k stopped front s e back
     ∙ ap (λ (x : Session). around k stopped front x back) same ∙ sym (changed_here k stopped front s d back f p)
 
-pub looks : (k : Kept) (stopped : Bool) (front : List OpenSession) (s : ℕ) (d e : Talk) (back : List OpenSession)
+pub looks : (k : StoreModel) (stopped : Bool) (front : List OpenSession) (s : ℕ) (d e : SessionModel) (back : List OpenSession)
     → session_in k.cursors s e ≡ session_in k.cursors s d → state_in k stopped (among front s e back)
     ≡ state_in k stopped (among front s d back)
 looks k stopped front s d e back same = state_is k stopped front s e back
@@ -596,7 +596,7 @@ some_map f None = refl
 some_map f (Some x) = refl
 
 -- the conditions of `open` are the same
-pub refusal_same : (k : Kept) (d : Talk) (c q : Bytes) → refusal_of k d c q
+pub refusal_same : (k : StoreModel) (d : SessionModel) (c q : Bytes) → refusal_of k d c q
     ≡ open_refusal k.store (map (cursor_in k.cursors) d.cursors) c q
 refusal_same k d c q =
     ap₂ (λ (b : Bool) (n : ℕ). first_refusal
@@ -618,7 +618,7 @@ pub ungroup : (a b c d : List CursorId) → (a ++ b) ++ (c ++ d) ≡ a ++ ((b ++
 ungroup a b c d = simp append_assoc
 
 -- the engine moves on with one session, and holds the cursors of the others as it did
-pub moved : (old new : Kept) (stopped : Bool) (front : List OpenSession) (s : ℕ) (d e : Talk) (back : List OpenSession)
+pub moved : (old new : StoreModel) (stopped : Bool) (front : List OpenSession) (s : ℕ) (d e : SessionModel) (back : List OpenSession)
     (f : Session → Session)
     → Around old.cursors front s d back → Agree old.cursors new.cursors (all_ids front)
     → Agree old.cursors new.cursors (all_ids back) → new.store ≡ old.store

@@ -33,11 +33,11 @@ use Rattle.djq_machine.proofs.Explanations.{explained}
 use Rattle.djq_session.specs.declared.named.NamedCursor.{NamedCursor}
 use Rattle.djq_session.specs.Dialog.{PopsCursor, DialogLacks, Replies, Queues, cut_line, lost_line}
 use Rattle.djq_engine.specs.declared.cursor.CursorId.{CursorId}
-use Rattle.djq_engine.specs.Kept.{Kept, HeldCursor, held_at, same_id, IsHeld, ClosesCursor, SameCursors, HasTree}
+use Rattle.djq_engine.specs.StoreModel.{StoreModel, HeldCursor, held_at, same_id, IsHeld, ClosesCursor, SameCursors, HasTree}
 use Rattle.djq_store.specs.declared.explained.Explained.{Explained}
 use Rattle.djq_store.specs.Explaining.{Explains, ExplainGives, ExplainTakesMemory}
 use Rattle.djq_commands.specs.declared.open.OpenSession.{OpenSession}
-use Rattle.djq_commands.specs.Views.{Talk, session_in, state_in}
+use Rattle.djq_commands.specs.Views.{SessionModel, session_in, state_in}
 use Rattle.djq_commands.specs.Sound.{ids_of_cursors, all_ids, AreHeld, IsApart, CursorsDiffer, IsOwn, IsSound}
 use Rattle.djq_commands.specs.Sound.{is_cursor_among, without_watchers, HasCount, StaysCounted, CommandIsReady}
 use Rattle.djq_commands.specs.Ends.{SessionGivesUp, GivesUpCursors, GivesUpWatches, CutsOff}
@@ -56,7 +56,7 @@ use Rattle.djq_commands.proofs.Printing.{take_next, text_last, of_query}
 
 -- One cursor after another is given up.
 
-pub record Giving (old : Kept) (before : Talk) (k : Kept) (d : Talk) : Type 0 where
+pub record Giving (old : StoreModel) (before : SessionModel) (k : StoreModel) (d : SessionModel) : Type 0 where
   pub own : IsOwn k d
   pub store : k.store ≡ old.store
   pub others : (c : CursorId) → IsApart c (ids_of_cursors before.cursors) → held_at k.cursors c ≡ held_at old.cursors c
@@ -67,7 +67,7 @@ pub record Giving (old : Kept) (before : Talk) (k : Kept) (d : Talk) : Type 0 wh
   pub affected : k.affected ≡ old.affected
   pub told : k.told ≡ old.told
 
-pub giving_starts : (k : Kept) (d : Talk) → IsOwn k d → Giving k d k d
+pub giving_starts : (k : StoreModel) (d : SessionModel) → IsOwn k d → Giving k d k d
 giving_starts k d own = record {
   own = own;
   store = refl;
@@ -82,7 +82,7 @@ giving_starts k d own = record {
 }
 
 -- the cursor that is popped is held
-pub popped_held : (k : Kept) (d e : Talk) (id : CursorId) → IsOwn k d → PopsCursor d e (Some id) → IsHeld k id
+pub popped_held : (k : StoreModel) (d e : SessionModel) (id : CursorId) → IsOwn k d → PopsCursor d e (Some id) → IsHeld k id
 popped_held k d e id own p =
     let cs = subst (λ (ns : List (NamedCursor CursorId)). AreHeld k.cursors (ids_of_cursors ns)) p.1 own.cursors_held in
     let r = held_split k.cursors (ids_of_cursors e.cursors) (id ∷ [])
@@ -90,7 +90,7 @@ popped_held k d e id own p =
     (ids_append e.cursors (record { name = p.0; cursor = id } ∷ [])) cs) in
     ap (λ (o : Option HeldCursor). is_some o) r.1.0.1
 
-pub giving_goes_on : (old : Kept) (before : Talk) (k : Kept) (d e : Talk) (k' : Kept) (id : CursorId)
+pub giving_goes_on : (old : StoreModel) (before : SessionModel) (k : StoreModel) (d e : SessionModel) (k' : StoreModel) (id : CursorId)
     → Giving old before k d → PopsCursor d e (Some id) → ClosesCursor k id k'
     → Giving old before k' e
 giving_goes_on old before k d e k' id g p o =
@@ -108,7 +108,7 @@ giving_goes_on old before k d e k' id g p o =
             (agree_others k.cursors k'.cursors id (ids_of_cursors e.cursors) o.others apart.0) held.0;
         apart = subst CursorsDiffer (append-nil (ids_of_cursors e.cursors)) apart.1.1;
         counted = count_moved k.registered k'.registered d.watches e.watches o.registered
-            (ap (λ (x : Talk). x.watches) p.2) g.own.counted;
+            (ap (λ (x : SessionModel). x.watches) p.2) g.own.counted;
       };
       store = o.store ∙ g.store;
       others = λ c a.
@@ -116,7 +116,7 @@ giving_goes_on old before k d e k' id g p o =
           (subst (IsApart c) all a)).0 in
           let one = (apart_split c (ids_of_cursors e.cursors) (id ∷ []) front).1 in
           o.others c (same_id_flip id c one.0) ∙ g.others c a;
-      session = p.2 ∙ ap (λ (x : Talk). record x { cursors = e.cursors }) g.session;
+      session = p.2 ∙ ap (λ (x : SessionModel). record x { cursors = e.cursors }) g.session;
       gone = (
         record { name = p.0; cursor = id } ∷ g.gone.0,
         g.gone.1
@@ -136,26 +136,26 @@ giving_goes_on old before k d e k' id g p o =
     step c false e a = o.others c (same_id_flip id c e) ∙ g.lost c a
 
 -- The watches are given up behind them.
-pub both_given_up : (old mid new : Kept) (before between after : Talk) → GivesUpCursors old before mid between
+pub both_given_up : (old mid new : StoreModel) (before between after : SessionModel) → GivesUpCursors old before mid between
     → GivesUpWatches mid between new after → SessionGivesUp old before new after
 both_given_up old mid new before between after g w =
     let rest = w.rest in record {
-      store = ap (λ (k : Kept). k.store) rest ∙ g.store;
-      gone = λ c a. ap (λ (k : Kept). held_at k.cursors c) rest ∙ g.gone c a;
-      others = λ c a. ap (λ (k : Kept). held_at k.cursors c) rest ∙ g.others c a;
-      session = w.session ∙ ap (λ (d : Talk). record d { watches = [] }) g.session;
+      store = ap (λ (k : StoreModel). k.store) rest ∙ g.store;
+      gone = λ c a. ap (λ (k : StoreModel). held_at k.cursors c) rest ∙ g.gone c a;
+      others = λ c a. ap (λ (k : StoreModel). held_at k.cursors c) rest ∙ g.others c a;
+      session = w.session ∙ ap (λ (d : SessionModel). record d { watches = [] }) g.session;
       counted = stays_on old.registered mid.registered new.registered before.watches between.watches []
           (stays_same old.registered mid.registered before.watches between.watches g.registered
-          (ap (λ (d : Talk). d.watches) g.session)) w.counted;
+          (ap (λ (d : SessionModel). d.watches) g.session)) w.counted;
     }
 
-pub both_kept_told : (old mid new : Kept) (before between after : Talk) → GivesUpCursors old before mid between
+pub both_kept_told : (old mid new : StoreModel) (before between after : SessionModel) → GivesUpCursors old before mid between
     → GivesUpWatches mid between new after → KeepsTold old new
 both_kept_told old mid new before between after g w = record {
-  store = ap (λ (k : Kept). k.store) w.rest ∙ g.store;
+  store = ap (λ (k : StoreModel). k.store) w.rest ∙ g.store;
   listed = w.listed ∙ ap without_watchers g.registered;
-  affected = ap (λ (k : Kept). k.affected) w.rest ∙ g.affected;
-  told = ap (λ (k : Kept). k.told) w.rest ∙ g.told;
+  affected = ap (λ (k : StoreModel). k.affected) w.rest ∙ g.affected;
+  told = ap (λ (k : StoreModel). k.told) w.rest ∙ g.told;
 }
 
 -- The cursors of the other sessions.
@@ -196,7 +196,7 @@ agree_apart old new bs [] h a = tt
 agree_apart old new bs (c ∷ cs) h a = (h c a.0, agree_apart old new bs cs h a.1)
 
 -- A session that has given up its cursors and ends, among others.
-pub ends_among : (old new : Kept) (before : Talk) (cause : EndCause) (stopped : Bool) (room : ℕ) (pending : Bytes)
+pub ends_among : (old new : StoreModel) (before : SessionModel) (cause : EndCause) (stopped : Bool) (room : ℕ) (pending : Bytes)
     → SessionGivesUp old before new (record before { cursors = []; watches = [] })
     → (front back : List OpenSession) (s : ℕ) → Around old.cursors front s before back
     → (state_in new stopped
@@ -229,8 +229,8 @@ ends_among old new before cause stopped room pending g front back s p =
     )
 
 -- A session gives up its cursors and ends, for a cause; a text may be queued to it.
-pub ends_costing : (M : State → ℕ → Session → Effect → State → Type 0) (stops : Bool) (old new : Kept)
-    (before after : Talk) (text : Option Bytes) (cost : ℕ) (cause : EndCause) (was now : ℕ)
+pub ends_costing : (M : State → ℕ → Session → Effect → State → Type 0) (stops : Bool) (old new : StoreModel)
+    (before after : SessionModel) (text : Option Bytes) (cost : ℕ) (cause : EndCause) (was now : ℕ)
     → SessionGivesUp old before new (record before { cursors = []; watches = [] }) → after
     ≡ record before {
       cursors = [];
@@ -249,11 +249,11 @@ ends_costing M stops old new before after text cost cause was now up left counte
   text = text;
   cost = cost;
   kept = no_line;
-  pending = ap (λ (d : Talk). d.pending) left;
+  pending = ap (λ (d : SessionModel). d.pending) left;
   does = λ front back s stopped sound.
       let p = parts old front s before back sound in
       let step = ends_among old new before cause (stops || stopped) after.room before.pending up front back s p in
-      subst (λ (d : Talk). M (state_in old stopped (among front s before back)) s (session_in old.cursors s before)
+      subst (λ (d : SessionModel). M (state_in old stopped (among front s before back)) s (session_in old.cursors s before)
       (to_one s text cost) (state_in new (stops || stopped) (among front s (unqueued before d) back)))
       (sym left)
       (subst (λ (st : State). M (state_in old stopped (among front s before back)) s (session_in old.cursors s before)
@@ -261,7 +261,7 @@ ends_costing M stops old new before after text cost cause was now up left counte
       (does (state_in old stopped (among front s before back)) s (session_in old.cursors s before) refl refl));
   sound = λ front back s sound.
       let p = parts old front s before back sound in
-      subst (λ (d : Talk). IsSound new (among front s d back)) (sym left)
+      subst (λ (d : SessionModel). IsSound new (among front s d back)) (sym left)
       (whole new front s (record before {
         cursors = [];
         watches = [];
@@ -285,7 +285,7 @@ ends_costing M stops old new before after text cost cause was now up left counte
   counted = counted;
 }
 
-pub ends : (M : State → ℕ → Session → Effect → State → Type 0) (stops : Bool) (old new : Kept) (before mid after : Talk)
+pub ends : (M : State → ℕ → Session → Effect → State → Type 0) (stops : Bool) (old new : StoreModel) (before mid after : SessionModel)
     (text : Option Bytes) (cause : EndCause)
     → SessionGivesUp old before new mid → after
     ≡ record mid { pending = with_text_behind mid.pending text; room = after.room; cause = Some cause; batch = None }
@@ -302,7 +302,7 @@ ends M stops old new before mid after text cause g same does =
       pending = with_text_behind
           before.pending text;
     }
-    = same ∙ ap (λ (d : Talk). record d
+    = same ∙ ap (λ (d : SessionModel). record d
     { pending = with_text_behind d.pending text; room = after.room; cause = Some cause; batch = None }) g.session in
     let up : SessionGivesUp old before new (record before { cursors = []; watches = [] }) = record
     { store = g.store; gone = g.gone; others = g.others; session = refl; counted = g.counted } in
@@ -338,8 +338,8 @@ behind_if_any pending (b ∷ bs) = refl
 -- ---- A reply that finds no memory: its session is cut off; and the reply to `query`, whole or cut.
 
 -- Something is done, the cursors stay as they are, and the session is cut off.
-pub cut_off_after : (M : State → ℕ → Session → Effect → State → Type 0) (old mid new : Kept)
-    (before between after : Talk) (was now : ℕ) (kept : Keeping)
+pub cut_off_after : (M : State → ℕ → Session → Effect → State → Type 0) (old mid new : StoreModel)
+    (before between after : SessionModel) (was now : ℕ) (kept : Keeping)
     → SameCursors old.cursors mid.cursors → StaysCounted old.registered before.watches mid.registered before.watches
     → between ≡ record before { room = between.room } → CutsOff mid between new after → now ≡ was
     → ((st : State) (s : ℕ) (x : Session) → st.store ≡ old.store
@@ -348,7 +348,7 @@ pub cut_off_after : (M : State → ℕ → Session → Effect → State → Type
     → Performs M false old before new after was now
 cut_off_after M old mid new before between after was now kept same stays roomy cut counted does =
     let cut' : CutsOff mid (record before { room = between.room }) new after = subst
-    (λ (d : Talk). CutsOff mid d new after) roomy cut in
+    (λ (d : SessionModel). CutsOff mid d new after) roomy cut in
     let g = cut'.gives_up in
     let up : SessionGivesUp mid before new (record before { cursors = []; watches = [] }) = record
     { store = g.store; gone = g.gone; others = g.others; session = refl; counted = g.counted } in
@@ -367,7 +367,7 @@ cut_off_after M old mid new before between after was now kept same stays roomy c
       text = Some end_memory;
       cost = 0;
       kept = kept;
-      pending = ap (λ (d : Talk). d.pending) left;
+      pending = ap (λ (d : SessionModel). d.pending) left;
       does = λ front back s stopped sound.
           let xs = among front s before back in
           let st = state_in old stopped xs in
@@ -376,13 +376,13 @@ cut_off_after M old mid new before between after was now kept same stays roomy c
           let seen : state_in mid stopped xs ≡ record st { store = mid.store }
           = ap (λ (ys : List Session). record { store = mid.store; stopped = stopped; sessions = ys })
           (agree_open old.cursors mid.cursors xs (agree_same old.cursors mid.cursors (all_ids xs) same)) in
-          subst (λ (d : Talk). M st s (session_in old.cursors s before) (to_keep s (Some end_memory) 0 kept)
+          subst (λ (d : SessionModel). M st s (session_in old.cursors s before) (to_keep s (Some end_memory) 0 kept)
           (state_in new stopped (among front s (unqueued before d) back))) (sym left)
           (subst (λ (w : State). M st s (session_in old.cursors s before) (to_keep s (Some end_memory) 0 kept) w)
           (sym (step ∙ ap (λ (w : State). with_session w s (ended_by Memory)) seen))
           (does st s (session_in old.cursors s before) refl));
       sound = λ front back s sound.
-          subst (λ (d : Talk). IsSound new (among front s d back)) (sym left)
+          subst (λ (d : SessionModel). IsSound new (among front s d back)) (sym left)
           (whole new front s (record before {
             cursors = [];
             watches = [];
@@ -411,22 +411,22 @@ cut_off_after M old mid new before between after was now kept same stays roomy c
     }
 
 -- with other room the session's own cursors are as they were
-pub own_still : (old mid : Kept) (before between : Talk) → SameCursors old.cursors mid.cursors
+pub own_still : (old mid : StoreModel) (before between : SessionModel) → SameCursors old.cursors mid.cursors
     → StaysCounted old.registered before.watches mid.registered before.watches → between
     ≡ record before { room = between.room } → IsOwn old before → IsOwn mid between
 own_still old mid before between same stays roomy own =
-    let names = ap (λ (d : Talk). d.cursors) roomy in
+    let names = ap (λ (d : SessionModel). d.cursors) roomy in
     record {
       cursors_held = subst (λ (ns : List (NamedCursor CursorId)). AreHeld mid.cursors (ids_of_cursors ns)) (sym names)
           (agree_held old.cursors mid.cursors (ids_of_cursors before.cursors)
           (agree_same old.cursors mid.cursors (ids_of_cursors before.cursors) same) own.cursors_held);
       apart = subst (λ (ns : List (NamedCursor CursorId)). CursorsDiffer (ids_of_cursors ns)) (sym names) own.apart;
-      counted = subst (λ (ws : List Bytes). HasCount mid.registered ws) (sym (ap (λ (d : Talk). d.watches) roomy))
+      counted = subst (λ (ws : List Bytes). HasCount mid.registered ws) (sym (ap (λ (d : SessionModel). d.watches) roomy))
           ((own.counted).0, stays (own.counted).0 (own.counted).1);
     }
 
 -- the reply to `query` is cut
-pub does_query_cut : (old mid new : Kept) (before between after : Talk) (q : Query)
+pub does_query_cut : (old mid new : StoreModel) (before between after : SessionModel) (q : Query)
     (result : Result QueryOutcome Refusal) (was now : ℕ)
     → now ≡ was → CommandIsReady old before → RegistersQuery old.store q result mid.store
     → SameCursors old.cursors mid.cursors
@@ -523,7 +523,7 @@ explains_whole (a_union name qs) lines st s h =
     inl (ap (λ (bs : Bytes). to_one s (Some bs) 0) same, refl)
 
 -- Its reply is cut: no line is told.
-cut_explained : (k : Kept) (new : Kept) (before between after : Talk) (name : Bytes) → between
+cut_explained : (k : StoreModel) (new : StoreModel) (before between after : SessionModel) (name : Bytes) → between
     ≡ record before { room = between.room } → CutsOff k between new after
     → IsSomeAnd (listed_of (k.store).queries name) HasTree → Executes (Explain name) false k before new after 0 0
 cut_explained k new before between after name roomy cut tree =
@@ -558,14 +558,14 @@ pub is_told : (st : Store) (name : Bytes) (x : Explained) → ExplainGives st na
 is_told st name x g = told_of (listed_of st.queries name) x g.answer
 
 -- Out of memory before there is a line.
-pub does_explain_lacking : (k new : Kept) (before after : Talk) (name : Bytes)
+pub does_explain_lacking : (k new : StoreModel) (before after : SessionModel) (name : Bytes)
     → ExplainGives k.store name (Err NoMemory) → CutsOff k before new after
     → Executes (Explain name) false k before new after 0 0
 does_explain_lacking k new before after name g cut = cut_explained k new before before after name refl cut
     (lacking_of (listed_of (k.store).queries name) g.answer)
 
 -- The lines find no room.
-pub does_explain_cut : (k new : Kept) (before between after : Talk) (name : Bytes) (r : Result ⊤ NoMem) → is_err r
+pub does_explain_cut : (k new : StoreModel) (before between after : SessionModel) (name : Bytes) (r : Result ⊤ NoMem) → is_err r
     ≡ true → QueuesExplained (listed_of (k.store).queries name) before between r
     → CutsOff k between new after → Executes (Explain name) false k before new after 0 0
 does_explain_cut k new before between after name (Ok done) e h cut = absurd (cc (e))
@@ -573,7 +573,7 @@ does_explain_cut k new before between after name (Err r) e h cut = cut_explained
     h.0
 
 -- All lines are queued.
-pub does_explain_whole : (k : Kept) (before after : Talk) (name : Bytes) (r : Result ⊤ NoMem) → is_err r ≡ false
+pub does_explain_whole : (k : StoreModel) (before after : SessionModel) (name : Bytes) (r : Result ⊤ NoMem) → is_err r ≡ false
     → QueuesExplained (listed_of (k.store).queries name) before after r
     → Executes (Explain name) false k before k after 0 0
 does_explain_whole k before after name (Err r) e h = absurd (cc (e))
@@ -613,7 +613,7 @@ absent_of None r other h = (refl, h)
 absent_of (Some q) r other h = absurd (other (late_is (IsSomeAnd (Some q) ExplainTakesMemory) r h))
 
 -- There is no such query.
-pub does_explain_refused : (k : Kept) (before after : Talk) (name : Bytes) (r : Refusal)
+pub does_explain_refused : (k : StoreModel) (before after : SessionModel) (name : Bytes) (r : Refusal)
     → ExplainGives k.store name (Err r) → (r ≡ NoMemory → ⊥) → Replies before after (refusal_line r)
     → Executes (Explain name) false k before k after 0 0
 does_explain_refused k before after name r g other reply =

@@ -20,8 +20,8 @@ use Rattle.djq_machine.specs.State.{Session, State, Cursor, cursor_of}
 use Rattle.djq_machine.specs.Keeping.{no_line}
 use Rattle.djq_machine.specs.Effect.{Effect, RefusedStep}
 use Rattle.djq_machine.specs.Command.{NextStepAt, CloseStep, ExplainStepOf, TellsLines, explain_lines, union_lines}
-use Rattle.djq_engine.specs.Kept.{Kept}
-use Rattle.djq_commands.specs.Views.{Talk}
+use Rattle.djq_engine.specs.StoreModel.{StoreModel}
+use Rattle.djq_commands.specs.Views.{SessionModel}
 use Rattle.djq_commands.specs.Performs.{CommandDoes, Executes, ExecutesKeeping}
 
 -- ---- a line in front of bytes is no longer than a line may be
@@ -144,7 +144,7 @@ module _ (st : State) (s : ℕ) (e : Effect) (st' : State) where
   step_unkept x (Drop q) m h = absurd cc
 
 -- Such a command is done, and its line isn't kept.
-pub unkept : (c : Command) (stops : Bool) (old : Kept) (before : Talk) (new : Kept) (after : Talk) (was now : ℕ)
+pub unkept : (c : Command) (stops : Bool) (old : StoreModel) (before : SessionModel) (new : StoreModel) (after : SessionModel) (was now : ℕ)
     → may_keep c ≡ false
     → Executes c stops old before new after was now → ExecutesKeeping c false stops old before new after was now
 unkept c stops old before new after was now m p = record {

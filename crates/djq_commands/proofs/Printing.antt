@@ -23,13 +23,13 @@ use Rattle.djq_live_query.specs.declared.listing.Next.{Next}
 use Rattle.djq_live_query.specs.declared.listing.Next.TheVariants.{Given, End, Stale}
 use Rattle.djq_live_query.specs.Live.{Live, values_of}
 use Rattle.djq_engine.specs.declared.cursor.CursorId.{CursorId}
-use Rattle.djq_engine.specs.Kept.{Kept, HeldCursor, held_at, same_id, IsHeld, IsFresh, IsOpenAt, MovesCursor}
-use Rattle.djq_engine.specs.Kept.{read_steps, MoreGives, MoreGivesAt, AnswerIs, IsShown}
+use Rattle.djq_engine.specs.StoreModel.{StoreModel, HeldCursor, held_at, same_id, IsHeld, IsFresh, IsOpenAt, MovesCursor}
+use Rattle.djq_engine.specs.StoreModel.{read_steps, MoreGives, MoreGivesAt, AnswerIs, IsShown}
 use Rattle.djq_store.specs.Reading.{NextGives, NextGivesAt}
 use Rattle.djq_store.proofs.Places.{found_passes}
 use Rattle.djq_commands.specs.declared.listing.Listed.{Listed as HowListed}
 use Rattle.djq_commands.specs.declared.listing.Listed.TheVariants.{Cut, Stale as WasStale}
-use Rattle.djq_commands.specs.Views.{Talk}
+use Rattle.djq_commands.specs.Views.{SessionModel}
 use Rattle.djq_commands.specs.Sound.{AreHeld, GivesApart}
 use Rattle.djq_commands.specs.Listing.{StandsAt, ListsAt, Lists, Lasts}
 use Rattle.djq_commands.proofs.Cursors.{same_id_same}
@@ -53,8 +53,8 @@ held_id : (hs : List HeldCursor) (id : CursorId) (h : HeldCursor) → held_at hs
 held_id hs id h e = same_id_same h.id id (found_passes (λ (x : HeldCursor). same_id x.id id) hs h e)
 
 -- Answers told so far: as many as were read, in a text that is queued.
-pub record Told (old : Kept) (id : CursorId) (before : Talk) (h : HeldCursor) (given : List Tuple) (n : ℕ) (k : Kept)
-    (d : Talk) (was now : ℕ) : Type 0 where
+pub record Told (old : StoreModel) (id : CursorId) (before : SessionModel) (h : HeldCursor) (given : List Tuple) (n : ℕ) (k : StoreModel)
+    (d : SessionModel) (was now : ℕ) : Type 0 where
   pub told : List Tuple
   pub count : length told ≡ n
   pub ended : Bool
@@ -67,23 +67,23 @@ pub record Told (old : Kept) (id : CursorId) (before : Talk) (h : HeldCursor) (g
   pub counted : (q : Listed) → listed_of (old.store).queries h.query ≡ Some q → now ≤ was + n * answer_steps q
 
 -- Nothing was read yet of a stale cursor.
-pub record Untold (old : Kept) (before : Talk) (n : ℕ) (k : Kept) (d : Talk) (was now : ℕ) : Type 0 where
+pub record Untold (old : StoreModel) (before : SessionModel) (n : ℕ) (k : StoreModel) (d : SessionModel) (was now : ℕ) : Type 0 where
   pub none : n ≡ 0
   pub engine : k ≡ old
   pub session : d ≡ before
   pub counted : now ≡ was
 
-abbrev pub SoFarAt : Kept → CursorId → Talk → HeldCursor → Position → ℕ → Kept → Talk → ℕ → ℕ → Type 0
+abbrev pub SoFarAt : StoreModel → CursorId → SessionModel → HeldCursor → Position → ℕ → StoreModel → SessionModel → ℕ → ℕ → Type 0
 SoFarAt old id before h (open_at given ended) n k d was now = Told old id before h given n k d was now
 SoFarAt old id before h (stale r m) n k d was now = Untold old before n k d was now
 
 -- how far reading a cursor has come
-pub record SoFar (old : Kept) (id : CursorId) (before : Talk) (n : ℕ) (k : Kept) (d : Talk) (was now : ℕ) : Type 0 where
+pub record SoFar (old : StoreModel) (id : CursorId) (before : SessionModel) (n : ℕ) (k : StoreModel) (d : SessionModel) (was now : ℕ) : Type 0 where
   pub cursor : HeldCursor
   pub held : held_at old.cursors id ≡ Some cursor
   pub so_far : SoFarAt old id before cursor cursor.position n k d was now
 
-starts_at : (k : Kept) (id : CursorId) (d : Talk) (h : HeldCursor) (p : Position) (was : ℕ) → h.position ≡ p
+starts_at : (k : StoreModel) (id : CursorId) (d : SessionModel) (h : HeldCursor) (p : Position) (was : ℕ) → h.position ≡ p
     → held_at k.cursors id ≡ Some h → GivesApart p → REPLY_BYTES + LAST_LINE_BYTES ≤ d.room
     → SoFarAt k id d h p 0 k d was was
 starts_at k id d h (open_at given ended) was e held apart room = record {
@@ -107,7 +107,7 @@ starts_at k id d h (open_at given ended) was e held apart room = record {
 starts_at k id d h (stale r m) was e held apart room = record
     { none = refl; engine = refl; session = refl; counted = refl }
 
-pub starts : (k : Kept) (id : CursorId) (d : Talk) (was : ℕ) → AreHeld k.cursors (id ∷ [])
+pub starts : (k : StoreModel) (id : CursorId) (d : SessionModel) (was : ℕ) → AreHeld k.cursors (id ∷ [])
     → REPLY_BYTES + LAST_LINE_BYTES ≤ d.room → SoFar k id d 0 k d was was
 starts k id d was held room = record {
   cursor = held.0.0;
@@ -117,14 +117,14 @@ starts k id d was held room = record {
 }
 
 -- the cursor is still held
-still_held : (old : Kept) (id : CursorId) (before : Talk) (h : HeldCursor) (p : Position) (n : ℕ) (k : Kept) (d : Talk)
+still_held : (old : StoreModel) (id : CursorId) (before : SessionModel) (h : HeldCursor) (p : Position) (n : ℕ) (k : StoreModel) (d : SessionModel)
     (was now : ℕ) → held_at old.cursors id ≡ Some h → SoFarAt old id before h p n k d was now → IsHeld k id
 still_held old id before h (open_at given ended) n k d was now held t = ap (λ (o : Option HeldCursor). is_some o)
     t.stands.there
 still_held old id before h (stale r m) n k d was now held t = ap (λ (o : Option HeldCursor). is_some o)
-    (ap (λ (x : Kept). held_at x.cursors id) t.engine ∙ held)
+    (ap (λ (x : StoreModel). held_at x.cursors id) t.engine ∙ held)
 
-pub is_held_still : (old : Kept) (id : CursorId) (before : Talk) (n : ℕ) (k : Kept) (d : Talk) (was now : ℕ)
+pub is_held_still : (old : StoreModel) (id : CursorId) (before : SessionModel) (n : ℕ) (k : StoreModel) (d : SessionModel) (was now : ℕ)
     → SoFar old id before n k d was now → IsHeld k id
 is_held_still old id before n k d was now s = still_held old id before s.cursor (s.cursor).position n k d was now s.held
     s.so_far
@@ -154,16 +154,16 @@ text_more ts t = ap text_of (map_push ts t)
 
 -- A read, where the cursor is open.
 
-pub record ReadOpen (old : Kept) (id : CursorId) (h : HeldCursor) (at : List Tuple) (ended : Bool) (k : Kept)
+pub record ReadOpen (old : StoreModel) (id : CursorId) (h : HeldCursor) (at : List Tuple) (ended : Bool) (k : StoreModel)
     (result : Next)
-    (answer : List ℕ) (k' : Kept) (now now' : ℕ) : Type 0 where
+    (answer : List ℕ) (k' : StoreModel) (now now' : ℕ) : Type 0 where
   pub query : Listed
   pub registered : listed_of (old.store).queries h.query ≡ Some query
   pub gives : NextGivesAt k (record h { position = open_at at ended }) query (open_at at ended) result answer k'
   pub counted : now' ≤ now + read_steps result query
 
-read_open : (old : Kept) (id : CursorId) (h : HeldCursor) (at : List Tuple) (ended : Bool) (k : Kept) (result : Next)
-    (answer : List ℕ) (k' : Kept) (now now' : ℕ)
+read_open : (old : StoreModel) (id : CursorId) (h : HeldCursor) (at : List Tuple) (ended : Bool) (k : StoreModel) (result : Next)
+    (answer : List ℕ) (k' : StoreModel) (now now' : ℕ)
     → StandsAt old id h (open_at at ended) k → NextGives k id result answer k' now now'
     → ReadOpen old id h at ended k result answer k' now now'
 read_open old id h at ended k result answer k' now now' s g =
@@ -177,7 +177,7 @@ read_open old id h at ended k result answer k' now now' s g =
     }
 
 -- a cursor that is moved stands elsewhere
-moves_on : (old : Kept) (id : CursorId) (h : HeldCursor) (p r : Position) (k k' : Kept) → held_at old.cursors id
+moves_on : (old : StoreModel) (id : CursorId) (h : HeldCursor) (p r : Position) (k k' : StoreModel) → held_at old.cursors id
     ≡ Some h
     → StandsAt old id h p k → MovesCursor k (record h { position = p }) r k' → GivesApart r
     → StandsAt old id h r k'
@@ -193,11 +193,11 @@ moves_on old id h p r k k' e s m apart =
     }
 
 -- the relations are those at the start
-left_as : (old k : Kept) (q : Listed) (given : List Tuple) (t : Tuple) → k.store ≡ old.store
+left_as : (old k : StoreModel) (q : Listed) (given : List Tuple) (t : Tuple) → k.store ≡ old.store
     → IsLeft (AnswersOf (k.store).relations q) given t → IsLeft (AnswersOf (old.store).relations q) given t
 left_as old k q given t e l = (subst (λ st. AnswersOf st.relations q t) e l.0, l.1)
 
-all_as : (old k : Kept) (q : Listed) (given : List Tuple) → k.store ≡ old.store
+all_as : (old k : StoreModel) (q : Listed) (given : List Tuple) → k.store ≡ old.store
     → AreAll (AnswersOf (k.store).relations q) given → AreAll (AnswersOf (old.store).relations q) given
 all_as old k q given e a = λ t b. a t (subst (λ st. AnswersOf st.relations q t) (sym e) b)
 
@@ -205,7 +205,7 @@ one_query : (o : Option Listed) (q r : Listed) → o ≡ Some q → o ≡ Some r
 one_query o q r e f = let s : Some q ≡ Some r = sym e ∙ f in cc
 
 -- What a further answer is: one that is left, and that the engine lends.
-pub record Further (old : Kept) (id : CursorId) (h : HeldCursor) (given told : List Tuple) (k' : Kept) (answer : List ℕ)
+pub record Further (old : StoreModel) (id : CursorId) (h : HeldCursor) (given told : List Tuple) (k' : StoreModel) (answer : List ℕ)
     (q : Listed) : Type 0 where
   pub tuple : Tuple
   pub left : IsLeft (AnswersOf (old.store).relations q) (given ++ told) tuple
@@ -213,9 +213,9 @@ pub record Further (old : Kept) (id : CursorId) (h : HeldCursor) (given told : L
   pub is : AnswerIs k' id answer tuple
   pub stands : StandsAt old id h (open_at (given ++ (told ++ tuple ∷ [])) false) k'
 
-further : (old : Kept) (id : CursorId) (h : HeldCursor) (given told : List Tuple) (ended : Bool) (k : Kept)
+further : (old : StoreModel) (id : CursorId) (h : HeldCursor) (given told : List Tuple) (ended : Bool) (k : StoreModel)
     (answer : List ℕ)
-    (k' : Kept) (now now' : ℕ)
+    (k' : StoreModel) (now now' : ℕ)
     → held_at old.cursors id ≡ Some h → StandsAt old id h (open_at (given ++ told) ended) k
     → (r : ReadOpen old id h (given ++ told) ended k Given answer k' now now')
     → Further old id h given told k' answer r.query
@@ -235,7 +235,7 @@ further old id h given told ended k answer k' now now' e s r =
     }
 
 -- the tuple that is lent is the answer
-lent_is : (k : Kept) (id : CursorId) (answer : List ℕ) (t u : Tuple) → AnswerIs k id answer t → AnswerIs k id answer u
+lent_is : (k : StoreModel) (id : CursorId) (answer : List ℕ) (t u : Tuple) → AnswerIs k id answer t → AnswerIs k id answer u
     → u ≡ t
 lent_is k id answer t u = step (get_or k.places id.query.at None)
   where
@@ -245,19 +245,19 @@ lent_is k id answer t u = step (get_or k.places id.query.at None)
     step (Some l) a b = b ∙ sym a
 
 -- A read of a stale cursor gives what made it so.
-pub record ReadStale (old : Kept) (h : HeldCursor) (r : Bytes) (m : ℕ) (result : Next) (answer : List ℕ) (k' : Kept)
+pub record ReadStale (old : StoreModel) (h : HeldCursor) (r : Bytes) (m : ℕ) (result : Next) (answer : List ℕ) (k' : StoreModel)
     (was now' : ℕ) : Type 0 where
   pub query : Listed
   pub registered : listed_of (old.store).queries h.query ≡ Some query
   pub gives : NextGivesAt old h query (stale r m) result answer k'
   pub counted : now' ≤ was + read_steps result query
 
-read_stale : (old : Kept) (id : CursorId) (before : Talk) (h : HeldCursor) (r : Bytes) (m n : ℕ) (k : Kept) (d : Talk)
-    (was now : ℕ) (result : Next) (answer : List ℕ) (k' : Kept) (now' : ℕ)
+read_stale : (old : StoreModel) (id : CursorId) (before : SessionModel) (h : HeldCursor) (r : Bytes) (m n : ℕ) (k : StoreModel) (d : SessionModel)
+    (was now : ℕ) (result : Next) (answer : List ℕ) (k' : StoreModel) (now' : ℕ)
     → held_at old.cursors id ≡ Some h → h.position ≡ stale r m → Untold old before n k d was now
     → NextGives k id result answer k' now now' → ReadStale old h r m result answer k' was now'
 read_stale old id before h r m n k d was now result answer k' now' e f t g =
-    let g' : NextGives old id result answer k' was now' = subst (λ (x : Kept). NextGives x id result answer k' was now')
+    let g' : NextGives old id result answer k' was now' = subst (λ (x : StoreModel). NextGives x id result answer k' was now')
     t.engine (subst (λ (x : ℕ). NextGives k id result answer k' x now') t.counted g) in
     let q = of_query _ (listed_of (old.store).queries h.query) (of_held _ old.cursors id h e g'.gives) in
     record {
@@ -268,8 +268,8 @@ read_stale old id before h r m n k d was now result answer k' now' e f t g =
     }
 
 -- A further answer is there to be lent.
-there_at : (old : Kept) (id : CursorId) (before : Talk) (h : HeldCursor) (p : Position) (n : ℕ) (k : Kept) (d : Talk)
-    (was now : ℕ) (answer : List ℕ) (k' : Kept) (now' : ℕ)
+there_at : (old : StoreModel) (id : CursorId) (before : SessionModel) (h : HeldCursor) (p : Position) (n : ℕ) (k : StoreModel) (d : SessionModel)
+    (was now : ℕ) (answer : List ℕ) (k' : StoreModel) (now' : ℕ)
     → held_at old.cursors id ≡ Some h → h.position ≡ p → SoFarAt old id before h p n k d was now
     → NextGives k id Given answer k' now now' → IsShown k' id answer × IsHeld k' id
 there_at old id before h (open_at given ended) n k d was now answer k' now' e f t g =
@@ -279,15 +279,15 @@ there_at old id before h (open_at given ended) n k d was now answer k' now' e f 
 there_at old id before h (stale a b) n k d was now answer k' now' e f t g =
     let r = read_stale old id before h a b n k d was now Given answer k' now' e f t g in absurd r.gives
 
-pub is_there : (old : Kept) (id : CursorId) (before : Talk) (n : ℕ) (k : Kept) (d : Talk) (was now : ℕ)
-    (answer : List ℕ) (k' : Kept) (now' : ℕ)
+pub is_there : (old : StoreModel) (id : CursorId) (before : SessionModel) (n : ℕ) (k : StoreModel) (d : SessionModel) (was now : ℕ)
+    (answer : List ℕ) (k' : StoreModel) (now' : ℕ)
     → SoFar old id before n k d was now → NextGives k id Given answer k' now now' → IsShown k' id answer × IsHeld k' id
 is_there old id before n k d was now answer k' now' s g = there_at old id before s.cursor (s.cursor).position n k d was
     now answer k' now' s.held refl s.so_far g
 
 -- An answer more is told.
-more_at : (old : Kept) (id : CursorId) (before : Talk) (h : HeldCursor) (p : Position) (n : ℕ) (k : Kept) (d : Talk)
-    (was now : ℕ) (answer : List ℕ) (k' : Kept) (d' : Talk) (now' : ℕ) (tuple : Tuple)
+more_at : (old : StoreModel) (id : CursorId) (before : SessionModel) (h : HeldCursor) (p : Position) (n : ℕ) (k : StoreModel) (d : SessionModel)
+    (was now : ℕ) (answer : List ℕ) (k' : StoreModel) (d' : SessionModel) (now' : ℕ) (tuple : Tuple)
     → held_at old.cursors id ≡ Some h → h.position ≡ p → SoFarAt old id before h p n k d was now
     → NextGives k id Given answer k' now now'
     → AnswerIs k' id answer tuple → Queues d d' (answer_line tuple) → SoFarAt old id before h p (n + 1) k' d' was now'
@@ -306,7 +306,7 @@ more_at old id before h (open_at given ended) n k d was now answer k' d' now' tu
       answers = λ q fq. let same = one_query (listed_of (old.store).queries h.query) r.query q r.registered fq in
           All-push (AnswersOf (old.store).relations q) t.told x.tuple (t.answers q fq)
           (subst (λ (y : Listed). AnswersOf (old.store).relations y x.tuple) same x.left.0);
-      queued = q'.queued ∙ ap (λ (y : Talk). record y { pending = y.pending ++ answer_line x.tuple; room = d'.room })
+      queued = q'.queued ∙ ap (λ (y : SessionModel). record y { pending = y.pending ++ answer_line x.tuple; room = d'.room })
           t.queued
           ∙ ap (λ (bs : Bytes). record before { pending = bs; room = d'.room })
           (append_assoc before.pending (text_of (map answer_line t.told)) (answer_line x.tuple)
@@ -327,8 +327,8 @@ more_at old id before h (open_at given ended) n k d was now answer k' d' now' tu
 more_at old id before h (stale a b) n k d was now answer k' d' now' tuple e f t g lent queued =
     let r = read_stale old id before h a b n k d was now Given answer k' now' e f t g in absurd r.gives
 
-pub goes_on : (old : Kept) (id : CursorId) (before : Talk) (n : ℕ) (k : Kept) (d : Talk) (was now : ℕ) (answer : List ℕ)
-    (k' : Kept) (d' : Talk) (now' : ℕ) (tuple : Tuple)
+pub goes_on : (old : StoreModel) (id : CursorId) (before : SessionModel) (n : ℕ) (k : StoreModel) (d : SessionModel) (was now : ℕ) (answer : List ℕ)
+    (k' : StoreModel) (d' : SessionModel) (now' : ℕ) (tuple : Tuple)
     → SoFar old id before n k d was now → NextGives k id Given answer k' now now' → AnswerIs k' id answer tuple
     → Queues d d' (answer_line tuple)
     → SoFar old id before (n + 1) k' d' was now'
@@ -347,14 +347,14 @@ above : (before room : ℕ) (text line : Bytes) (ls : List Bytes) (l : Bytes) �
     → REPLY_BYTES < length (text_of (ls ++ l ∷ []))
 above before room text line ls l e kept had lacks = omega (arith, ap length e, length-append text line)
 
-lacked : (before d d' : Talk) (text line : Bytes) → d
+lacked : (before d d' : SessionModel) (text line : Bytes) → d
     ≡ record before { pending = before.pending ++ text; room = d.room } → DialogLacks d d' line → d'
     ≡ record before { pending = before.pending ++ text; room = d'.room }
-lacked before d d' text line e l = l.same ∙ ap (λ (y : Talk). record y { room = d'.room }) e
+lacked before d d' text line e l = l.same ∙ ap (λ (y : SessionModel). record y { room = d'.room }) e
 
 -- a further answer finds no room
-cut_at_answer : (old : Kept) (id : CursorId) (before : Talk) (h : HeldCursor) (p : Position) (n count : ℕ) (k : Kept)
-    (d : Talk) (was now : ℕ) (answer : List ℕ) (k' : Kept) (d' : Talk) (now' : ℕ) (tuple : Tuple)
+cut_at_answer : (old : StoreModel) (id : CursorId) (before : SessionModel) (h : HeldCursor) (p : Position) (n count : ℕ) (k : StoreModel)
+    (d : SessionModel) (was now : ℕ) (answer : List ℕ) (k' : StoreModel) (d' : SessionModel) (now' : ℕ) (tuple : Tuple)
     → held_at old.cursors id ≡ Some h → h.position ≡ p → REPLY_BYTES + LAST_LINE_BYTES ≤ before.room → n < count
     → SoFarAt old id before h p n k d was now → NextGives k id Given answer k' now now'
     → AnswerIs k' id answer tuple → DialogLacks d d' (answer_line tuple)
@@ -389,8 +389,8 @@ cut_at_answer old id before h (open_at given ended) n count k d was now answer k
 cut_at_answer old id before h (stale a b) n count k d was now answer k' d' now' tuple e f room below t g lent lacks =
     let r = read_stale old id before h a b n k d was now Given answer k' now' e f t g in absurd r.gives
 
-pub is_cut : (old : Kept) (id : CursorId) (before : Talk) (n count : ℕ) (k : Kept) (d : Talk) (was now : ℕ)
-    (answer : List ℕ) (k' : Kept) (d' : Talk) (now' : ℕ) (tuple : Tuple)
+pub is_cut : (old : StoreModel) (id : CursorId) (before : SessionModel) (n count : ℕ) (k : StoreModel) (d : SessionModel) (was now : ℕ)
+    (answer : List ℕ) (k' : StoreModel) (d' : SessionModel) (now' : ℕ) (tuple : Tuple)
     → REPLY_BYTES + LAST_LINE_BYTES ≤ before.room → n < count → SoFar old id before n k d was now
     → NextGives k id Given answer k' now now'
     → AnswerIs k' id answer tuple → DialogLacks d d' (answer_line tuple) → Lists old id before count Cut k' d' was now'
@@ -400,8 +400,8 @@ is_cut old id before n count k d was now answer k' d' now' tuple room below s g 
     record { cursor = s.cursor; held = s.held; query = r.0; registered = r.1; lists = r.2 }
 
 -- the last line is queued, or finds no room
-last_put : (old : Kept) (id : CursorId) (before : Talk) (h : HeldCursor) (given : List Tuple) (e0 : Bool) (n count : ℕ)
-    (k : Kept) (d : Talk) (was now : ℕ) (q : Listed) (end : Bool) (k' : Kept) (d' : Talk) (now' : ℕ)
+last_put : (old : StoreModel) (id : CursorId) (before : SessionModel) (h : HeldCursor) (given : List Tuple) (e0 : Bool) (n count : ℕ)
+    (k : StoreModel) (d : SessionModel) (was now : ℕ) (q : Listed) (end : Bool) (k' : StoreModel) (d' : SessionModel) (now' : ℕ)
     (outcome : Result ⊤ NoMem) (listed : HowListed)
     → REPLY_BYTES + LAST_LINE_BYTES ≤ before.room → (t : Told old id before h given n k d was now)
     → listed_of (old.store).queries h.query ≡ Some q
@@ -428,7 +428,7 @@ last_put old id before h given e0 n count k d was now q end k' d' now' (Ok u) li
         tells = tells;
         stands = stands;
         queued = queued.queued
-            ∙ ap (λ (y : Talk). record y { pending = y.pending ++ last_line end; room = d'.room }) t.queued
+            ∙ ap (λ (y : SessionModel). record y { pending = y.pending ++ last_line end; room = d'.room }) t.queued
             ∙ ap (λ (bs : Bytes). record before { pending = bs; room = d'.room })
             (append_assoc before.pending (text_of (map answer_line t.told)) (last_line end)
             ∙ ap (λ (bs : Bytes). before.pending ++ bs) (sym (text_last (map answer_line t.told) (last_line end))));
@@ -465,9 +465,9 @@ last_put old id before h given e0 n count k d was now q end k' d' now' (Err r) l
     )
 
 -- The end is read.
-end_at : (old : Kept) (id : CursorId) (before : Talk) (h : HeldCursor) (p : Position) (n count : ℕ) (k : Kept)
-    (d : Talk)
-    (was now : ℕ) (answer : List ℕ) (k' : Kept) (d' : Talk) (now' : ℕ) (outcome : Result ⊤ NoMem) (listed : HowListed)
+end_at : (old : StoreModel) (id : CursorId) (before : SessionModel) (h : HeldCursor) (p : Position) (n count : ℕ) (k : StoreModel)
+    (d : SessionModel)
+    (was now : ℕ) (answer : List ℕ) (k' : StoreModel) (d' : SessionModel) (now' : ℕ) (outcome : Result ⊤ NoMem) (listed : HowListed)
     → held_at old.cursors id ≡ Some h → h.position ≡ p → REPLY_BYTES + LAST_LINE_BYTES ≤ before.room → n ≤ count
     → SoFarAt old id before h p n k d was now → NextGives k id End answer k' now now'
     → MayQueue d d' (last_line true) outcome → Lasts outcome listed
@@ -485,8 +485,8 @@ end_at old id before h (open_at given ended) n count k d was now answer k' d' no
 end_at old id before h (stale a b) n count k d was now answer k' d' now' outcome listed e f room le t g queued is =
     let r = read_stale old id before h a b n k d was now End answer k' now' e f t g in absurd r.gives
 
-pub is_ended : (old : Kept) (id : CursorId) (before : Talk) (n count : ℕ) (k : Kept) (d : Talk) (was now : ℕ)
-    (answer : List ℕ) (k' : Kept) (d' : Talk) (now' : ℕ) (outcome : Result ⊤ NoMem) (listed : HowListed)
+pub is_ended : (old : StoreModel) (id : CursorId) (before : SessionModel) (n count : ℕ) (k : StoreModel) (d : SessionModel) (was now : ℕ)
+    (answer : List ℕ) (k' : StoreModel) (d' : SessionModel) (now' : ℕ) (outcome : Result ⊤ NoMem) (listed : HowListed)
     → REPLY_BYTES + LAST_LINE_BYTES ≤ before.room → n ≤ count → SoFar old id before n k d was now
     → NextGives k id End answer k' now now'
     → MayQueue d d' (last_line true) outcome → Lasts outcome listed → Lists old id before count listed k' d' was now'
@@ -496,9 +496,9 @@ is_ended old id before n count k d was now answer k' d' now' outcome listed room
     record { cursor = s.cursor; held = s.held; query = r.0; registered = r.1; lists = r.2 }
 
 -- The cursor is stale.
-stale_at : (old : Kept) (id : CursorId) (before : Talk) (h : HeldCursor) (p : Position) (n count : ℕ) (k : Kept)
-    (d : Talk)
-    (was now : ℕ) (relation : Bytes) (seq : ℕ) (answer : List ℕ) (k' : Kept) (now' : ℕ)
+stale_at : (old : StoreModel) (id : CursorId) (before : SessionModel) (h : HeldCursor) (p : Position) (n count : ℕ) (k : StoreModel)
+    (d : SessionModel)
+    (was now : ℕ) (relation : Bytes) (seq : ℕ) (answer : List ℕ) (k' : StoreModel) (now' : ℕ)
     → held_at old.cursors id ≡ Some h → h.position ≡ p → SoFarAt old id before h p n k d was now
     → NextGives k id (Stale relation seq) answer k' now now'
     → (q : Listed) × (listed_of (old.store).queries h.query ≡ Some q)
@@ -510,8 +510,8 @@ stale_at old id before h (stale a b) n count k d was now relation seq answer k' 
     let r = read_stale old id before h a b n k d was now (Stale relation seq) answer k' now' e f t g in
     (r.query, r.registered, (r.gives.0, r.gives.1, r.gives.2, t.session, omega (arith, r.counted)))
 
-pub is_stale : (old : Kept) (id : CursorId) (before : Talk) (n count : ℕ) (k : Kept) (d : Talk) (was now : ℕ)
-    (relation : Bytes) (seq : ℕ) (answer : List ℕ) (k' : Kept) (now' : ℕ)
+pub is_stale : (old : StoreModel) (id : CursorId) (before : SessionModel) (n count : ℕ) (k : StoreModel) (d : SessionModel) (was now : ℕ)
+    (relation : Bytes) (seq : ℕ) (answer : List ℕ) (k' : StoreModel) (now' : ℕ)
     → SoFar old id before n k d was now → NextGives k id (Stale relation seq) answer k' now now'
     → Lists old id before count (WasStale relation seq) k' d was now'
 is_stale old id before n count k d was now relation seq answer k' now' s g =
@@ -521,28 +521,28 @@ is_stale old id before n count k d was now relation seq answer k' now' s g =
 
 -- As many were read as asked for.
 
-fresh_at : (old : Kept) (id : CursorId) (before : Talk) (h : HeldCursor) (p : Position) (n : ℕ) (k : Kept) (d : Talk)
+fresh_at : (old : StoreModel) (id : CursorId) (before : SessionModel) (h : HeldCursor) (p : Position) (n : ℕ) (k : StoreModel) (d : SessionModel)
     (was now : ℕ) → 1 ≤ n → SoFarAt old id before h p n k d was now → IsFresh k id
 fresh_at old id before h (open_at given ended) n k d was now le t = subst
     (λ (o : Option HeldCursor). IsSomeAnd o (λ x. IsOpenAt x.position)) (sym t.stands.there) tt
 fresh_at old id before h (stale a b) n k d was now le t = absurd (omega (arith, t.none))
 
-pub is_fresh : (old : Kept) (id : CursorId) (before : Talk) (n : ℕ) (k : Kept) (d : Talk) (was now : ℕ) → 1 ≤ n
+pub is_fresh : (old : StoreModel) (id : CursorId) (before : SessionModel) (n : ℕ) (k : StoreModel) (d : SessionModel) (was now : ℕ) → 1 ≤ n
     → SoFar old id before n k d was now → IsFresh k id
 is_fresh old id before n k d was now le s = fresh_at old id before s.cursor (s.cursor).position n k d was now le
     s.so_far
 
 -- whether more is left, of a cursor that is open
-pub record MoreOpen (old : Kept) (id : CursorId) (h : HeldCursor) (at : List Tuple) (ended : Bool) (k : Kept)
+pub record MoreOpen (old : StoreModel) (id : CursorId) (h : HeldCursor) (at : List Tuple) (ended : Bool) (k : StoreModel)
     (more : Bool)
-    (k' : Kept) (now now' : ℕ) : Type 0 where
+    (k' : StoreModel) (now now' : ℕ) : Type 0 where
   pub query : Listed
   pub registered : listed_of (old.store).queries h.query ≡ Some query
   pub gives : MoreGivesAt k (record h { position = open_at at ended }) query (open_at at ended) more k'
   pub counted : now' ≤ now + answer_steps query
 
-more_open : (old : Kept) (id : CursorId) (h : HeldCursor) (at : List Tuple) (ended : Bool) (k : Kept) (more : Bool)
-    (k' : Kept) (now now' : ℕ)
+more_open : (old : StoreModel) (id : CursorId) (h : HeldCursor) (at : List Tuple) (ended : Bool) (k : StoreModel) (more : Bool)
+    (k' : StoreModel) (now now' : ℕ)
     → StandsAt old id h (open_at at ended) k → MoreGives k id more k' now now'
     → MoreOpen old id h at ended k more k' now now'
 more_open old id h at ended k more k' now now' s g =
@@ -555,9 +555,9 @@ more_open old id h at ended k more k' now now' s g =
       counted = q.2.1;
     }
 
-asked_at : (old : Kept) (id : CursorId) (before : Talk) (h : HeldCursor) (p : Position) (n count : ℕ) (k : Kept)
-    (d : Talk)
-    (was now : ℕ) (more : Bool) (k' : Kept) (d' : Talk) (now' : ℕ) (outcome : Result ⊤ NoMem) (listed : HowListed)
+asked_at : (old : StoreModel) (id : CursorId) (before : SessionModel) (h : HeldCursor) (p : Position) (n count : ℕ) (k : StoreModel)
+    (d : SessionModel)
+    (was now : ℕ) (more : Bool) (k' : StoreModel) (d' : SessionModel) (now' : ℕ) (outcome : Result ⊤ NoMem) (listed : HowListed)
     → held_at old.cursors id ≡ Some h → h.position ≡ p → REPLY_BYTES + LAST_LINE_BYTES ≤ before.room → n ≡ count
     → 1 ≤ count → SoFarAt old id before h p n k d was now → MoreGives k id more k' now now'
     → MayQueue d d' (last_line (not more)) outcome → Lasts outcome listed
@@ -585,8 +585,8 @@ asked_at old id before h (open_at given ended) n count k d was now false k' d' n
 asked_at old id before h (stale a b) n count k d was now more k' d' now' outcome listed e f room same some t g queued is
     = absurd (omega (arith, t.none))
 
-pub is_asked : (old : Kept) (id : CursorId) (before : Talk) (n count : ℕ) (k : Kept) (d : Talk) (was now : ℕ)
-    (more : Bool) (k' : Kept) (d' : Talk) (now' : ℕ) (outcome : Result ⊤ NoMem) (listed : HowListed)
+pub is_asked : (old : StoreModel) (id : CursorId) (before : SessionModel) (n count : ℕ) (k : StoreModel) (d : SessionModel) (was now : ℕ)
+    (more : Bool) (k' : StoreModel) (d' : SessionModel) (now' : ℕ) (outcome : Result ⊤ NoMem) (listed : HowListed)
     → REPLY_BYTES + LAST_LINE_BYTES ≤ before.room → n ≡ count → 1 ≤ count → SoFar old id before n k d was now
     → MoreGives k id more k' now now'
     → MayQueue d d' (last_line (not more)) outcome → Lasts outcome listed
@@ -597,12 +597,12 @@ is_asked old id before n count k d was now more k' d' now' outcome listed room s
     record { cursor = s.cursor; held = s.held; query = r.0; registered = r.1; lists = r.2 }
 
 -- what queueing came to
-pub was_lacking : (d d' : Talk) (l : Bytes) (outcome : Result ⊤ NoMem) → is_err outcome ≡ true → MayQueue d d' l outcome
+pub was_lacking : (d d' : SessionModel) (l : Bytes) (outcome : Result ⊤ NoMem) → is_err outcome ≡ true → MayQueue d d' l outcome
     → DialogLacks d d' l
 was_lacking d d' l (Ok u) e q = absurd (cc)
 was_lacking d d' l (Err r) e q = q
 
-pub was_queued : (d d' : Talk) (l : Bytes) (outcome : Result ⊤ NoMem) → is_err outcome ≡ false → MayQueue d d' l outcome
+pub was_queued : (d d' : SessionModel) (l : Bytes) (outcome : Result ⊤ NoMem) → is_err outcome ≡ false → MayQueue d d' l outcome
     → Queues d d' l
 was_queued d d' l (Ok u) e q = q
 was_queued d d' l (Err r) e q = absurd (cc)

@@ -31,10 +31,10 @@ use Rattle.djq_machine.specs.Effect.{Effect}
 use Rattle.djq_session.specs.declared.named.NamedCursor.{NamedCursor}
 use Rattle.djq_session.specs.Dialog.{Replies}
 use Rattle.djq_engine.specs.declared.cursor.CursorId.{CursorId}
-use Rattle.djq_engine.specs.Kept.{Kept, HeldCursor, held_at, SameCursors, same_id, Uses, DropGives, Registered}
-use Rattle.djq_engine.specs.Kept.{registered_of, is_watched}
+use Rattle.djq_engine.specs.StoreModel.{StoreModel, HeldCursor, held_at, SameCursors, same_id, Uses, DropGives, Registered}
+use Rattle.djq_engine.specs.StoreModel.{registered_of, is_watched}
 use Rattle.djq_commands.specs.declared.open.OpenSession.{OpenSession}
-use Rattle.djq_commands.specs.Views.{Talk, session_in, session_seen, state_in, cursor_query, cursor_in}
+use Rattle.djq_commands.specs.Views.{SessionModel, session_in, session_seen, state_in, cursor_query, cursor_in}
 use Rattle.djq_commands.specs.Sound.{ids_of_cursors, all_ids, AreHeld, WatchersAreCounted, StaysCounted, IsSound}
 use Rattle.djq_commands.specs.Sound.{is_cursor_among, watchers_in, times_in, is_among_watches}
 use Rattle.djq_commands.specs.Performs.{among, to_one, to_keep, unqueued, Performs, Executes, ExecutesKeeping}
@@ -44,12 +44,12 @@ use Rattle.djq_commands.proofs.Watchers.{recount, stays_same, counted_same, none
 use Rattle.djq_commands.proofs.Watchers.{same_name, stays_dropped}
 
 -- a reply changes nothing of a session that the machine sees but its bytes
-pub quiet : (hs : List HeldCursor) (s : ℕ) (before after : Talk) (text : Bytes) → Replies before after text
+pub quiet : (hs : List HeldCursor) (s : ℕ) (before after : SessionModel) (text : Bytes) → Replies before after text
     → session_in hs s (unqueued before after) ≡ session_in hs s before
-quiet hs s before after text r = ap (λ (d : Talk). session_in hs s (unqueued before d)) r
+quiet hs s before after text r = ap (λ (d : SessionModel). session_in hs s (unqueued before d)) r
 
 -- the open sessions look the same
-pub open_quiet : (hs : List HeldCursor) (front : List OpenSession) (s : ℕ) (d e : Talk) (back : List OpenSession)
+pub open_quiet : (hs : List HeldCursor) (front : List OpenSession) (s : ℕ) (d e : SessionModel) (back : List OpenSession)
     → session_in hs s e ≡ session_in hs s d
     → map (session_seen hs) (among front s e back) ≡ map (session_seen hs) (among front s d back)
 open_quiet hs front s d e back same = open_are hs front s e back
@@ -57,7 +57,7 @@ open_quiet hs front s d e back same = open_are hs front s e back
     ∙ sym (open_are hs front s d back)
 
 -- what is known around a session holds at other cursors that are held, and with other bytes
-pub around_held : (old new : List HeldCursor) (front : List OpenSession) (s : ℕ) (d : Talk) (back : List OpenSession)
+pub around_held : (old new : List HeldCursor) (front : List OpenSession) (s : ℕ) (d : SessionModel) (back : List OpenSession)
     → (AreHeld old (all_ids front) → AreHeld new (all_ids front))
     → (AreHeld old (ids_of_cursors d.cursors) → AreHeld new (ids_of_cursors d.cursors))
     → (AreHeld old (all_ids back) → AreHeld new (all_ids back))
@@ -76,7 +76,7 @@ around_held old new front s d back f h b o p = record {
   ended_back = p.ended_back;
 }
 
-pub around_bytes : (hs : List HeldCursor) (front : List OpenSession) (s : ℕ) (d : Talk) (held pending : Bytes)
+pub around_bytes : (hs : List HeldCursor) (front : List OpenSession) (s : ℕ) (d : SessionModel) (held pending : Bytes)
     (room : ℕ)
     (back : List OpenSession)
     → Around hs front s d back → Around hs front s (record d { held = held; pending = pending; room = room }) back
@@ -93,7 +93,7 @@ around_bytes hs front s d held pending room back p = record {
   ended_back = p.ended_back;
 }
 
-pub around_batch : (hs : List HeldCursor) (front : List OpenSession) (s : ℕ) (d : Talk) (b : Option HeldTransaction)
+pub around_batch : (hs : List HeldCursor) (front : List OpenSession) (s : ℕ) (d : SessionModel) (b : Option HeldTransaction)
     (back : List OpenSession)
     → Around hs front s d back → Around hs front s (record d { batch = b }) back
 around_batch hs front s d b back p = record {
@@ -110,7 +110,7 @@ around_batch hs front s d b back p = record {
 }
 
 -- a session with another batch is as sound
-pub sound_batch : (k : Kept) (front : List OpenSession) (s : ℕ) (d : Talk) (b : Option HeldTransaction)
+pub sound_batch : (k : StoreModel) (front : List OpenSession) (s : ℕ) (d : SessionModel) (b : Option HeldTransaction)
     (back : List OpenSession) → IsSound k (among front s d back)
     → IsSound k (among front s (record d { batch = b }) back)
 sound_batch k front s d b back sound =
@@ -119,19 +119,19 @@ sound_batch k front s d b back sound =
     (counted_same k.registered front s d (record d { batch = b }) back refl (λ q. q) sound.counted)
 
 -- a reply leaves all sound
-pub sound_replied : (k : Kept) (front : List OpenSession) (s : ℕ) (before after : Talk) (text : Bytes)
+pub sound_replied : (k : StoreModel) (front : List OpenSession) (s : ℕ) (before after : SessionModel) (text : Bytes)
     (back : List OpenSession) → Replies before after text
     → Around k.cursors front s before back → WatchersAreCounted k.registered (among front s before back)
     → IsSound k (among front s after back)
 sound_replied k front s before after text back r p counted =
-    subst (λ (d : Talk). IsSound k (among front s d back)) (sym r)
+    subst (λ (d : SessionModel). IsSound k (among front s d back)) (sym r)
     (whole k front s (record before { pending = before.pending ++ text; room = after.room }) back
     (around_bytes k.cursors front s before before.held (before.pending ++ text) after.room back p)
     (counted_same k.registered front s before (record before { pending = before.pending ++ text; room = after.room })
     back refl (λ q. q) counted))
 
 -- what is known around a session holds where all cursors are as before
-pub around_same : (old new : List HeldCursor) (front : List OpenSession) (s : ℕ) (d : Talk) (back : List OpenSession)
+pub around_same : (old new : List HeldCursor) (front : List OpenSession) (s : ℕ) (d : SessionModel) (back : List OpenSession)
     → SameCursors old new → Around old front s d back → Around new front s d back
 around_same old new front s d back same p =
     let move = λ (cs : List CursorId) (h : AreHeld old cs). agree_held old new cs (agree_same old new cs same) h in
@@ -139,7 +139,7 @@ around_same old new front s d back same p =
     (λ c i. subst (λ (o : Option HeldCursor). IsSome o) (same c) i) p
 
 -- Something is done and answered, and the cursors stay as they are.
-pub replied_among : (M : State → ℕ → Session → Effect → State → Type 0) (old new : Kept) (before after : Talk)
+pub replied_among : (M : State → ℕ → Session → Effect → State → Type 0) (old new : StoreModel) (before after : SessionModel)
     (text : Bytes) (cost was now : ℕ) (kept : Keeping)
     → Replies before after text → SameCursors old.cursors new.cursors
     → StaysCounted old.registered before.watches new.registered before.watches → now ≤ was + cost
@@ -151,7 +151,7 @@ replied_among M old new before after text cost was now kept r same stays counted
   text = Some text;
   cost = cost;
   kept = kept;
-  pending = ap (λ (d : Talk). d.pending) r;
+  pending = ap (λ (d : SessionModel). d.pending) r;
   does = λ front back s stopped sound.
       let xs = among front s before back in
       let eq : map (session_seen new.cursors) (among front s (unqueued before after) back)
@@ -168,7 +168,7 @@ replied_among M old new before after text cost was now kept r same stays counted
   counted = counted;
 }
 
-pub replied_costing : (M : State → ℕ → Session → Effect → State → Type 0) (old new : Kept) (before after : Talk)
+pub replied_costing : (M : State → ℕ → Session → Effect → State → Type 0) (old new : StoreModel) (before after : SessionModel)
     (text : Bytes) (cost was now : ℕ) (kept : Keeping)
     → Replies before after text → SameCursors old.cursors new.cursors
     → StaysCounted old.registered before.watches new.registered before.watches → now ≤ was + cost
@@ -180,7 +180,7 @@ replied_costing M old new before after text cost was now kept r same stays count
     (λ front back s stopped sound. does (state_in old stopped (among front s before back)) s
     (session_in old.cursors s before) refl refl)
 
-pub replied : (M : State → ℕ → Session → Effect → State → Type 0) (old new : Kept) (before after : Talk) (text : Bytes)
+pub replied : (M : State → ℕ → Session → Effect → State → Type 0) (old new : StoreModel) (before after : SessionModel) (text : Bytes)
     → Replies before after text → SameCursors old.cursors new.cursors
     → StaysCounted old.registered before.watches new.registered before.watches
     → ((st : State) (s : ℕ) (x : Session) → st.store ≡ old.store → x ≡ session_in old.cursors s before
@@ -189,7 +189,7 @@ pub replied : (M : State → ℕ → Session → Effect → State → Type 0) (o
 replied M old new before after text r same stays does = replied_costing M old new before after text 0 0 0 no_line r same
     stays (omega arith) does
 
-pub refused : (M : State → ℕ → Session → Effect → State → Type 0) (k : Kept) (before after : Talk) (text : Bytes)
+pub refused : (M : State → ℕ → Session → Effect → State → Type 0) (k : StoreModel) (before after : SessionModel) (text : Bytes)
     → Replies before after text
     → ((st : State) (s : ℕ) (x : Session) → st.store ≡ k.store → x ≡ session_in k.cursors s before
     → M st s x (to_one s (Some text) 0) st) → Performs M false k before k after 0 0
@@ -203,7 +203,7 @@ pub ok_done : {A : Type 0} (r : Result A Refusal) → is_ok r ≡ is_done r
 ok_done (Ok a) = refl
 ok_done (Err e) = refl
 
-pub does_rel : (old new : Kept) (before after : Talk) (name : Bytes) (types : List ColumnType)
+pub does_rel : (old new : StoreModel) (before after : SessionModel) (name : Bytes) (types : List ColumnType)
     (result : Result ⊤ Refusal)
     → MakesRelation old.store name types result new.store → SameCursors old.cursors new.cursors → new.registered
     ≡ old.registered → Replies before after (ok_reply (codes "ok") result)
@@ -221,7 +221,7 @@ does_rel old new before after name types result makes same still r =
       refl,
     ))
 
-pub does_query : (old new : Kept) (before after : Talk) (q : Query) (result : Result QueryOutcome Refusal) (was now : ℕ)
+pub does_query : (old new : StoreModel) (before after : SessionModel) (q : Query) (result : Result QueryOutcome Refusal) (was now : ℕ)
     → now ≡ was → RegistersQuery old.store q result new.store → SameCursors old.cursors new.cursors
     → StaysCounted old.registered before.watches new.registered before.watches
     → Replies before after (query_reply result)
@@ -239,7 +239,7 @@ does_query old new before after q result was now counted registers same stays r 
       refl,
     ))
 
-pub does_union : (old new : Kept) (before after : Talk) (name : Bytes) (members : List Bytes)
+pub does_union : (old new : StoreModel) (before after : SessionModel) (name : Bytes) (members : List Bytes)
     (result : Result ℕ Refusal)
     → RegistersUnion old.store name members result new.store → SameCursors old.cursors new.cursors
     → StaysCounted old.registered before.watches new.registered before.watches
@@ -258,7 +258,7 @@ does_union old new before after name members result registers same stays r =
       refl,
     ))
 
-pub does_has : (k : Kept) (before after : Talk) (q : Bytes) (t : Tuple) (result : Result Bool Refusal) (was now : ℕ)
+pub does_has : (k : StoreModel) (before after : SessionModel) (q : Bytes) (t : Tuple) (result : Result Bool Refusal) (was now : ℕ)
     → TellsWhether k.store q t result → now ≤ was + has_steps (listed_of k.store.queries q)
     → Replies before after (has_reply result)
     → Executes (Has q t) false k before k after was now
@@ -272,7 +272,7 @@ does_has k before after q t result was now tells counted r =
       state = ap (λ store. record st { store = store }) (sym e);
     })
 
-pub does_shape : (k : Kept) (before after : Talk) (q : Bytes) (result : Result Shape Refusal)
+pub does_shape : (k : StoreModel) (before after : SessionModel) (q : Bytes) (result : Result Shape Refusal)
     → TellsShape k.store q result → Replies before after (shape_reply result)
     → Executes (AskShape q) false k before k after 0 0
 does_shape k before after q result tells r = refused _ k before after (shape_reply result) r (λ st s x e f. record {
@@ -413,7 +413,7 @@ sees_unwatched rs xs q counted h = by (registered_of rs q) refl h (watchers_in x
     by None f g (suc n) e = let some : IsSome (registered_of rs q) = counted.known q (omega (arith, e)) in absurd
         (cc (some, f))
 
-use_is : (k : Kept) (q : Bytes) (used : Bool) (xs : List OpenSession) → IsSound k xs → Uses k q used → used
+use_is : (k : StoreModel) (q : Bytes) (used : Bool) (xs : List OpenSession) → IsSound k xs → Uses k q used → used
     ≡ list_any (uses q) (map (session_seen k.cursors) xs)
 use_is k q true xs sound (inl u) = sym
     (sessions_used k.cursors q u.0 u.1 xs u.2 u.3
@@ -435,13 +435,13 @@ dropped_unused st st' used q d drops =
     step true m true D L h = absurd h
     step true m false D L h = absurd h
 
-unwatched_there : (k : Kept) (q : Bytes) (used : Bool) → Uses k q used → used ≡ false → (r : Registered)
+unwatched_there : (k : StoreModel) (q : Bytes) (used : Bool) → Uses k q used → used ≡ false → (r : Registered)
     → registered_of k.registered q ≡ Some r → r.watchers ≡ 0
 unwatched_there k q true u e r f = absurd (cc (e))
 unwatched_there k q false u e r f = is_watched_none r
     (subst (λ (o : Option Registered). IfSome o (λ x. is_watched x ≡ false)) f u.1)
 
-drop_stays : (old new : Kept) (before : Talk) (q : Bytes) (result : Result ⊤ Refusal) → DropGives old q result new
+drop_stays : (old new : StoreModel) (before : SessionModel) (q : Bytes) (result : Result ⊤ Refusal) → DropGives old q result new
     → StaysCounted old.registered before.watches new.registered before.watches
 drop_stays old new before q (Ok d) g =
     subst (λ (rs : List Registered). StaysCounted old.registered before.watches rs before.watches) (sym g.registered)
@@ -450,7 +450,7 @@ drop_stays old new before q (Ok d) g =
 drop_stays old new before q (Err e) g = stays_same old.registered new.registered before.watches before.watches
     g.registered refl
 
-pub does_drop : (old new : Kept) (before after : Talk) (q : Bytes) (result : Result ⊤ Refusal)
+pub does_drop : (old new : StoreModel) (before after : SessionModel) (q : Bytes) (result : Result ⊤ Refusal)
     → DropGives old q result new → Replies before after (ok_reply (codes "ok") result)
     → ExecutesKeeping (Drop q) (is_done result) false old before new after 0 0
 does_drop old new before after q result d r =

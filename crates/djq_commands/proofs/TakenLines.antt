@@ -28,12 +28,12 @@ use Rattle.djq_machine.specs.LineStep.{LineOutcome, run, TakenLine, behind_line,
 use Rattle.djq_machine.specs.LineStep.{FrontStep}
 use Rattle.djq_machine.specs.Call.{Counts}
 use Rattle.djq_session.specs.Dialog.{Replies, held_in_batch, dialog_is_ready, holds_no_line}
-use Rattle.djq_engine.specs.Kept.{Kept}
+use Rattle.djq_engine.specs.StoreModel.{StoreModel}
 use Rattle.djq_commands.specs.declared.open.OpenSession.{OpenSession}
-use Rattle.djq_commands.specs.declared.change.Left.{Left}
-use Rattle.djq_commands.specs.declared.change.Left.TheVariants.{Nothing, Stopping, Telling}
+use Rattle.djq_commands.specs.declared.change.AfterCommand.{AfterCommand}
+use Rattle.djq_commands.specs.declared.change.AfterCommand.TheVariants.{Nothing, Stopping, Telling}
 use Rattle.djq_commands.specs.declared.change.Outcome.{Outcome}
-use Rattle.djq_commands.specs.Views.{Talk, session_in, state_in}
+use Rattle.djq_commands.specs.Views.{SessionModel, session_in, state_in}
 use Rattle.djq_commands.specs.Sound.{IsSound}
 use Rattle.djq_commands.specs.Performs.{among, to_one, to_keep, unqueued, Performs, ExecutesKeeping, Executes}
 use Rattle.djq_commands.specs.Batching.{RefusedBy, HeldTo, HoldsLine, row_command}
@@ -48,7 +48,7 @@ use Rattle.djq_commands.proofs.Watchers.{recount, stays_same}
 -- ---- A line is taken of a session's bytes, and what is done behind it.
 
 -- a session with other bytes held is as sound
-pub sound_bytes : (k : Kept) (front : List OpenSession) (s : ℕ) (d : Talk) (held pending : Bytes) (room : ℕ)
+pub sound_bytes : (k : StoreModel) (front : List OpenSession) (s : ℕ) (d : SessionModel) (held pending : Bytes) (room : ℕ)
     (back : List OpenSession) → IsSound k (among front s d back)
     → IsSound k (among front s (record d { held = held; pending = pending; room = room }) back)
 sound_bytes k front s d held pending room back sound =
@@ -58,13 +58,13 @@ sound_bytes k front s d held pending room back sound =
     (stays_same k.registered k.registered d.watches d.watches refl refl) (λ q. q) sound)
 
 -- What is done with more room is done.
-pub with_room : (M : State → ℕ → Session → Effect → State → Type 0) (stops : Bool) (old : Kept) (before mid : Talk)
-    (new : Kept) (after : Talk) (was now : ℕ)
+pub with_room : (M : State → ℕ → Session → Effect → State → Type 0) (stops : Bool) (old : StoreModel) (before mid : SessionModel)
+    (new : StoreModel) (after : SessionModel) (was now : ℕ)
     → mid ≡ record before { room = mid.room } → Performs M stops old mid new after was now
     → Performs M stops old before new after was now
 with_room M stops old before mid new after was now e p =
     let q : Performs M stops old (record before { room = mid.room }) new after was now = subst
-    (λ (d : Talk). Performs M stops old d new after was now) e p in
+    (λ (d : SessionModel). Performs M stops old d new after was now) e p in
     record {
       text = q.text;
       cost = q.cost;
@@ -81,15 +81,15 @@ with_room M stops old before mid new after was now e p =
     }
 
 -- What is done behind a line that was taken.
-pub taking : (P M : State → ℕ → Session → Effect → State → Type 0) (stops : Bool) (old : Kept) (before mid : Talk)
-    (l rest : Bytes) (new : Kept) (after : Talk) (was now : ℕ)
+pub taking : (P M : State → ℕ → Session → Effect → State → Type 0) (stops : Bool) (old : StoreModel) (before mid : SessionModel)
+    (l rest : Bytes) (new : StoreModel) (after : SessionModel) (was now : ℕ)
     → front_of before.held ≡ a_line l rest → mid ≡ record before { held = rest }
     → ((st st' : State) (s : ℕ) (x : Session) (e : Effect) → x.held ≡ before.held → x.pending ≡ before.pending
     → TakenLine st s x l (λ mid y. P mid s y e st') → M st s x e st')
     → Performs P stops old mid new after was now → Performs M stops old before new after was now
 taking P M stops old before mid l rest new after was now f e wrap p =
     let q : Performs P stops old (record before { held = rest }) new after was now = subst
-    (λ (d : Talk). Performs P stops old d new after was now) e p in
+    (λ (d : SessionModel). Performs P stops old d new after was now) e p in
     record {
       text = q.text;
       cost = q.cost;
@@ -116,7 +116,7 @@ taking P M stops old before mid l rest new after was now f e wrap p =
     }
 
 -- a line that is run
-pub runs : (kept stops : Bool) (old : Kept) (before mid : Talk) (l rest : Bytes) (new : Kept) (after : Talk)
+pub runs : (kept stops : Bool) (old : StoreModel) (before mid : SessionModel) (l rest : Bytes) (new : StoreModel) (after : SessionModel)
     (was now : ℕ)
     → front_of before.held ≡ a_line l rest → mid ≡ record before { held = rest } → is_blank l ≡ false
     → length before.pending ≤ PENDING_BYTES
@@ -136,8 +136,8 @@ runs kept stops old before mid l rest new after was now f e said few p =
     )) p
 
 -- a line that says a command
-pub reads_said : (kept stops : Bool) (old : Kept) (before : Talk) (l : Bytes) (command : Command) (new : Kept)
-    (after : Talk) (was now : ℕ)
+pub reads_said : (kept stops : Bool) (old : StoreModel) (before : SessionModel) (l : Bytes) (command : Command) (new : StoreModel)
+    (after : SessionModel) (was now : ℕ)
     → reading_of l ≡ says_command command → is_misplaced before.batch command ≡ false
     → Performs (λ st s x e st'. CommandStep st s x l command e st' × (e.kept ≡ kept_where kept)) stops old before new
     after was now
@@ -160,8 +160,8 @@ reads_said kept stops old before l command new after was now r placed p = record
 }
 
 -- one that isn't one of a row
-pub reads_command : (kept stops : Bool) (old : Kept) (before : Talk) (l : Bytes) (command : Command) (new : Kept)
-    (after : Talk) (was now : ℕ)
+pub reads_command : (kept stops : Bool) (old : StoreModel) (before : SessionModel) (l : Bytes) (command : Command) (new : StoreModel)
+    (after : SessionModel) (was now : ℕ)
     → reading_of l ≡ says_command command → is_on_row command ≡ false → is_misplaced before.batch command ≡ false
     → ExecutesKeeping command kept stops old before new after was now
     → Performs (λ st s x e st'. ReadStep st s x l (reading_of l) e st' × (e.kept ≡ kept_where kept)) stops old before
@@ -179,7 +179,7 @@ reads_command kept stops old before l command new after was now r other placed p
     })
 
 -- a line that is refused before its command is done
-pub reads_refused : (k : Kept) (before after : Talk) (l : Bytes) (why : Refusal) (was : ℕ)
+pub reads_refused : (k : StoreModel) (before after : SessionModel) (l : Bytes) (why : Refusal) (was : ℕ)
     → RefusedBy before.batch (reading_of l) why → Replies before after (refusal_line why)
     → Performs (λ st s x e st'. ReadStep st s x l (reading_of l) e st' × (e.kept ≡ kept_where false)) false k before k
     after was was
@@ -194,7 +194,7 @@ reads_refused k before after l why was by reply =
 -- ---- What a session's batch comes to: opened, a row held, dropped, done.
 
 -- A session has another batch, and is answered; nothing else changes.
-pub becomes_batch : (M : State → ℕ → Session → Effect → State → Type 0) (k : Kept) (before after : Talk)
+pub becomes_batch : (M : State → ℕ → Session → Effect → State → Type 0) (k : StoreModel) (before after : SessionModel)
     (batch : Option HeldTransaction) (text : Bytes)
     → Replies (record before { batch = batch }) after text
     → ((st : State) (s : ℕ) (x : Session) → st.store ≡ k.store → x ≡ session_in k.cursors s before
@@ -204,29 +204,29 @@ becomes_batch M k before after batch text r does = record {
   text = Some text;
   cost = 0;
   kept = no_line;
-  pending = ap (λ (d : Talk). d.pending) r;
+  pending = ap (λ (d : SessionModel). d.pending) r;
   does = λ front back s stopped sound.
       let st = state_in k stopped (among front s before back) in
       let moved : state_in k stopped (among front s (unqueued before after) back)
       ≡ with_session st s (λ y. record y { batch = batch })
       = becomes k stopped front s before (unqueued before after) back (λ y. record y { batch = batch })
       (parts k front s before back sound)
-      (ap (λ (d : Talk). session_in k.cursors s (unqueued before d)) r) in
+      (ap (λ (d : SessionModel). session_in k.cursors s (unqueued before d)) r) in
       subst (λ (z : State). M st s (session_in k.cursors s before) (to_one s (Some text) 0) z) (sym moved)
       (does st s (session_in k.cursors s before) refl refl);
   sound = λ front back s sound.
-      subst (λ (d : Talk). IsSound k (among front s d back)) (sym r)
+      subst (λ (d : SessionModel). IsSound k (among front s d back)) (sym r)
       (sound_bytes k front s (record before { batch = batch }) before.held (before.pending ++ text) after.room back
       (sound_batch k front s before batch back sound));
   counted = omega arith;
 }
 
 -- `batch`
-pub does_batch : (k : Kept) (before mid after : Talk) → mid ≡ record before { batch = Some nothing_held }
+pub does_batch : (k : StoreModel) (before mid after : SessionModel) → mid ≡ record before { batch = Some nothing_held }
     → Replies mid after (ok_reply {A = ⊤} (codes "ok batch") (Ok tt)) → Executes Batch false k before k after 0 0
 does_batch k before mid after e r =
     becomes_batch _ k before after (Some nothing_held) (ok_reply {A = ⊤} (codes "ok batch") (Ok tt))
-    (subst (λ (d : Talk). Replies d after (ok_reply {A = ⊤} (codes "ok batch") (Ok tt))) e r) (λ st s x f g. record {
+    (subst (λ (d : SessionModel). Replies d after (ok_reply {A = ⊤} (codes "ok batch") (Ok tt))) e r) (λ st s x f g. record {
       result = Ok tt;
       answer = tt;
       effect = refl;
@@ -234,11 +234,11 @@ does_batch k before mid after e r =
     })
 
 -- `abandon`
-pub does_abandon : (k : Kept) (before mid after : Talk) → mid ≡ record before { batch = None }
+pub does_abandon : (k : StoreModel) (before mid after : SessionModel) → mid ≡ record before { batch = None }
     → Replies mid after (ok_reply {A = ⊤} (codes "ok") (Ok tt)) → Executes Abandon false k before k after 0 0
 does_abandon k before mid after e r =
     becomes_batch _ k before after None (ok_reply {A = ⊤} (codes "ok") (Ok tt))
-    (subst (λ (d : Talk). Replies d after (ok_reply {A = ⊤} (codes "ok") (Ok tt))) e r) (λ st s x f g. (refl, refl))
+    (subst (λ (d : SessionModel). Replies d after (ok_reply {A = ⊤} (codes "ok") (Ok tt))) e r) (λ st s x f g. (refl, refl))
 
 -- `add` and `del` in a batch
 
@@ -258,13 +258,13 @@ in_batch st s x held l Deletes name row e st' is h =
     (λ t. HoldStep st s t l Deletes name row e st')) (sym is) h
 
 -- A line is held and answered, or its refusal is.
-abbrev pub AnswersHeld : Talk → HeldTransaction → Bytes → Verb → Bytes → Tuple → Result ⊤ Refusal → Talk → Type 0
+abbrev pub AnswersHeld : SessionModel → HeldTransaction → Bytes → Verb → Bytes → Tuple → Result ⊤ Refusal → SessionModel → Type 0
 AnswersHeld before held l verb name row (Ok d) after =
     Replies (record before { batch = Some (holding held verb name row l) }) after
     (held_reply {A = ⊤} (Ok d) (length held.lines + 1))
 AnswersHeld before held l verb name row (Err r) after = Replies before after (refusal_line r)
 
-pub does_hold : (k : Kept) (before after : Talk) (held : HeldTransaction) (l : Bytes) (verb : Verb) (name : Bytes)
+pub does_hold : (k : StoreModel) (before after : SessionModel) (held : HeldTransaction) (l : Bytes) (verb : Verb) (name : Bytes)
     (row : Tuple) (result : Result ⊤ Refusal) → before.batch ≡ Some held
     → Answers (hold_refusal k.store held l name row) result (λ d. ⊤) (OutOfMemoryWhere ⊤)
     → AnswersHeld before held l verb name row result after
@@ -302,15 +302,15 @@ open_held None h = absurd (cc (h))
 open_held (Some held) h = refl
 
 -- that a line is held, or isn't, changes the batch alone
-pub held_alone : (before : Talk) (l : Bytes) (verb : Verb) (name : Bytes) (row : Tuple) (result : Result ⊤ Refusal)
-    (mid : Talk) → HeldTo before l verb name row result mid → mid ≡ record before { batch = mid.batch }
+pub held_alone : (before : SessionModel) (l : Bytes) (verb : Verb) (name : Bytes) (row : Tuple) (result : Result ⊤ Refusal)
+    (mid : SessionModel) → HeldTo before l verb name row result mid → mid ≡ record before { batch = mid.batch }
 held_alone before l verb name row (Ok d) mid h =
-    h ∙ ap (λ (o : Option HeldTransaction). record before { batch = o }) (sym (ap (λ (d : Talk). d.batch) h))
+    h ∙ ap (λ (o : Option HeldTransaction). record before { batch = o }) (sym (ap (λ (d : SessionModel). d.batch) h))
 held_alone before l verb name row (Err r) mid h =
-    h ∙ ap (λ (o : Option HeldTransaction). record before { batch = o }) (sym (ap (λ (d : Talk). d.batch) h))
+    h ∙ ap (λ (o : Option HeldTransaction). record before { batch = o }) (sym (ap (λ (d : SessionModel). d.batch) h))
 
 -- The line is taken then, and answered.
-answers_held : (before mid taken after : Talk) (l rest : Bytes) (verb : Verb) (name : Bytes) (row : Tuple)
+answers_held : (before mid taken after : SessionModel) (l rest : Bytes) (verb : Verb) (name : Bytes) (row : Tuple)
     (result : Result ⊤ Refusal) (count : ℕ) → HeldTo before l verb name row result mid
     → taken ≡ record mid { held = rest } → count ≡ length (held_in_batch taken.batch).lines
     → Replies taken after (held_reply result count)
@@ -319,18 +319,18 @@ answers_held before mid taken after l rest verb name row (Ok d) count h t c r =
     let held = held_in_batch before.batch in
     let more = holding held verb name row l in
     let is : taken ≡ record before { held = rest; batch = Some more } = t
-    ∙ ap (λ (d : Talk). record d { held = rest }) h in
-    let many : count ≡ length held.lines + 1 = c ∙ ap (λ (d : Talk). length (held_in_batch d.batch).lines) is
+    ∙ ap (λ (d : SessionModel). record d { held = rest }) h in
+    let many : count ≡ length held.lines + 1 = c ∙ ap (λ (d : SessionModel). length (held_in_batch d.batch).lines) is
     ∙ length-append held.lines (record { verb = verb; relation = name; row = row } ∷ []) in
     subst (λ (n : ℕ). Replies (record before { held = rest; batch = Some more }) after (held_reply {A = ⊤} (Ok d) n))
-    many (subst (λ (d' : Talk). Replies d' after (held_reply {A = ⊤} (Ok d) count)) is r)
+    many (subst (λ (d' : SessionModel). Replies d' after (held_reply {A = ⊤} (Ok d) count)) is r)
 answers_held before mid taken after l rest verb name row (Err r) count h t c reply =
-    subst (λ (d : Talk). Replies d after (refusal_line r)) (t ∙ ap (λ (d : Talk). record d { held = rest }) h) reply
+    subst (λ (d : SessionModel). Replies d after (refusal_line r)) (t ∙ ap (λ (d : SessionModel). record d { held = rest }) h) reply
 
 -- ---- What becomes of the front of a session's bytes.
 
 -- a line that is too long
-pub is_too_long : (old new : Kept) (before after : Talk) (was : ℕ) → front_of before.held ≡ too_long
+pub is_too_long : (old new : StoreModel) (before after : SessionModel) (was : ℕ) → front_of before.held ≡ too_long
     → Performs (λ st s x e st'. EndsWith end_long Long st s e st') false old before new after 0 0
     → Fronts long false old before new after was was
 is_too_long old new before after was f p = record {
@@ -344,7 +344,7 @@ is_too_long old new before after was f p = record {
 }
 
 -- the counts of what lists nothing
-uncounted : (M : State → ℕ → Session → Effect → State → Type 0) (old : Kept) (before : Talk) (new : Kept) (after : Talk)
+uncounted : (M : State → ℕ → Session → Effect → State → Type 0) (old : StoreModel) (before : SessionModel) (new : StoreModel) (after : SessionModel)
     (was : ℕ) → Performs M false old before new after 0 0 → Performs M false old before new after was was
 uncounted M old before new after was p = record {
   text = p.text;
@@ -358,7 +358,7 @@ uncounted M old before new after was p = record {
 }
 
 -- a line that isn't run since too much is pending
-pub is_slow : (old new : Kept) (before mid after : Talk) (l rest : Bytes) (was : ℕ) → front_of before.held
+pub is_slow : (old new : StoreModel) (before mid after : SessionModel) (l rest : Bytes) (was : ℕ) → front_of before.held
     ≡ a_line l rest → mid ≡ record before { held = rest } → is_blank l ≡ false → PENDING_BYTES < length before.pending
     → Performs (λ st s x e st'. EndsWith end_slow Slow st s e st') false old mid new after 0 0
     → Fronts (slow l) false old before new after was was
@@ -368,7 +368,7 @@ is_slow old new before mid after l rest was f e said many p =
     (uncounted _ old mid new after was p)
 
 -- a line for whose reply there is no room
-pub is_unheard : (old new : Kept) (before kept mid after : Talk) (l rest : Bytes) (was : ℕ) → front_of before.held
+pub is_unheard : (old new : StoreModel) (before kept mid after : SessionModel) (l rest : Bytes) (was : ℕ) → front_of before.held
     ≡ a_line l rest → kept ≡ record before { room = kept.room } → mid ≡ record kept { held = rest } → is_blank l ≡ false
     → length before.pending ≤ PENDING_BYTES
     → Performs (λ st s x e st'. EndsWith end_memory Memory st s e st') false old mid new after 0 0
@@ -376,20 +376,20 @@ pub is_unheard : (old new : Kept) (before kept mid after : Talk) (l rest : Bytes
 is_unheard old new before kept mid after l rest was f r e said few p =
     with_room (λ st s x e st'. FrontStep st s x (no_room l) e st') false old before kept new after was was r
     (taking (λ st s x e st'. EndsWith end_memory Memory st s e st') _ false old kept mid l rest new after was was
-    (ap (λ (d : Talk). front_of d.held) r ∙ f) e
+    (ap (λ (d : SessionModel). front_of d.held) r ∙ f) e
     (λ st st' s x eff h q t.
-    (said, subst (λ (bs : Bytes). length bs ≤ PENDING_BYTES) (sym (q ∙ ap (λ (d : Talk). d.pending) r)) few, t))
+    (said, subst (λ (bs : Bytes). length bs ≤ PENDING_BYTES) (sym (q ∙ ap (λ (d : SessionModel). d.pending) r)) few, t))
     (uncounted _ old mid new after was p))
 
 -- a blank line
-pub is_dropped : (k : Kept) (before after : Talk) (l rest : Bytes) (was : ℕ) → front_of before.held ≡ a_line l rest
+pub is_dropped : (k : StoreModel) (before after : SessionModel) (l rest : Bytes) (was : ℕ) → front_of before.held ≡ a_line l rest
     → after ≡ record before { held = rest } → is_blank l ≡ true
     → Fronts (blank l) false k before k after was was
 is_dropped k before after l rest was f e said = record {
   text = None;
   cost = 0;
   kept = no_line;
-  pending = ap (λ (d : Talk). d.pending) e;
+  pending = ap (λ (d : SessionModel). d.pending) e;
   does = λ front back s stopped sound. (
     said,
     record {
@@ -397,20 +397,20 @@ is_dropped k before after l rest was f e said = record {
       front = f;
       then = (
         refl,
-        ap (λ (d : Talk). state_in k stopped (among front s (unqueued before d) back)) e
+        ap (λ (d : SessionModel). state_in k stopped (among front s (unqueued before d) back)) e
             ∙ becomes k stopped front s before (record before { held = rest }) back (behind_line rest)
             (parts k front s before back sound) refl,
       );
     },
   );
-  sound = λ front back s sound. subst (λ (d : Talk). IsSound k (among front s d back)) (sym e)
+  sound = λ front back s sound. subst (λ (d : SessionModel). IsSound k (among front s d back)) (sym e)
       (sound_bytes k front s before rest before.pending before.room back sound);
   counted = omega arith;
 }
 
 -- ---- A session whose next line may be run.
 
-pub ready_goes_on : (d : Talk) → dialog_is_ready d ≡ true → d.cause ≡ None
+pub ready_goes_on : (d : SessionModel) → dialog_is_ready d ≡ true → d.cause ≡ None
 ready_goes_on d r = by d.cause refl r
   where
     by : (c : Option EndCause) → d.cause ≡ c → (is_none c && not (holds_no_line (front_of d.held))) ≡ true
@@ -418,7 +418,7 @@ ready_goes_on d r = by d.cause refl r
     by None e h = e
     by (Some c) e h = absurd (false≢true h)
 
-pub ready_not_dry : (d : Talk) → dialog_is_ready d ≡ true → front_of d.held ≡ dry → ⊥
+pub ready_not_dry : (d : SessionModel) → dialog_is_ready d ≡ true → front_of d.held ≡ dry → ⊥
 ready_not_dry d r e = by (is_none d.cause)
     (subst (λ (f : Front). (is_none d.cause && not (holds_no_line f)) ≡ true) e r)
   where
@@ -429,7 +429,7 @@ ready_not_dry d r e = by (is_none d.cause)
 -- ---- What a step does.
 
 -- No line is run: it is blank, or the session ends in its place.
-pub runs_none : (outcome : LineOutcome) (old : Kept) (before : Talk) (new : Kept) (after : Talk) (was now : Counts)
+pub runs_none : (outcome : LineOutcome) (old : StoreModel) (before : SessionModel) (new : StoreModel) (after : SessionModel) (was now : Counts)
     → before.cause ≡ None → is_run outcome ≡ false
     → Fronts outcome false old before new after was.listing now.listing
     → StepsTo false false old before new after was now
@@ -438,14 +438,14 @@ runs_none outcome old before new after was now c n f = (c, inr (refl, outcome, n
 -- ---- What is left to do once a line was run.
 
 -- no change is left to tell
-abbrev pub IsAlone : Left → Type 0
+abbrev pub IsAlone : AfterCommand → Type 0
 IsAlone (Nothing kept) = ⊤
 IsAlone Stopping = ⊤
 IsAlone (Telling change) = ⊥
 
 -- a command was obeyed behind a line that was taken
-pub line_leaves : (left : Left) (old : Kept) (before mid : Talk) (l rest : Bytes) (command : Command) (new : Kept)
-    (after : Talk) (was now : ℕ)
+pub line_leaves : (left : AfterCommand) (old : StoreModel) (before mid : SessionModel) (l rest : Bytes) (command : Command) (new : StoreModel)
+    (after : SessionModel) (was now : ℕ)
     → front_of before.held ≡ a_line l rest → mid ≡ record before { held = rest } → is_blank l ≡ false
     → length before.pending ≤ PENDING_BYTES
     → before.cause ≡ None → REPLY_BYTES + LAST_LINE_BYTES ≤ before.room → reading_of l ≡ says_command command
@@ -454,15 +454,15 @@ pub line_leaves : (left : Left) (old : Kept) (before mid : Talk) (l rest : Bytes
 line_leaves (Nothing kept) old before mid l rest command new after was now f e said few running room reads alone o =
     runs kept false old before mid l rest new after was now f e said few
     (reads_command kept false old mid l command new after was now reads (alone tt).0
-    (ap (λ (d : Talk). is_misplaced d.batch command) e ∙ (alone tt).1) o)
+    (ap (λ (d : SessionModel). is_misplaced d.batch command) e ∙ (alone tt).1) o)
 line_leaves Stopping old before mid l rest command new after was now f e said few running room reads alone o =
     runs false true old before mid l rest new after was now f e said few
     (reads_command false true old mid l command new after was now reads (alone tt).0
-    (ap (λ (d : Talk). is_misplaced d.batch command) e ∙ (alone tt).1) o)
+    (ap (λ (d : SessionModel). is_misplaced d.batch command) e ∙ (alone tt).1) o)
 line_leaves (Telling change) old before mid l rest command new after was now f e said few running room reads alone o =
     let taken : after ≡ record before { held = rest; batch = None } = o.1
-    ∙ ap (λ (d : Talk). record d { batch = None }) e in
-    let same : after.room ≡ before.room = ap (λ (d : Talk). d.room) taken in
+    ∙ ap (λ (d : SessionModel). record d { batch = None }) e in
+    let same : after.room ≡ before.room = ap (λ (d : SessionModel). d.room) taken in
     record {
       running = running;
       line = l;
@@ -472,13 +472,13 @@ line_leaves (Telling change) old before mid l rest command new after was now f e
       few = few;
       command = command;
       reads = reads;
-      changes = subst (λ (d : Talk). IsChange command d.batch old change new was now) e o.0;
+      changes = subst (λ (d : SessionModel). IsChange command d.batch old change new was now) e o.0;
       taken = taken ∙ ap (λ (r : ℕ). record before { held = rest; room = r; batch = None }) (sym same);
       room = subst (λ (r : ℕ). REPLY_BYTES + LAST_LINE_BYTES ≤ r) (sym same) room;
     }
 
 -- What is left of a session without a batch is to tell a change.
-pub tells_alone : (change : Outcome) (old : Kept) (mid : Talk) (new : Kept) (was now : ℕ) (command : Command)
+pub tells_alone : (change : Outcome) (old : StoreModel) (mid : SessionModel) (new : StoreModel) (was now : ℕ) (command : Command)
     → mid.batch ≡ None → IsChange command None old change new was now
     → Obeys command (Telling change) old mid new mid was now
 tells_alone change old mid new was now command e c = (
@@ -488,7 +488,7 @@ tells_alone change old mid new was now command e c = (
 )
 
 -- and of one whose batch is done
-pub tells_done : (change : Outcome) (old : Kept) (mid : Talk) (new : Kept) (after : Talk) (was now : ℕ)
+pub tells_done : (change : Outcome) (old : StoreModel) (mid : SessionModel) (new : StoreModel) (after : SessionModel) (was now : ℕ)
     (given : Option ℕ) → IsSome mid.batch → CarriesOutAll old (held_in_batch mid.batch) given change new was now
     → after ≡ record mid { batch = None } → Obeys (Done given) (Telling change) old mid new after was now
 tells_done change old mid new after was now given some c e = (
@@ -498,7 +498,7 @@ tells_done change old mid new after was now given some c e = (
 )
 
 -- room was kept before
-pub step_leaves : (left : Left) (old : Kept) (before kept : Talk) (l : Bytes) (new : Kept) (after : Talk)
+pub step_leaves : (left : AfterCommand) (old : StoreModel) (before kept : SessionModel) (l : Bytes) (new : StoreModel) (after : SessionModel)
     (was now : Counts)
     → kept ≡ record before { room = kept.room } → before.cause ≡ None
     → LineLeaves l left old kept new after was.listing now.listing
@@ -511,27 +511,27 @@ step_leaves (Telling change) old before kept l new after was now e running c = r
   running = running;
   line = c.line;
   rest = c.rest;
-  front = subst (λ (bs : Bytes). front_of bs ≡ a_line c.line c.rest) (ap (λ (d : Talk). d.held) e) c.front;
+  front = subst (λ (bs : Bytes). front_of bs ≡ a_line c.line c.rest) (ap (λ (d : SessionModel). d.held) e) c.front;
   said = c.said;
-  few = subst (λ (bs : Bytes). length bs ≤ PENDING_BYTES) (ap (λ (d : Talk). d.pending) e) c.few;
+  few = subst (λ (bs : Bytes). length bs ≤ PENDING_BYTES) (ap (λ (d : SessionModel). d.pending) e) c.few;
   command = c.command;
   reads = c.reads;
-  changes = subst (λ (d : Talk). IsChange c.command d.batch old change new was.listing now.listing) e c.changes;
-  taken = c.taken ∙ ap (λ (d : Talk). record d { held = c.rest; room = after.room; batch = None }) e;
+  changes = subst (λ (d : SessionModel). IsChange c.command d.batch old change new was.listing now.listing) e c.changes;
+  taken = c.taken ∙ ap (λ (d : SessionModel). record d { held = c.rest; room = after.room; batch = None }) e;
   room = c.room;
 }
 
 -- ---- What is left to do once a line was run of a session with a batch open.
 
-module _ (before mid : Talk) (l rest : Bytes) (f : front_of before.held ≡ a_line l rest)
+module _ (before mid : SessionModel) (l rest : Bytes) (f : front_of before.held ≡ a_line l rest)
     (e : mid ≡ record before { held = rest }) (said : is_blank l ≡ false)
     (few : length before.pending ≤ PENDING_BYTES) (some : IsSome before.batch) where
   -- the batch is still open
   open_still : IsSome mid.batch
-  open_still = subst (λ (o : Option HeldTransaction). IsSome o) (sym (ap (λ (d : Talk). d.batch) e)) some
+  open_still = subst (λ (o : Option HeldTransaction). IsSome o) (sym (ap (λ (d : SessionModel). d.batch) e)) some
 
   -- the batch is done
-  pub done_leaves : (old : Kept) (change : Outcome) (new : Kept) (after : Talk) (was now : ℕ) (given : Option ℕ)
+  pub done_leaves : (old : StoreModel) (change : Outcome) (new : StoreModel) (after : SessionModel) (was now : ℕ) (given : Option ℕ)
       → before.cause ≡ None → REPLY_BYTES + LAST_LINE_BYTES ≤ before.room
       → reading_of l ≡ says_command (Done given) → CarriesOutAll old (held_in_batch mid.batch) given change new was now
       → after ≡ record mid { batch = None } → LineLeaves l (Telling change) old before new after was now
@@ -541,7 +541,7 @@ module _ (before mid : Talk) (l rest : Bytes) (f : front_of before.held ≡ a_li
       (tells_done change old mid new after was now given open_still carries closed)
 
   -- a command that has its place in a batch
-  pub placed_leaves : (old : Kept) (command : Command) (new : Kept) (after : Talk) (was now : ℕ) → before.cause ≡ None
+  pub placed_leaves : (old : StoreModel) (command : Command) (new : StoreModel) (after : SessionModel) (was now : ℕ) → before.cause ≡ None
       → REPLY_BYTES + LAST_LINE_BYTES ≤ before.room
       → reading_of l ≡ says_command command → is_on_row command ≡ false
       → is_misplaced {A = HeldTransaction} (Some nothing_held) command ≡ false
@@ -551,7 +551,7 @@ module _ (before mid : Talk) (l rest : Bytes) (f : front_of before.held ≡ a_li
       line_leaves (Nothing false) old before mid l rest command new after was now f e said few running room reads
       (λ h. (other, placed_in before.batch command some placed)) does
 
-  pub stop_leaves : (old : Kept) (command : Command) (new : Kept) (after : Talk) (was now : ℕ) → before.cause ≡ None
+  pub stop_leaves : (old : StoreModel) (command : Command) (new : StoreModel) (after : SessionModel) (was now : ℕ) → before.cause ≡ None
       → REPLY_BYTES + LAST_LINE_BYTES ≤ before.room
       → reading_of l ≡ says_command command → is_on_row command ≡ false
       → is_misplaced {A = HeldTransaction} (Some nothing_held) command ≡ false
@@ -562,7 +562,7 @@ module _ (before mid : Talk) (l rest : Bytes) (f : front_of before.held ≡ a_li
       (λ h. (other, placed_in before.batch command some placed)) does
 
   -- the line is refused
-  pub refused_leaves : (k : Kept) (why : Refusal) (after : Talk) (was : ℕ)
+  pub refused_leaves : (k : StoreModel) (why : Refusal) (after : SessionModel) (was : ℕ)
       → RefusedBy (Some nothing_held) (reading_of l) why → Replies mid after (refusal_line why)
       → LineLeaves l (Nothing false) k before k after was was
   refused_leaves k why after was by reply =
@@ -570,7 +570,7 @@ module _ (before mid : Talk) (l rest : Bytes) (f : front_of before.held ≡ a_li
       (reads_refused k mid after l why was (refused_in mid.batch (reading_of l) why open_still by) reply)
 
 -- A line of a row is held before it is taken of the bytes, and answered.
-pub hold_leaves : (before mid taken after : Talk) (l : Bytes) (at : ℕ) (k : Kept) (verb : Verb) (name : Bytes)
+pub hold_leaves : (before mid taken after : SessionModel) (l : Bytes) (at : ℕ) (k : StoreModel) (verb : Verb) (name : Bytes)
     (row : Tuple) (result : Result ⊤ Refusal) (count was : ℕ)
     → front_of before.held ≡ a_line l (drop at before.held) → is_blank l ≡ false
     → length before.pending ≤ PENDING_BYTES → IsSome before.batch
@@ -579,7 +579,7 @@ pub hold_leaves : (before mid taken after : Talk) (l : Bytes) (at : ℕ) (k : Ke
     → Replies taken after (held_reply result count) → LineLeaves l (Nothing false) k before k after was was
 hold_leaves before mid taken after l at k verb name row result count was f said few some reads holds t c r =
     let rest = drop at before.held in
-    let bytes : mid.held ≡ before.held = ap (λ (d : Talk). d.held)
+    let bytes : mid.held ≡ before.held = ap (λ (d : SessionModel). d.held)
     (held_alone before l verb name row result mid holds.1) in
     runs false false k before (record before { held = rest }) l rest k after was was f refl said few
     (reads_said false false k (record before { held = rest }) l (row_command verb name row) k after was was reads

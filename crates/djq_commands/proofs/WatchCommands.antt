@@ -28,12 +28,12 @@ use Rattle.djq_session.specs.declared.named.NamedCursor.{NamedCursor}
 use Rattle.djq_session.specs.Dialog.{Replies, named}
 use Rattle.djq_engine.specs.declared.cursor.QueryId.{QueryId}
 use Rattle.djq_engine.specs.declared.cursor.CursorId.{CursorId}
-use Rattle.djq_engine.specs.Kept.{Kept, HeldCursor, Registered, held_at, SameCursors, registered_of, registered_at}
-use Rattle.djq_engine.specs.Kept.{with_watchers}
+use Rattle.djq_engine.specs.StoreModel.{StoreModel, HeldCursor, Registered, held_at, SameCursors, registered_of, registered_at}
+use Rattle.djq_engine.specs.StoreModel.{with_watchers}
 use Rattle.djq_engine.specs.Watching.{Enrols}
 use Rattle.djq_store.specs.Registering.{EnrolsUnion}
 use Rattle.djq_commands.specs.declared.open.OpenSession.{OpenSession}
-use Rattle.djq_commands.specs.Views.{Talk, session_in, state_in}
+use Rattle.djq_commands.specs.Views.{SessionModel, session_in, state_in}
 use Rattle.djq_commands.specs.Sound.{all_ids, is_among_watches, times_in, NamesOnce, HasCount, StaysCounted}
 use Rattle.djq_commands.specs.Sound.{QuietOnceEnded}
 use Rattle.djq_commands.specs.Performs.{among, to_one, Executes}
@@ -168,7 +168,7 @@ is_there rs st q r e h = ap (λ (o : Option Listed). is_none o)
 -- ---- what is answered
 
 -- what is known around a session holds whatever it watches
-around_watches : (hs : List HeldCursor) (front : List OpenSession) (s : ℕ) (d : Talk) (ws : List Bytes)
+around_watches : (hs : List HeldCursor) (front : List OpenSession) (s : ℕ) (d : SessionModel) (ws : List Bytes)
     (back : List OpenSession) → Around hs front s d back → Around hs front s (record d { watches = ws }) back
 around_watches hs front s d ws back p = record {
   rising = p.rising;
@@ -183,11 +183,11 @@ around_watches hs front s d ws back p = record {
   ended_back = p.ended_back;
 }
 
-same_cursors : (ws : List Bytes) (old new : Kept) (before after : Talk) → Rewatches ws old before new after
+same_cursors : (ws : List Bytes) (old new : StoreModel) (before after : SessionModel) → Rewatches ws old before new after
     → SameCursors old.cursors new.cursors
-same_cursors ws old new before after w id = ap (λ (k : Kept). held_at k.cursors id) w.rest
+same_cursors ws old new before after w id = ap (λ (k : StoreModel). held_at k.cursors id) w.rest
 
-rewatched : (ws : List Bytes) (old new : Kept) (before mid after : Talk) (f : Session → Session)
+rewatched : (ws : List Bytes) (old new : StoreModel) (before mid after : SessionModel) (f : Session → Session)
     (front back : List OpenSession) (s : ℕ) (stopped : Bool)
     → Rewatches ws old before new mid → record (session_in old.cursors s before) { watches = ws }
     ≡ f (session_in old.cursors s before) → Around old.cursors front s before back
@@ -196,46 +196,46 @@ rewatched : (ws : List Bytes) (old new : Kept) (before mid after : Talk) (f : Se
     × Around new.cursors front s mid back
 rewatched ws old new before mid after f front back s stopped w looks p =
     let same = same_cursors ws old new before mid w in (
-      ap (λ (d : Talk). state_in new stopped (among front s (record d { room = after.room }) back)) w.session
+      ap (λ (d : SessionModel). state_in new stopped (among front s (record d { room = after.room }) back)) w.session
           ∙ moved old new stopped front s before (record before { watches = ws; room = after.room }) back f p
           (agree_same old.cursors new.cursors (all_ids front) same)
-          (agree_same old.cursors new.cursors (all_ids back) same) (ap (λ (k : Kept). k.store) w.rest)
-          (ap (λ (k : Kept). session_in k.cursors s (record before { watches = ws; room = after.room })) w.rest
+          (agree_same old.cursors new.cursors (all_ids back) same) (ap (λ (k : StoreModel). k.store) w.rest)
+          (ap (λ (k : StoreModel). session_in k.cursors s (record before { watches = ws; room = after.room })) w.rest
           ∙ looks),
-      subst (λ (d : Talk). Around new.cursors front s d back) (sym w.session)
+      subst (λ (d : SessionModel). Around new.cursors front s d back) (sym w.session)
           (around_watches new.cursors front s before ws back
           (around_same old.cursors new.cursors front s before back same p)),
     )
 
-counts : (ws : List Bytes) (old new : Kept) (before mid : Talk) → Rewatches ws old before new mid
+counts : (ws : List Bytes) (old new : StoreModel) (before mid : SessionModel) → Rewatches ws old before new mid
     → StaysCounted old.registered before.watches new.registered mid.watches
 counts ws old new before mid w = subst
     (λ (vs : List Bytes). StaysCounted old.registered before.watches new.registered vs)
-    (sym (ap (λ (d : Talk). d.watches) w.session)) w.counted
+    (sym (ap (λ (d : SessionModel). d.watches) w.session)) w.counted
 
 -- a session that goes on may watch
-quiet_still : (before mid : Talk) → before.cause ≡ None → mid.cause ≡ before.cause
+quiet_still : (before mid : SessionModel) → before.cause ≡ None → mid.cause ≡ before.cause
     → QuietOnceEnded before.cause before.watches → QuietOnceEnded mid.cause mid.watches
 quiet_still before mid running same q = subst (λ (o : Option EndCause). QuietOnceEnded o mid.watches)
     (sym (same ∙ running)) tt
 
-pub does_watch : (old new : Kept) (before mid after : Talk) (q : Bytes) (result : Result ⊤ Refusal)
+pub does_watch : (old new : StoreModel) (before mid after : SessionModel) (q : Bytes) (result : Result ⊤ Refusal)
     → before.cause ≡ None → BeginsWatch old before q result new mid
     → Replies mid after (watch_reply result (new.store).seq)
     → Executes (Watch q) false old before new after 0 0
 does_watch old new before mid after q (Ok u) running w r =
     let done : Result ⊤ Refusal = Ok u in
     let b = w.becomes in
-    answered _ old new before mid after (watch_reply done (new.store).seq) r (ap (λ (d : Talk). d.pending) b.session)
+    answered _ old new before mid after (watch_reply done (new.store).seq) r (ap (λ (d : SessionModel). d.pending) b.session)
     (counts (with_query q before.watches) old new before mid b)
-    (quiet_still before mid running (ap (λ (d : Talk). d.cause) b.session))
+    (quiet_still before mid running (ap (λ (d : SessionModel). d.cause) b.session))
     (λ front back s stopped p.
     let step = rewatched (with_query q before.watches) old new before mid after (with_watch q) front back s stopped b
     refl p in (
       record {
         result = done;
         answer = w.answer;
-        effect = ap (λ (k : Kept). to_one s (Some (watch_reply done (k.store).seq)) 0) b.rest;
+        effect = ap (λ (k : StoreModel). to_one s (Some (watch_reply done (k.store).seq)) 0) b.rest;
         state = step.0;
       },
       step.1,
@@ -243,9 +243,9 @@ does_watch old new before mid after q (Ok u) running w r =
 does_watch old new before mid after q (Err e) running w r =
     let failed : Result ⊤ Refusal = Err e in
     let b = w.becomes in
-    replied _ old new before after (refusal_line e) (subst (λ (d : Talk). Replies d after (refusal_line e)) b.1 r)
-    (λ id. ap (λ (k : Kept). held_at k.cursors id) b.0)
-    (stays_same old.registered new.registered before.watches before.watches (ap (λ (k : Kept). k.registered) b.0) refl)
+    replied _ old new before after (refusal_line e) (subst (λ (d : SessionModel). Replies d after (refusal_line e)) b.1 r)
+    (λ id. ap (λ (k : StoreModel). held_at k.cursors id) b.0)
+    (stays_same old.registered new.registered before.watches before.watches (ap (λ (k : StoreModel). k.registered) b.0) refl)
     (λ st s x store same. record {
       result = failed;
       answer = subst (λ (y : Session). Answers (watch_refusal st.store q) failed (λ _. ⊤)
@@ -253,18 +253,18 @@ does_watch old new before mid after q (Err e) running w r =
           (subst (λ (z : Store). Answers (watch_refusal z q) failed (λ _. ⊤)
           (OutOfMemoryWhere (is_among_watches before.watches q ≡ false))) (sym store) w.answer);
       effect = refl;
-      state = ap (λ (z : Store). record st { store = z }) (ap (λ (k : Kept). k.store) b.0 ∙ sym store);
+      state = ap (λ (z : Store). record st { store = z }) (ap (λ (k : StoreModel). k.store) b.0 ∙ sym store);
     })
 
-pub does_unwatch : (old new : Kept) (before mid after : Talk) (q : Bytes) (result : Result ⊤ Refusal)
+pub does_unwatch : (old new : StoreModel) (before mid after : SessionModel) (q : Bytes) (result : Result ⊤ Refusal)
     → before.cause ≡ None → CeasesWatch old before q result new mid → Replies mid after (ok_reply (codes "ok") result)
     → Executes (Unwatch q) false old before new after 0 0
 does_unwatch old new before mid after q (Ok u) running w r =
     let done : Result ⊤ Refusal = Ok u in
     let b = w.becomes in
-    answered _ old new before mid after (ok_reply (codes "ok") done) r (ap (λ (d : Talk). d.pending) b.session)
+    answered _ old new before mid after (ok_reply (codes "ok") done) r (ap (λ (d : SessionModel). d.pending) b.session)
     (counts (without_query q before.watches) old new before mid b)
-    (quiet_still before mid running (ap (λ (d : Talk). d.cause) b.session))
+    (quiet_still before mid running (ap (λ (d : SessionModel). d.cause) b.session))
     (λ front back s stopped p.
     let step = rewatched (without_query q before.watches) old new before mid after (without_watch q) front back s
     stopped b refl p in (
@@ -279,15 +279,15 @@ does_unwatch old new before mid after q (Ok u) running w r =
 does_unwatch old new before mid after q (Err e) running w r =
     let failed : Result ⊤ Refusal = Err e in
     let b = w.becomes in
-    replied _ old new before after (refusal_line e) (subst (λ (d : Talk). Replies d after (refusal_line e)) b.1 r)
-    (λ id. ap (λ (k : Kept). held_at k.cursors id) b.0)
-    (stays_same old.registered new.registered before.watches before.watches (ap (λ (k : Kept). k.registered) b.0) refl)
+    replied _ old new before after (refusal_line e) (subst (λ (d : SessionModel). Replies d after (refusal_line e)) b.1 r)
+    (λ id. ap (λ (k : StoreModel). held_at k.cursors id) b.0)
+    (stays_same old.registered new.registered before.watches before.watches (ap (λ (k : StoreModel). k.registered) b.0) refl)
     (λ st s x store same. record {
       result = failed;
       answer = subst (λ (z : Store). Answers (watch_refusal z q) failed (λ _. ⊤) (OutOfMemoryWhere ⊥)) (sym store)
           w.answer;
       effect = refl;
-      state = ap (λ (z : Store). record st { store = z }) (ap (λ (k : Kept). k.store) b.0 ∙ sym store);
+      state = ap (λ (z : Store). record st { store = z }) (ap (λ (k : StoreModel). k.store) b.0 ∙ sym store);
     })
 
 -- ---- what the calls answer
@@ -316,14 +316,14 @@ on_err P (Ok a) e h = absurd (cc)
 on_err P (Err x) e h = h
 
 -- a session that watches these already
-stays_watching : (ws : List Bytes) (k : Kept) (d : Talk) → ws ≡ d.watches → Rewatches ws k d k d
+stays_watching : (ws : List Bytes) (k : StoreModel) (d : SessionModel) → ws ≡ d.watches → Rewatches ws k d k d
 stays_watching ws k d same = record {
   rest = refl;
   session = ap (λ (vs : List Bytes). record d { watches = vs }) (sym same);
   counted = stays_same k.registered k.registered d.watches ws refl same;
 }
 
-pub begins_none : (k : Kept) (d : Talk) (q : Bytes) → map (λ (r : Registered). r.query) k.registered ≡ (k.store).queries
+pub begins_none : (k : StoreModel) (d : SessionModel) (q : Bytes) → map (λ (r : Registered). r.query) k.registered ≡ (k.store).queries
     → None ≡ option_map (λ (r : Registered). r.id) (registered_of k.registered q) → BeginsWatch k d q (Err NoQuery) k d
 begins_none k d q laws h = record {
   answer = no_query (is_among_watches d.watches q ≡ false) (is_none (listed_of (k.store).queries q))
@@ -331,20 +331,20 @@ begins_none k d q laws h = record {
   becomes = (refl, refl);
 }
 
-pub ceases_none : (k : Kept) (d : Talk) (q : Bytes) → map (λ (r : Registered). r.query) k.registered ≡ (k.store).queries
+pub ceases_none : (k : StoreModel) (d : SessionModel) (q : Bytes) → map (λ (r : Registered). r.query) k.registered ≡ (k.store).queries
     → None ≡ option_map (λ (r : Registered). r.id) (registered_of k.registered q) → CeasesWatch k d q (Err NoQuery) k d
 ceases_none k d q laws h = record {
   answer = no_query ⊥ (is_none (listed_of (k.store).queries q)) (not_there k.registered k.store q laws h);
   becomes = (refl, refl);
 }
 
-named_there : (k : Kept) (q : Bytes) (id : QueryId) → map (λ (r : Registered). r.query) k.registered ≡ (k.store).queries
+named_there : (k : StoreModel) (q : Bytes) (id : QueryId) → map (λ (r : Registered). r.query) k.registered ≡ (k.store).queries
     → Some id ≡ option_map (λ (r : Registered). r.id) (registered_of k.registered q)
     → is_none (listed_of (k.store).queries q) ≡ false
 named_there k q id laws h = let f = of_id (registered_of k.registered q) id h in is_there k.registered k.store q f.0
     laws f.1
 
-pub begins_already : (k : Kept) (d : Talk) (q : Bytes) (id : QueryId) → map (λ (r : Registered). r.query) k.registered
+pub begins_already : (k : StoreModel) (d : SessionModel) (q : Bytes) (id : QueryId) → map (λ (r : Registered). r.query) k.registered
     ≡ (k.store).queries
     → Some id ≡ option_map (λ (r : Registered). r.id) (registered_of k.registered q) → is_among_watches d.watches q
     ≡ true → BeginsWatch k d q (Ok tt) k d
@@ -354,7 +354,7 @@ begins_already k d q id laws h e = record {
   becomes = stays_watching (with_query q d.watches) k d (ap (λ (b : Bool). cond b d.watches (d.watches ++ q ∷ [])) e);
 }
 
-pub ceases_already : (k : Kept) (d : Talk) (q : Bytes) (id : QueryId) → map (λ (r : Registered). r.query) k.registered
+pub ceases_already : (k : StoreModel) (d : SessionModel) (q : Bytes) (id : QueryId) → map (λ (r : Registered). r.query) k.registered
     ≡ (k.store).queries
     → Some id ≡ option_map (λ (r : Registered). r.id) (registered_of k.registered q) → is_among_watches d.watches q
     ≡ false → CeasesWatch k d q (Ok tt) k d
@@ -363,7 +363,7 @@ ceases_already k d q id laws h e = record {
   becomes = stays_watching (without_query q d.watches) k d (dropped_none d.watches q e);
 }
 
-pub begins_full : (k : Kept) (d d' : Talk) (q : Bytes) (id : QueryId) → map (λ (r : Registered). r.query) k.registered
+pub begins_full : (k : StoreModel) (d d' : SessionModel) (q : Bytes) (id : QueryId) → map (λ (r : Registered). r.query) k.registered
     ≡ (k.store).queries
     → Some id ≡ option_map (λ (r : Registered). r.id) (registered_of k.registered q) → is_among_watches d.watches q
     ≡ false → d' ≡ d → BeginsWatch k d q (Err NoMemory) k d'
@@ -374,21 +374,21 @@ begins_full k d d' q id laws h e same = record {
 }
 
 -- the engine has other watchers
-rest_with : (f : ℕ → ℕ) (id : QueryId) (k k' : Kept) → k' ≡ record k { registered = with_watchers id f k.registered }
+rest_with : (f : ℕ → ℕ) (id : QueryId) (k k' : StoreModel) → k' ≡ record k { registered = with_watchers id f k.registered }
     → k' ≡ record k { registered = k'.registered }
 rest_with f id k k' u = u
-    ∙ ap (λ (rs : List Registered). record k { registered = rs }) (sym (ap (λ (x : Kept). x.registered) u))
+    ∙ ap (λ (rs : List Registered). record k { registered = rs }) (sym (ap (λ (x : StoreModel). x.registered) u))
 
-counted_with : (f : ℕ → ℕ) (ws vs us : List Bytes) (id : QueryId) (r : Registered) (k k' : Kept) → r.id ≡ id → k'
+counted_with : (f : ℕ → ℕ) (ws vs us : List Bytes) (id : QueryId) (r : Registered) (k k' : StoreModel) → r.id ≡ id → k'
     ≡ record k { registered = with_watchers id f k.registered } → us ≡ vs
     → StaysCounted k.registered ws (with_watchers r.id f k.registered) vs
     → StaysCounted k.registered ws k'.registered us
 counted_with f ws vs us id r k k' i u same stays =
     subst (λ (rs : List Registered). StaysCounted k.registered ws rs us)
-    (ap (λ (n : QueryId). with_watchers n f k.registered) i ∙ sym (ap (λ (x : Kept). x.registered) u))
+    (ap (λ (n : QueryId). with_watchers n f k.registered) i ∙ sym (ap (λ (x : StoreModel). x.registered) u))
     (subst (λ (xs : List Bytes). StaysCounted k.registered ws (with_watchers r.id f k.registered) xs) (sym same) stays)
 
-pub begins_done : (k k' : Kept) (d d' : Talk) (q : Bytes) (id : QueryId)
+pub begins_done : (k k' : StoreModel) (d d' : SessionModel) (q : Bytes) (id : QueryId)
     → map (λ (r : Registered). r.query) k.registered ≡ (k.store).queries → IdsApart k.registered
     → NamesApart k.registered
     → Some id ≡ option_map (λ (r : Registered). r.id) (registered_of k.registered q) → is_among_watches d.watches q
@@ -410,7 +410,7 @@ begins_done k k' d d' q id laws apart names h e s u =
       };
     }
 
-pub ceases_done : (k k' : Kept) (d d' : Talk) (q : Bytes) (id : QueryId)
+pub ceases_done : (k k' : StoreModel) (d d' : SessionModel) (q : Bytes) (id : QueryId)
     → map (λ (r : Registered). r.query) k.registered ≡ (k.store).queries → IdsApart k.registered
     → NamesApart k.registered
     → Some id ≡ option_map (λ (r : Registered). r.id) (registered_of k.registered q) → is_among_watches d.watches q
@@ -431,7 +431,7 @@ ceases_done k k' d d' q id laws apart names h e s u =
 
 -- ---- what the engine asks
 
-at_id : (k : Kept) (q : Bytes) (id : QueryId) (P : Registered → Type 0) → IdsApart k.registered → Some id
+at_id : (k : StoreModel) (q : Bytes) (id : QueryId) (P : Registered → Type 0) → IdsApart k.registered → Some id
     ≡ option_map (λ (r : Registered). r.id) (registered_of k.registered q)
     → ((r : Registered) → Contains k.registered r → (listed_name r.query) ≡ q → P r)
     → IsSomeAnd (registered_at k.registered id) P
@@ -442,7 +442,7 @@ at_id k q id P apart h holds =
     (is_some_at P (registered_at k.registered (f.0).id) f.0 (at_its_id k.registered f.0 apart t.0)
     (holds f.0 t.0 (same_name (listed_name (f.0).query) q t.1)))
 
-pub may_watch : (k : Kept) (d : Talk) (q : Bytes) (id : QueryId) → HasCount k.registered d.watches
+pub may_watch : (k : StoreModel) (d : SessionModel) (q : Bytes) (id : QueryId) → HasCount k.registered d.watches
     → IdsApart k.registered → Some id ≡ option_map (λ (r : Registered). r.id) (registered_of k.registered q)
     → is_among_watches d.watches q ≡ false → IsSomeAnd (registered_at k.registered id) (λ r. r.watchers < SESSIONS)
 may_watch k d q id own apart h e = at_id k q id (λ r. r.watchers < SESSIONS) apart h (λ r c name.
@@ -453,7 +453,7 @@ may_watch k d q id own apart h e = at_id k q id (λ r. r.watchers < SESSIONS) ap
     low : (w o t : ℕ) → w ≡ o + t → t ≡ 0 → o < SESSIONS → w < SESSIONS
     low w o t f g l = omega (arith, f, g, l)
 
-pub may_unwatch : (k : Kept) (d : Talk) (q : Bytes) (id : QueryId) → HasCount k.registered d.watches
+pub may_unwatch : (k : StoreModel) (d : SessionModel) (q : Bytes) (id : QueryId) → HasCount k.registered d.watches
     → IdsApart k.registered → Some id ≡ option_map (λ (r : Registered). r.id) (registered_of k.registered q)
     → is_among_watches d.watches q ≡ true → IsSomeAnd (registered_at k.registered id) (λ r. 0 < r.watchers)
 may_unwatch k d q id own apart h e = at_id k q id (λ r. 0 < r.watchers) apart h (λ r c name.
@@ -464,7 +464,7 @@ may_unwatch k d q id own apart h e = at_id k q id (λ r. 0 < r.watchers) apart h
     high : (w o t : ℕ) → w ≡ o + t → t ≡ 1 → 0 < w
     high w o t f g = omega (arith, f, g)
 
-pub is_registered : (k : Kept) (q : Bytes) (id : QueryId) → IdsApart k.registered → Some id
+pub is_registered : (k : StoreModel) (q : Bytes) (id : QueryId) → IdsApart k.registered → Some id
     ≡ option_map (λ (r : Registered). r.id) (registered_of k.registered q) → IsSome (registered_at k.registered id)
 is_registered k q id apart h =
     let f = of_id (registered_of k.registered q) id h in
@@ -553,7 +553,7 @@ stays_enrolled old new ws q (Ok (Cyclic u)) e apart = stays_same old new ws ws e
 stays_enrolled old new ws q (Ok (NotConnex u)) e apart = stays_same old new ws ws e refl
 stays_enrolled old new ws q (Err r) e apart = stays_same old new ws ws e refl
 
-pub stays_united : (old new : Kept) (ws : List Bytes) (name : Bytes) (members : List Bytes) (result : Result ℕ Refusal)
+pub stays_united : (old new : StoreModel) (ws : List Bytes) (name : Bytes) (members : List Bytes) (result : Result ℕ Refusal)
     → EnrolsUnion old name members result new → NamesApart new.registered
     → StaysCounted old.registered ws new.registered ws
 stays_united old new ws name members (Ok most) e apart =
@@ -600,7 +600,7 @@ none_there : (rs : List Registered) (st : Store) (q : Bytes) → map (λ (r : Re
 none_there rs st q laws None h s = not_there rs st q laws h
 none_there rs st q laws (Some id) h s = absurd (cc)
 
-pub opens_limit : (k : Kept) (d : Talk) (c q : Bytes) (o : Option QueryId) → is_some (named d.cursors c) ≡ false
+pub opens_limit : (k : StoreModel) (d : SessionModel) (c q : Bytes) (o : Option QueryId) → is_some (named d.cursors c) ≡ false
     → map (λ (r : Registered). r.query) k.registered ≡ (k.store).queries
     → o ≡ option_map (λ (r : Registered). r.id) (registered_of k.registered q) → is_some o ≡ true
     → CURSORS ≤ length d.cursors → SessionOpens k d c q (Err Limit) k d
@@ -609,7 +609,7 @@ opens_limit k d c q o a laws h s l = record {
   opens = (refl, (λ id. refl), refl, refl);
 }
 
-pub opens_none : (k : Kept) (d : Talk) (c q : Bytes) (o : Option QueryId) → is_some (named d.cursors c) ≡ false
+pub opens_none : (k : StoreModel) (d : SessionModel) (c q : Bytes) (o : Option QueryId) → is_some (named d.cursors c) ≡ false
     → map (λ (r : Registered). r.query) k.registered ≡ (k.store).queries
     → o ≡ option_map (λ (r : Registered). r.id) (registered_of k.registered q) → is_some o ≡ false
     → SessionOpens k d c q (Err NoQuery) k d

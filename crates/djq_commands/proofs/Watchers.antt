@@ -13,9 +13,9 @@ use Rattle.djq_answer_laws.proofs.Lists.{nothing_there, first_or_later, first_th
 use Rattle.djq_answer_laws.proofs.Lists.{pairs_tail, or_false}
 use Rattle.djq_session.specs.Dialog.{PopsWatch}
 use Rattle.djq_engine.specs.declared.cursor.QueryId.{QueryId}
-use Rattle.djq_engine.specs.Kept.{Kept, Registered, registered_of, registered_at, same_query, with_watchers}
+use Rattle.djq_engine.specs.StoreModel.{StoreModel, Registered, registered_of, registered_at, same_query, with_watchers}
 use Rattle.djq_commands.specs.declared.open.OpenSession.{OpenSession}
-use Rattle.djq_commands.specs.Views.{Talk}
+use Rattle.djq_commands.specs.Views.{SessionModel}
 use Rattle.djq_commands.specs.Sound.{is_among_watches, times_in, watchers_in, NamesOnce, SessionsWatchOnce}
 use Rattle.djq_commands.specs.Sound.{QuietOnceEnded, AreQuiet, WatchersAreCounted, SessionIsCounted, HasCount}
 use Rattle.djq_commands.specs.Sound.{StaysCounted, IsSound, without_watchers}
@@ -30,7 +30,7 @@ use Rattle.djq_commands.proofs.Cursors.{or_true}
 shuffled : (a b c d n : ℕ) → n ≡ (b + c) + d → a + n ≡ ((a + b) + c) + d
 shuffled a b c d n e = omega (arith, e)
 
-pub count_among : (front : List OpenSession) (s : ℕ) (d : Talk) (back : List OpenSession) (q : Bytes)
+pub count_among : (front : List OpenSession) (s : ℕ) (d : SessionModel) (back : List OpenSession) (q : Bytes)
     → watchers_in (among front s d back) q ≡ (watchers_in front q + watchers_in back q) + times_in d.watches q
 count_among [] s d back q = start (times_in d.watches q) (watchers_in back q)
   where
@@ -51,28 +51,28 @@ pub few_watch : (xs : List OpenSession) (q : Bytes) → watchers_in xs q ≤ len
 few_watch [] q = omega arith
 few_watch (x ∷ xs) q = omega (arith, at_most_one (x.session).watches q, few_watch xs q)
 
-pub once_split : (front : List OpenSession) (s : ℕ) (d : Talk) (back : List OpenSession)
+pub once_split : (front : List OpenSession) (s : ℕ) (d : SessionModel) (back : List OpenSession)
     → SessionsWatchOnce (among front s d back) → SessionsWatchOnce front × NamesOnce d.watches × SessionsWatchOnce back
 once_split [] s d back h = (tt, h.0, h.1)
 once_split (x ∷ front) s d back h = let r = once_split front s d back h.1 in ((h.0, r.0), r.1, r.2)
 
-pub once_join : (front : List OpenSession) (s : ℕ) (d : Talk) (back : List OpenSession) → SessionsWatchOnce front
+pub once_join : (front : List OpenSession) (s : ℕ) (d : SessionModel) (back : List OpenSession) → SessionsWatchOnce front
     → NamesOnce d.watches → SessionsWatchOnce back → SessionsWatchOnce (among front s d back)
 once_join [] s d back f o b = (o, b)
 once_join (x ∷ front) s d back f o b = (f.0, once_join front s d back f.1 o b)
 
-pub quiet_split : (front : List OpenSession) (s : ℕ) (d : Talk) (back : List OpenSession)
+pub quiet_split : (front : List OpenSession) (s : ℕ) (d : SessionModel) (back : List OpenSession)
     → AreQuiet (among front s d back) → AreQuiet front × QuietOnceEnded d.cause d.watches × AreQuiet back
 quiet_split [] s d back h = (tt, h.0, h.1)
 quiet_split (x ∷ front) s d back h = let r = quiet_split front s d back h.1 in ((h.0, r.0), r.1, r.2)
 
-pub quiet_join : (front : List OpenSession) (s : ℕ) (d : Talk) (back : List OpenSession) → AreQuiet front
+pub quiet_join : (front : List OpenSession) (s : ℕ) (d : SessionModel) (back : List OpenSession) → AreQuiet front
     → QuietOnceEnded d.cause d.watches → AreQuiet back → AreQuiet (among front s d back)
 quiet_join [] s d back f o b = (o, b)
 quiet_join (x ∷ front) s d back f o b = (f.0, quiet_join front s d back f.1 o b)
 
 -- a session that watches goes on
-pub goes_on_watching : (d : Talk) (q : Bytes) → QuietOnceEnded d.cause d.watches → is_among_watches d.watches q ≡ true
+pub goes_on_watching : (d : SessionModel) (q : Bytes) → QuietOnceEnded d.cause d.watches → is_among_watches d.watches q ≡ true
     → d.cause ≡ None
 goes_on_watching d q quiet w = by d.cause quiet
   where
@@ -85,7 +85,7 @@ goes_on_watching d q quiet w = by d.cause quiet
 abbrev pub others_in : List OpenSession → List OpenSession → Bytes → ℕ
 others_in front back q = watchers_in front q + watchers_in back q
 
-pub counted_of : (k : Kept) (front : List OpenSession) (s : ℕ) (d : Talk) (back : List OpenSession)
+pub counted_of : (k : StoreModel) (front : List OpenSession) (s : ℕ) (d : SessionModel) (back : List OpenSession)
     → IsSound k (among front s d back)
     → SessionIsCounted (others_in front back) k.registered d.watches
 counted_of k front s d back sound = record {
@@ -102,7 +102,7 @@ counted_of k front s d back sound = record {
 }
 
 -- What is counted of all, where it stays so of one.
-pub counted_among : (rs : List Registered) (front : List OpenSession) (s : ℕ) (d : Talk) (back : List OpenSession)
+pub counted_among : (rs : List Registered) (front : List OpenSession) (s : ℕ) (d : SessionModel) (back : List OpenSession)
     → SessionIsCounted (others_in front back) rs d.watches
     → SessionsWatchOnce front → SessionsWatchOnce back → AreQuiet (among front s d back)
     → WatchersAreCounted rs (among front s d back)
@@ -113,7 +113,7 @@ counted_among rs front s d back h f b quiet = record {
   quiet = quiet;
 }
 
-pub counted_same : (rs : List Registered) (front : List OpenSession) (s : ℕ) (d e : Talk) (back : List OpenSession)
+pub counted_same : (rs : List Registered) (front : List OpenSession) (s : ℕ) (d e : SessionModel) (back : List OpenSession)
     → e.watches ≡ d.watches → (QuietOnceEnded d.cause d.watches → QuietOnceEnded e.cause e.watches)
     → WatchersAreCounted rs (among front s d back) → WatchersAreCounted rs (among front s e back)
 counted_same rs front s d e back same still h =
@@ -128,7 +128,7 @@ counted_same rs front s d e back same still h =
       quiet = quiet_join front s e back w.0 (still w.1) w.2;
     }
 
-pub recount : (old : Kept) (rs : List Registered) (front : List OpenSession) (s : ℕ) (before after : Talk)
+pub recount : (old : StoreModel) (rs : List Registered) (front : List OpenSession) (s : ℕ) (before after : SessionModel)
     (back : List OpenSession)
     → StaysCounted old.registered before.watches rs after.watches
     → (QuietOnceEnded before.cause before.watches → QuietOnceEnded after.cause after.watches)
@@ -140,7 +140,7 @@ recount old rs front s before after back stays still sound =
     o.2 (quiet_join front s after back w.0 (still w.1) w.2)
 
 -- what is counted of a session on its own
-pub has_count : (k : Kept) (front : List OpenSession) (s : ℕ) (d : Talk) (back : List OpenSession)
+pub has_count : (k : StoreModel) (front : List OpenSession) (s : ℕ) (d : SessionModel) (back : List OpenSession)
     → IsSound k (among front s d back) → HasCount k.registered d.watches
 has_count k front s d back sound = (others_in front back, counted_of k front s d back sound)
 
@@ -184,7 +184,7 @@ quiet_append : (front back : List OpenSession) → AreQuiet front → AreQuiet b
 quiet_append [] back f b = b
 quiet_append (x ∷ front) back f b = (f.0, quiet_append front back f.1 b)
 
-pub count_left : (k new : Kept) (front : List OpenSession) (s : ℕ) (d e : Talk) (back : List OpenSession)
+pub count_left : (k new : StoreModel) (front : List OpenSession) (s : ℕ) (d e : SessionModel) (back : List OpenSession)
     → StaysCounted k.registered d.watches new.registered []
     → IsSound k (among front s d back) → WatchersAreCounted new.registered (front ++ back)
 count_left k new front s d e back stays sound =
@@ -200,7 +200,7 @@ count_left k new front s d e back stays sound =
     }
 
 -- a session more, which watches nothing
-pub count_more : (rs : List Registered) (xs : List OpenSession) (s : ℕ) (d : Talk) → d.watches ≡ [] → d.cause ≡ None
+pub count_more : (rs : List Registered) (xs : List OpenSession) (s : ℕ) (d : SessionModel) → d.watches ≡ [] → d.cause ≡ None
     → WatchersAreCounted rs xs → WatchersAreCounted rs (xs ++ record { id = s; session = d } ∷ [])
 count_more rs xs s d none on h =
     let none_more = λ (q : Bytes). watch_append xs (record { id = s; session = d } ∷ []) q
@@ -612,14 +612,14 @@ stays_dropped rs q ws none others h = record {
 
 -- ---- A session that gives up its watches, one after another.
 
-pub record GivingWatches (old : Kept) (before : Talk) (k : Kept) (d : Talk) : Type 0 where
+pub record GivingWatches (old : StoreModel) (before : SessionModel) (k : StoreModel) (d : SessionModel) : Type 0 where
   pub counted : StaysCounted old.registered before.watches k.registered d.watches
   pub own : HasCount k.registered d.watches
   pub rest : k ≡ record old { registered = k.registered }
   pub session : d ≡ record before { watches = d.watches }
   pub listed : without_watchers k.registered ≡ without_watchers old.registered
 
-pub watches_start : (k : Kept) (d : Talk) → HasCount k.registered d.watches → GivingWatches k d k d
+pub watches_start : (k : StoreModel) (d : SessionModel) → HasCount k.registered d.watches → GivingWatches k d k d
 watches_start k d own = record {
   counted = stays_same k.registered k.registered d.watches d.watches refl refl;
   own = own;
@@ -629,7 +629,7 @@ watches_start k d own = record {
 }
 
 -- what is counted before the last is popped
-pub popped_count : (k : Kept) (d e : Talk) (q : Bytes) → HasCount k.registered d.watches → PopsWatch d e (Some q)
+pub popped_count : (k : StoreModel) (d e : SessionModel) (q : Bytes) → HasCount k.registered d.watches → PopsWatch d e (Some q)
     → HasCount k.registered (e.watches ++ q ∷ [])
 popped_count k d e q own p = subst (λ (ws : List Bytes). HasCount k.registered ws) p.0 own
 
@@ -643,7 +643,7 @@ pub is_some_at : (P : Registered → Type 0) (o : Option Registered) (r : Regist
 is_some_at P o r e p = subst (λ (x : Option Registered). IsSomeAnd x P) (sym e) p
 
 -- the query that is popped has a watcher
-pub popped_watched : (k : Kept) (d e : Talk) (q : Bytes) (id : QueryId) → HasCount k.registered d.watches
+pub popped_watched : (k : StoreModel) (d e : SessionModel) (q : Bytes) (id : QueryId) → HasCount k.registered d.watches
     → PopsWatch d e (Some q)
     → IdsApart k.registered → Some id ≡ option_map (λ (r : Registered). r.id) (registered_of k.registered q)
     → IsSomeAnd (registered_at k.registered id) (λ r. 0 < r.watchers)
@@ -655,7 +655,7 @@ popped_watched k d e q id own p apart h =
     (at_its_id k.registered f.0 apart (found_there k.registered q f.0 f.1).0)
     (has_watcher o.0 k.registered e.watches q f.0 o.1 f.1))
 
-pub watches_go_on : (old : Kept) (before : Talk) (k : Kept) (d e : Talk) (k' : Kept) (q : Bytes) (id : QueryId)
+pub watches_go_on : (old : StoreModel) (before : SessionModel) (k : StoreModel) (d e : SessionModel) (k' : StoreModel) (q : Bytes) (id : QueryId)
     → GivingWatches old before k d → PopsWatch d e (Some q)
     → IdsApart k.registered → NamesApart k.registered → Some id
     ≡ option_map (λ (r : Registered). r.id) (registered_of k.registered q)
@@ -663,7 +663,7 @@ pub watches_go_on : (old : Kept) (before : Talk) (k : Kept) (d e : Talk) (k' : K
 watches_go_on old before k d e k' q id g p apart named h u =
     let f = of_id (registered_of k.registered q) id h in
     let rs : k'.registered ≡ with_watchers (f.0).id (λ n. n - 1) k.registered
-    = ap (λ (x : Kept). x.registered) u ∙ ap (λ (i : QueryId). with_watchers i (λ n. n - 1) k.registered) (sym f.2) in
+    = ap (λ (x : StoreModel). x.registered) u ∙ ap (λ (i : QueryId). with_watchers i (λ n. n - 1) k.registered) (sym f.2) in
     let less = watches_less k.registered e.watches q f.0 apart named f.1 in
     let stays : StaysCounted k.registered d.watches k'.registered e.watches
     = subst (λ (qs : List Registered). StaysCounted k.registered d.watches qs e.watches) (sym rs)
@@ -672,14 +672,14 @@ watches_go_on old before k d e k' q id g p apart named h u =
     record {
       counted = stays_on old.registered k.registered k'.registered before.watches d.watches e.watches g.counted stays;
       own = ((g.own).0, stays (g.own).0 (g.own).1);
-      rest = u ∙ ap (λ (x : Kept). record x { registered = with_watchers id (λ n. n - 1) k.registered }) g.rest
-          ∙ ap (λ (qs : List Registered). record old { registered = qs }) (sym (ap (λ (x : Kept). x.registered) u));
-      session = p.1 ∙ ap (λ (x : Talk). record x { watches = e.watches }) g.session;
-      listed = ap without_watchers (ap (λ (x : Kept). x.registered) u)
+      rest = u ∙ ap (λ (x : StoreModel). record x { registered = with_watchers id (λ n. n - 1) k.registered }) g.rest
+          ∙ ap (λ (qs : List Registered). record old { registered = qs }) (sym (ap (λ (x : StoreModel). x.registered) u));
+      session = p.1 ∙ ap (λ (x : SessionModel). record x { watches = e.watches }) g.session;
+      listed = ap without_watchers (ap (λ (x : StoreModel). x.registered) u)
           ∙ listed_with (λ n. n - 1) id k.registered ∙ g.listed;
     }
 
-pub never_unknown : {P : Type 0} (k : Kept) (d e : Talk) (q : Bytes) → HasCount k.registered d.watches
+pub never_unknown : {P : Type 0} (k : StoreModel) (d e : SessionModel) (q : Bytes) → HasCount k.registered d.watches
     → PopsWatch d e (Some q)
     → None ≡ option_map (λ (r : Registered). r.id) (registered_of k.registered q) → P
 never_unknown {P} k d e q own p h =
@@ -690,7 +690,7 @@ never_unknown {P} k d e q own p h =
     by None s h = absurd (cc (s))
     by (Some r) s h = absurd (cc (h))
 
-pub watches_given_up : (old : Kept) (before : Talk) (k : Kept) (d e : Talk) → GivingWatches old before k d
+pub watches_given_up : (old : StoreModel) (before : SessionModel) (k : StoreModel) (d e : SessionModel) → GivingWatches old before k d
     → PopsWatch d e None → GivesUpWatches old before k e
 watches_given_up old before k d e g p =
     record {

@@ -25,7 +25,7 @@ use Rattle.djq_machine.specs.LineStep.{past_limit_refusal}
 use Rattle.djq_parser.specs.declared.refusal.LineRefusal.{LineRefusal}
 use Rattle.djq_parser.specs.declared.refusal.LineRefusal.TheVariants.{Syntax as Outside}
 use Rattle.djq_session.specs.Dialog.{held_in_batch}
-use Rattle.djq_commands.specs.Views.{Talk}
+use Rattle.djq_commands.specs.Views.{SessionModel}
 use Rattle.djq_commands.specs.declared.reading.BatchLine.{BatchLine}
 use Rattle.djq_commands.specs.declared.reading.BatchLine.TheVariants.{Hold, Done, Abandon, Quit, Stop, Refused}
 
@@ -67,14 +67,14 @@ ReadsInBatch line Stop row = reading_of line ≡ says_command SayStop
 ReadsInBatch line (Refused r) row = RefusedBy (Some nothing_held) (reading_of line) r
 
 -- A batch holds a line after the others, or all is as before.
-abbrev pub HeldTo : Talk → Bytes → Verb → Bytes → Tuple → Result ⊤ Refusal → Talk → Type 0
+abbrev pub HeldTo : SessionModel → Bytes → Verb → Bytes → Tuple → Result ⊤ Refusal → SessionModel → Type 0
 HeldTo before line verb name row (Ok _) after = after ≡ record before {
   batch = Some (holding (held_in_batch before.batch) verb name row line);
 }
 HeldTo before line verb name row (Err r) after = after ≡ before
 
 -- A line of a batch is held; or it isn't, by the first condition that holds, or out of memory.
-abbrev pub HoldsLine : Store → Talk → Bytes → Verb → Bytes → Tuple → Result ⊤ Refusal → Talk → Type 0
+abbrev pub HoldsLine : Store → SessionModel → Bytes → Verb → Bytes → Tuple → Result ⊤ Refusal → SessionModel → Type 0
 HoldsLine st before line verb name row result after =
     Answers (hold_refusal st (held_in_batch before.batch) line name row) result (λ _. ⊤) (OutOfMemoryWhere ⊤)
     × HeldTo before line verb name row result after

@@ -39,12 +39,12 @@ use Rattle.djq_store_spec.specs.Held.{HeldTransaction, log_lines}
 use Rattle.djq_store_spec.specs.Transaction.{DoesAll, lines_outcome}
 use Rattle.djq_store_spec.specs.Rows.{AddsRow, DeletesRow}
 use Rattle.djq_store_spec.specs.Changes.{RowsOutcome, row_in, row_out, add_outcome, delete_outcome, tried}
-use Rattle.djq_engine.specs.Kept.{Kept, Outdates, same_query}
+use Rattle.djq_engine.specs.StoreModel.{StoreModel, Outdates, same_query}
 use Rattle.djq_store.specs.Watching.{TellsChange}
 use Rattle.djq_commands.specs.declared.change.Outcome.{Outcome}
 use Rattle.djq_commands.specs.declared.change.Outcome.TheVariants.{Added, Deleted, Done}
 use Rattle.djq_commands.specs.Logging.{line_where}
-use Rattle.djq_commands.specs.Views.{Talk}
+use Rattle.djq_commands.specs.Views.{SessionModel}
 
 -- whether the change was accepted; a copy of a row that stays is none
 abbrev pub is_accepted : Outcome → Bool
@@ -74,7 +74,7 @@ reply_of (Done result held) n = done_reply result n
 
 -- What the engine did of a change, whoever watches. Its registered queries are those of the store, and their ids
 -- differ.
-pub record EngineChanged (old : Kept) (outcome : RowsOutcome) (new : Kept) (was now : ℕ) : Type 0 where
+pub record EngineChanged (old : StoreModel) (outcome : RowsOutcome) (new : StoreModel) (was now : ℕ) : Type 0 where
   pub outdated : Outdates old (tried outcome) new
   pub registered : new.registered ≡ old.registered
   pub queries : map (λ r. r.query) old.registered ≡ (old.store).queries
@@ -82,7 +82,7 @@ pub record EngineChanged (old : Kept) (outcome : RowsOutcome) (new : Kept) (was 
   pub tells : TellsChange old outcome new was now
 
 -- A row was to be added.
-pub record TriesToAdd (old : Kept) (name : Bytes) (row : Tuple) (outcome : Outcome) (new : Kept)
+pub record TriesToAdd (old : StoreModel) (name : Bytes) (row : Tuple) (outcome : Outcome) (new : StoreModel)
     (was now : ℕ) : Type 0 where
   pub result : Result AddOutcome Refusal
   pub is : outcome ≡ Added result
@@ -90,7 +90,7 @@ pub record TriesToAdd (old : Kept) (name : Bytes) (row : Tuple) (outcome : Outco
   pub changed : EngineChanged old (add_outcome (row_in (old.store).relations name row) result) new was now
 
 -- A row was to be deleted.
-pub record Deletes (old : Kept) (name : Bytes) (row : Tuple) (outcome : Outcome) (new : Kept) (was now : ℕ) : Type 0
+pub record Deletes (old : StoreModel) (name : Bytes) (row : Tuple) (outcome : Outcome) (new : StoreModel) (was now : ℕ) : Type 0
   where
     pub result : Result DeleteOutcome Refusal
     pub is : outcome ≡ Deleted result
@@ -98,7 +98,7 @@ pub record Deletes (old : Kept) (name : Bytes) (row : Tuple) (outcome : Outcome)
     pub changed : EngineChanged old (delete_outcome (row_out (old.store).relations name row) result) new was now
 
 -- The lines that a batch held were to be carried out, as one change.
-pub record CarriesOutAll (old : Kept) (held : HeldTransaction) (given : Option ℕ) (outcome : Outcome) (new : Kept)
+pub record CarriesOutAll (old : StoreModel) (held : HeldTransaction) (given : Option ℕ) (outcome : Outcome) (new : StoreModel)
     (was now : ℕ) : Type 0 where
   pub result : Result ℕ DoneRefusal
   pub is : outcome ≡ Done result held
@@ -106,7 +106,7 @@ pub record CarriesOutAll (old : Kept) (held : HeldTransaction) (given : Option �
   pub changed : EngineChanged old (lines_outcome (old.store).relations held.lines result) new was now
 
 -- The outcome of a command that may change rows, of a session with this batch open, or with none.
-abbrev pub IsChange : Command → Option HeldTransaction → Kept → Outcome → Kept → ℕ → ℕ → Type 0
+abbrev pub IsChange : Command → Option HeldTransaction → StoreModel → Outcome → StoreModel → ℕ → ℕ → Type 0
 IsChange (Add name row) None old outcome new was now = TriesToAdd old name row outcome new was now
 IsChange (Del name row) None old outcome new was now = Deletes old name row outcome new was now
 IsChange (SayDone given) (Some held) old outcome new was now = CarriesOutAll old held given outcome new was now
@@ -114,7 +114,7 @@ IsChange _ _ old outcome new was now = ⊥
 
 -- A session's line was removed and its command done. What is left is to publish the change and to answer, for which
 -- there is room.
-pub record LeavesChange (outcome : Outcome) (old : Kept) (before : Talk) (new : Kept) (after : Talk) (was now : ℕ) :
+pub record LeavesChange (outcome : Outcome) (old : StoreModel) (before : SessionModel) (new : StoreModel) (after : SessionModel) (was now : ℕ) :
     Type 0 where
   pub running : before.cause ≡ None
   pub line : Bytes

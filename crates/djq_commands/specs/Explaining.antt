@@ -5,8 +5,8 @@ use Rattle.djq_model.specs.Listed.{Listed, a_query, a_union, members_of}
 use Rattle.djq_model.specs.declared.memory.NoMem.{NoMem}
 use Rattle.djq_protocol.specs.Reply.{member_line, text_of}
 use Rattle.djq_session.specs.Dialog.{Queues}
-use Rattle.djq_engine.specs.Kept.{ExplainsTree, HasTree}
-use Rattle.djq_commands.specs.Views.{Talk}
+use Rattle.djq_engine.specs.StoreModel.{ExplainsTree, HasTree}
+use Rattle.djq_commands.specs.Views.{SessionModel}
 
 -- the lines of a union's members, in its order
 abbrev pub member_lines : Listed → List Bytes
@@ -18,7 +18,7 @@ AreExplaining (a_query q) lines = ExplainsTree q lines
 AreExplaining (a_union name qs) lines = lines ≡ text_of (member_lines (a_union name qs))
 
 -- What is registered under a name is explained; out of memory nothing is queued, and a query has a tree too.
-abbrev pub QueuesExplained : Option Listed → Talk → Talk → Result ⊤ NoMem → Type 0
+abbrev pub QueuesExplained : Option Listed → SessionModel → SessionModel → Result ⊤ NoMem → Type 0
 QueuesExplained o before after (Ok done) =
     IsSomeAnd o (λ q. (lines : Bytes) × AreExplaining q lines × Queues before after (lines ++ codes "end\n"))
 QueuesExplained o before after (Err e) =

@@ -11,14 +11,14 @@ use Rattle.djq_store_spec.specs.Listing.{TellsAnswers}
 use Rattle.djq_store_spec.specs.Registering.{answer_steps}
 use Rattle.djq_machine.specs.Command.{IsNextLine}
 use Rattle.djq_engine.specs.declared.cursor.CursorId.{CursorId}
-use Rattle.djq_engine.specs.Kept.{Kept, HeldCursor, held_at, OtherCursorsStay}
+use Rattle.djq_engine.specs.StoreModel.{StoreModel, HeldCursor, held_at, OtherCursorsStay}
 use Rattle.djq_commands.specs.declared.listing.Listed.{Listed as HowListed}
 use Rattle.djq_commands.specs.declared.listing.Listed.TheVariants.{Whole, Cut, Stale}
-use Rattle.djq_commands.specs.Views.{Talk}
+use Rattle.djq_commands.specs.Views.{SessionModel}
 use Rattle.djq_commands.specs.Sound.{GivesApart}
 
 -- The engine's cursor is at this position now, and nothing else of the engine has changed.
-pub record StandsAt (old : Kept) (id : CursorId) (h : HeldCursor) (position : Position) (new : Kept) : Type 0 where
+pub record StandsAt (old : StoreModel) (id : CursorId) (h : HeldCursor) (position : Position) (new : StoreModel) : Type 0 where
   pub there : held_at new.cursors id ≡ Some (record h { position = position })
   pub others : OtherCursorsStay old.cursors id new.cursors
   pub store : new.store ≡ old.store
@@ -26,8 +26,8 @@ pub record StandsAt (old : Kept) (id : CursorId) (h : HeldCursor) (position : Po
   pub apart : GivesApart position
 
 -- All lines of a listing are queued.
-pub record WholeListing (old : Kept) (id : CursorId) (before : Talk) (count : ℕ) (h : HeldCursor)
-    (q : Listed) (given : List Tuple) (new : Kept) (after : Talk) (was now : ℕ) : Type 0 where
+pub record WholeListing (old : StoreModel) (id : CursorId) (before : SessionModel) (count : ℕ) (h : HeldCursor)
+    (q : Listed) (given : List Tuple) (new : StoreModel) (after : SessionModel) (was now : ℕ) : Type 0 where
   pub told : List Tuple
   pub end : Bool
   pub tells : TellsAnswers (AnswersOf (old.store).relations q) given count told end
@@ -37,8 +37,8 @@ pub record WholeListing (old : Kept) (id : CursorId) (before : Talk) (count : �
 
 -- Its first lines are queued, and there is no room for the next one: with it the text is above what was reserved
 -- for a reply.
-pub record CutListing (old : Kept) (id : CursorId) (before : Talk) (count : ℕ) (h : HeldCursor)
-    (q : Listed) (given : List Tuple) (new : Kept) (after : Talk) (was now : ℕ) : Type 0 where
+pub record CutListing (old : StoreModel) (id : CursorId) (before : SessionModel) (count : ℕ) (h : HeldCursor)
+    (q : Listed) (given : List Tuple) (new : StoreModel) (after : SessionModel) (was now : ℕ) : Type 0 where
   pub told : List Tuple
   pub answers : All (AnswersOf (old.store).relations q) told
   pub different : AreDifferent (given ++ told)
@@ -52,8 +52,8 @@ pub record CutListing (old : Kept) (id : CursorId) (before : Talk) (count : ℕ)
   pub counted : now ≤ was + (length told + 1) * answer_steps q
 
 -- the outcome of a listing of a cursor at a position
-abbrev pub ListsAt : Kept → CursorId → Talk → ℕ → HeldCursor → Listed → Position → HowListed → Kept
-    → Talk → ℕ → ℕ → Type 0
+abbrev pub ListsAt : StoreModel → CursorId → SessionModel → ℕ → HeldCursor → Listed → Position → HowListed → StoreModel
+    → SessionModel → ℕ → ℕ → Type 0
 ListsAt old id before count h q (open_at given ended) Whole new after was now = WholeListing old id before count h q
     given new after was now
 ListsAt old id before count h q (open_at given ended) Cut new after was now = CutListing old id before count h q given
@@ -64,8 +64,8 @@ ListsAt old id before count h q (stale s m) (Stale r n) new after was now = (r �
 ListsAt old id before count h q (stale s m) _ new after was now = ⊥
 
 -- A listing of the engine's cursor is queued to a session, or it is reported to be stale.
-pub record Lists (old : Kept) (id : CursorId) (before : Talk) (count : ℕ)
-    (result : HowListed) (new : Kept) (after : Talk) (was now : ℕ) : Type 0 where
+pub record Lists (old : StoreModel) (id : CursorId) (before : SessionModel) (count : ℕ)
+    (result : HowListed) (new : StoreModel) (after : SessionModel) (was now : ℕ) : Type 0 where
   pub cursor : HeldCursor
   pub held : held_at old.cursors id ≡ Some cursor
   pub query : Listed

@@ -6,13 +6,13 @@ use Rattle.djq_machine.specs.State.{Session, State}
 use Rattle.djq_machine.specs.Keeping.{Keeping, no_line, kept_where}
 use Rattle.djq_machine.specs.Effect.{Effect}
 use Rattle.djq_machine.specs.Command.{CommandStep}
-use Rattle.djq_engine.specs.Kept.{Kept}
+use Rattle.djq_engine.specs.StoreModel.{StoreModel}
 use Rattle.djq_commands.specs.declared.open.OpenSession.{OpenSession}
-use Rattle.djq_commands.specs.Views.{Talk, session_in, state_in}
+use Rattle.djq_commands.specs.Views.{SessionModel, session_in, state_in}
 use Rattle.djq_commands.specs.Sound.{IsSound}
 
 -- a session among others
-abbrev pub among : List OpenSession → ℕ → Talk → List OpenSession → List OpenSession
+abbrev pub among : List OpenSession → ℕ → SessionModel → List OpenSession → List OpenSession
 among front s d back = front ++ record { id = s; session = d } ∷ back
 
 -- a text for one session, if there is one
@@ -34,14 +34,14 @@ with_text_behind pending None = pending
 with_text_behind pending (Some text) = pending ++ text
 
 -- a session before its bytes are queued
-abbrev pub unqueued : Talk → Talk → Talk
+abbrev pub unqueued : SessionModel → SessionModel → SessionModel
 unqueued before after = record after { pending = before.pending }
 
 -- Something of the machine is done to a session, whatever sessions there are besides: a text may be queued to it, and
 -- no
 -- more is counted than that may cost. What holds between calls holds afterwards.
-pub record Performs (Machine : State → ℕ → Session → Effect → State → Type 0) (stops : Bool) (old : Kept)
-    (before : Talk) (new : Kept) (after : Talk) (was now : ℕ) : Type 0 where
+pub record Performs (Machine : State → ℕ → Session → Effect → State → Type 0) (stops : Bool) (old : StoreModel)
+    (before : SessionModel) (new : StoreModel) (after : SessionModel) (was now : ℕ) : Type 0 where
   pub text : Option Bytes
   pub cost : ℕ
   pub kept : Keeping
@@ -59,13 +59,13 @@ abbrev pub CommandDoes : Command → State → ℕ → Session → Effect → St
 CommandDoes command st s x e st' = CommandStep st s x [] command e st'
 
 -- Such a command is done, and its line is logged if this holds.
-abbrev pub ExecutesKeeping : Command → Bool → Bool → Kept → Talk → Kept → Talk → ℕ → ℕ → Type 0
+abbrev pub ExecutesKeeping : Command → Bool → Bool → StoreModel → SessionModel → StoreModel → SessionModel → ℕ → ℕ → Type 0
 ExecutesKeeping command kept stops old before new after was now =
     Performs (λ st s x e st'. CommandDoes command st s x e st' × (e.kept ≡ kept_where kept)) stops old before
     new after was now
 
 -- Such a command is done.
-abbrev pub Executes : Command → Bool → Kept → Talk → Kept → Talk → ℕ → ℕ → Type 0
+abbrev pub Executes : Command → Bool → StoreModel → SessionModel → StoreModel → SessionModel → ℕ → ℕ → Type 0
 Executes command stops old before new after was now =
     Performs (λ st s x e st'. CommandDoes command st s x e st') stops old
     before new after was now

@@ -9,12 +9,12 @@ use Rattle.djq_protocol.specs.declared.answer.EndCause.{EndCause}
 use Rattle.djq_protocol.specs.declared.limits.TheConstants.{SESSIONS, REPLY_BYTES, LAST_LINE_BYTES}
 use Rattle.djq_session.specs.declared.named.NamedCursor.{NamedCursor}
 use Rattle.djq_engine.specs.declared.cursor.CursorId.{CursorId}
-use Rattle.djq_engine.specs.Kept.{Kept, HeldCursor, Registered, held_at, same_id, registered_of}
+use Rattle.djq_engine.specs.StoreModel.{StoreModel, HeldCursor, Registered, held_at, same_id, registered_of}
 use Rattle.djq_store_spec.specs.Store.{Store, Position, open_at, stale}
 use Rattle.djq_store_spec.specs.Held.{HeldTransaction}
 use Rattle.djq_store_spec.specs.Transaction.{SuitAll}
 use Rattle.djq_commands.specs.declared.open.OpenSession.{OpenSession}
-use Rattle.djq_commands.specs.Views.{Talk}
+use Rattle.djq_commands.specs.Views.{SessionModel}
 
 -- n is below each of these numbers
 abbrev pub IsBelowAll : ℕ → List ℕ → Type 0
@@ -135,7 +135,7 @@ without_watchers rs = map (λ (r : Registered). record r { watchers = 0 }) rs
 
 -- The ids of the sessions rise, and there are at most so many; the engine holds their cursors, no two of which are the
 -- same, and no others; those that have ended have none; and what they watch is counted.
-pub record IsSound (k : Kept) (xs : List OpenSession) : Type 0 where
+pub record IsSound (k : StoreModel) (xs : List OpenSession) : Type 0 where
   pub rising : Rises (map (λ x. x.id) xs)
   pub few : length xs ≤ SESSIONS
   pub cursors_held : AreHeld k.cursors (all_ids xs)
@@ -145,13 +145,13 @@ pub record IsSound (k : Kept) (xs : List OpenSession) : Type 0 where
   pub counted : WatchersAreCounted k.registered xs
 
 -- A session's own cursors are held by the engine, and no two are the same; and what it watches is counted.
-pub record IsOwn (k : Kept) (d : Talk) : Type 0 where
+pub record IsOwn (k : StoreModel) (d : SessionModel) : Type 0 where
   pub cursors_held : AreHeld k.cursors (ids_of_cursors d.cursors)
   pub apart : CursorsDiffer (ids_of_cursors d.cursors)
   pub counted : HasCount k.registered d.watches
 
 -- A session's command begins: it isn't ended, and there is room for a reply and for its last line.
-pub record CommandIsReady (k : Kept) (d : Talk) : Type 0 where
+pub record CommandIsReady (k : StoreModel) (d : SessionModel) : Type 0 where
   pub own : IsOwn k d
   pub running : d.cause ≡ None
   pub room : REPLY_BYTES + LAST_LINE_BYTES ≤ d.room

@@ -11,10 +11,10 @@ use Rattle.djq_parser.specs.declared.refusal.LineRefusal.TheVariants.{Syntax as 
 use Rattle.djq_machine.specs.Keeping.{kept_where}
 use Rattle.djq_machine.specs.LineStep.{LineOutcome, run, FrontStep}
 use Rattle.djq_machine.specs.Call.{Counts}
-use Rattle.djq_engine.specs.Kept.{Kept}
-use Rattle.djq_commands.specs.Views.{Talk}
-use Rattle.djq_commands.specs.declared.change.Left.{Left}
-use Rattle.djq_commands.specs.declared.change.Left.TheVariants.{Nothing, Stopping, Telling}
+use Rattle.djq_engine.specs.StoreModel.{StoreModel}
+use Rattle.djq_commands.specs.Views.{SessionModel}
+use Rattle.djq_commands.specs.declared.change.AfterCommand.{AfterCommand}
+use Rattle.djq_commands.specs.declared.change.AfterCommand.TheVariants.{Nothing, Stopping, Telling}
 use Rattle.djq_commands.specs.Performs.{Performs, ExecutesKeeping}
 use Rattle.djq_commands.specs.Changing.{IsChange, LeavesChange}
 
@@ -40,12 +40,12 @@ refused_as Range = WrongType
 refused_as NoMem = NoMemory
 
 -- The front of a session's bytes has this outcome.
-abbrev pub Fronts : LineOutcome → Bool → Kept → Talk → Kept → Talk → ℕ → ℕ → Type 0
+abbrev pub Fronts : LineOutcome → Bool → StoreModel → SessionModel → StoreModel → SessionModel → ℕ → ℕ → Type 0
 Fronts outcome stops old before new after was now = Performs (λ st s x e st'. FrontStep st s x outcome e st') stops old
     before new after was now
 
 -- So it does, and its line is logged if this holds.
-abbrev pub FrontsKeeping : LineOutcome → Bool → Bool → Kept → Talk → Kept → Talk → ℕ → ℕ → Type 0
+abbrev pub FrontsKeeping : LineOutcome → Bool → Bool → StoreModel → SessionModel → StoreModel → SessionModel → ℕ → ℕ → Type 0
 FrontsKeeping outcome kept stops old before new after was now =
     Performs (λ st s x e st'. FrontStep st s x outcome e st' × (e.kept ≡ kept_where kept)) stops old before new after
     was now
@@ -57,14 +57,14 @@ is_run _ = false
 
 -- What a step of a session that isn't ended does: its line is run, and logged if this holds; or none is run, since
 -- it is blank or the session ends instead, and none is logged.
-abbrev pub StepsTo : Bool → Bool → Kept → Talk → Kept → Talk → Counts → Counts → Type 0
+abbrev pub StepsTo : Bool → Bool → StoreModel → SessionModel → StoreModel → SessionModel → Counts → Counts → Type 0
 StepsTo logged stops old before new after was now = (before.cause ≡ None)
     × (((l : Bytes) × FrontsKeeping (run l) logged stops old before new after was.listing now.listing)
     ⊎ ((logged ≡ false) × (outcome : LineOutcome) × (is_run outcome ≡ false)
     × Fronts outcome stops old before new after was.listing now.listing))
 
 -- A command is done, or what is left of it is to publish a change.
-abbrev pub Obeys : Command → Left → Kept → Talk → Kept → Talk → ℕ → ℕ → Type 0
+abbrev pub Obeys : Command → AfterCommand → StoreModel → SessionModel → StoreModel → SessionModel → ℕ → ℕ → Type 0
 Obeys command (Nothing logged) old before new after was now = ExecutesKeeping command logged false old before new after was
     now
 Obeys command Stopping old before new after was now = ExecutesKeeping command false true old before new after was now
@@ -72,13 +72,13 @@ Obeys command (Telling outcome) old before new after was now = IsChange command 
     × (after ≡ record before { batch = None })
 
 -- So it is of a line.
-abbrev pub LineLeaves : Bytes → Left → Kept → Talk → Kept → Talk → ℕ → ℕ → Type 0
+abbrev pub LineLeaves : Bytes → AfterCommand → StoreModel → SessionModel → StoreModel → SessionModel → ℕ → ℕ → Type 0
 LineLeaves l (Nothing logged) old before new after was now = FrontsKeeping (run l) logged false old before new after was now
 LineLeaves l Stopping old before new after was now = FrontsKeeping (run l) false true old before new after was now
 LineLeaves l (Telling outcome) old before new after was now = LeavesChange outcome old before new after was now
 
 -- And of a step.
-abbrev pub LeavesTo : Left → Kept → Talk → Kept → Talk → Counts → Counts → Type 0
+abbrev pub LeavesTo : AfterCommand → StoreModel → SessionModel → StoreModel → SessionModel → Counts → Counts → Type 0
 LeavesTo (Nothing logged) old before new after was now = StepsTo logged false old before new after was now
 LeavesTo Stopping old before new after was now = StepsTo false true old before new after was now
 LeavesTo (Telling outcome) old before new after was now =

@@ -14,21 +14,21 @@ use Rattle.djq_machine.specs.Walk.{Walk}
 use Rattle.djq_store_spec.specs.DeltaCost.{Delta}
 use Rattle.djq_machine.specs.Watch.{Telling, TellsDelta, RepliesLast}
 use Rattle.djq_engine.specs.declared.cursor.QueryId.{QueryId}
-use Rattle.djq_engine.specs.Kept.{Kept, Registered, is_watched, registered_at, told_at}
+use Rattle.djq_engine.specs.StoreModel.{StoreModel, Registered, is_watched, registered_at, told_at}
 use Rattle.djq_engine.specs.Watching.{LogsTell}
 use Rattle.djq_commands.specs.declared.open.OpenSession.{OpenSession}
-use Rattle.djq_commands.specs.Views.{Talk, state_in}
+use Rattle.djq_commands.specs.Views.{SessionModel, state_in}
 use Rattle.djq_commands.specs.Sound.{IsSound, without_watchers, watchers_in}
 
 -- The store and the registered queries are the same, whoever watches them, and their deltas stay.
-pub record KeepsTold (old new : Kept) : Type 0 where
+pub record KeepsTold (old new : StoreModel) : Type 0 where
   pub store : new.store ≡ old.store
   pub listed : without_watchers new.registered ≡ without_watchers old.registered
   pub affected : new.affected ≡ old.affected
   pub told : new.told ≡ old.told
 
 -- The lines of a query's delta are printed after what is there; or the log is lost, or there is no room.
-abbrev pub Prints : Kept → QueryId → Bytes → Bool → Bytes → Bytes → Type 0
+abbrev pub Prints : StoreModel → QueryId → Bytes → Bool → Bytes → Bytes → Type 0
 Prints k id query whole old new = whole ≡ true → MatchOption (told_at k id) ⊥
     (λ changes. new ≡ old ++ text_of (delta_lines query changes (k.store).seq))
 
@@ -41,7 +41,7 @@ HearsDelta whole text st s x e st' =
     ⊎ ((length x.pending ≤ PENDING_BYTES) × EndsWith end_memory Memory st s e st')
 
 -- It watches what it did, or nothing.
-abbrev pub WatchesOn : Talk → Talk → Type 0
+abbrev pub WatchesOn : SessionModel → SessionModel → Type 0
 WatchesOn before after = (after.watches ≡ before.watches) ⊎ (after.watches ≡ [])
 
 -- The own session is answered, if it isn't ended; after what it was sent there may be no room.
@@ -59,20 +59,20 @@ KeepsUntold queued [] (y ∷ ys) = ⊥
 KeepsUntold queued (x ∷ xs) [] = ⊥
 
 -- So far a change has been published: what the machine has queued is queued to the sessions.
-pub record ToldSoFar (stopped : Bool) (start : List OpenSession) (m : Telling) (k : Kept) (xs : List OpenSession) : Type
+pub record ToldSoFar (stopped : Bool) (start : List OpenSession) (m : Telling) (k : StoreModel) (xs : List OpenSession) : Type
     0 where
   pub seen : queue_all m.state m.queued ≡ state_in k stopped xs
   pub untold : KeepsUntold m.queued start xs
 
 -- What holds all along: the sessions are sound and the same, and no more of them watch.
-pub record GoesOnTelling (old : Kept) (xs : List OpenSession) (new : Kept) (ys : List OpenSession) : Type 0 where
+pub record GoesOnTelling (old : StoreModel) (xs : List OpenSession) (new : StoreModel) (ys : List OpenSession) : Type 0 where
   pub kept : KeepsTold old new
   pub sound : IsSound new ys
   pub ids : map (λ (x : OpenSession). x.id) ys ≡ map (λ (x : OpenSession). x.id) xs
   pub fewer : (q : Bytes) → watchers_in ys q ≤ watchers_in xs q
 
 -- A delta is published to all who watch its query.
-pub record TellsQuery (old : Kept) (id : QueryId) (query : Bytes) (xs : List OpenSession) (new : Kept)
+pub record TellsQuery (old : StoreModel) (id : QueryId) (query : Bytes) (xs : List OpenSession) (new : StoreModel)
     (ys : List OpenSession) : Type 0 where
   pub goes_on : GoesOnTelling old xs new ys
   pub quiet : watchers_in xs query ≡ 0 → (new ≡ old) × (ys ≡ xs)
@@ -81,14 +81,14 @@ pub record TellsQuery (old : Kept) (id : QueryId) (query : Bytes) (xs : List Ope
       → (m' : Telling) × TellsDelta (old.store).seq m d m' × ToldSoFar stopped start m' new ys
 
 -- These queries read the relation that changed, and the logs of those that are watched have the deltas.
-pub record AreAffected (k : Kept) (readers : List Registered) (deltas : List Delta) : Type 0 where
+pub record AreAffected (k : StoreModel) (readers : List Registered) (deltas : List Delta) : Type 0 where
   pub affected : k.affected ≡ map (λ r. r.id) readers
   pub there : All (λ r. registered_at k.registered r.id ≡ Some r) readers
   pub queries : map (λ d. d.query) deltas ≡ map (λ r. r.query) (filter is_watched readers)
   pub logs : LogsTell k (filter is_watched readers) deltas
 
 -- The deltas of the affected queries are published, one after another.
-pub record TellsAffected (old : Kept) (xs : List OpenSession) (new : Kept) (ys : List OpenSession) : Type 0 where
+pub record TellsAffected (old : StoreModel) (xs : List OpenSession) (new : StoreModel) (ys : List OpenSession) : Type 0 where
   pub goes_on : GoesOnTelling old xs new ys
   pub tells : (readers : List Registered) (deltas : List Delta) (stopped : Bool) (start : List OpenSession)
       (m : Telling)
@@ -96,7 +96,7 @@ pub record TellsAffected (old : Kept) (xs : List OpenSession) (new : Kept) (ys :
       → (m' : Telling) × Walk (TellsDelta (old.store).seq) m deltas m' × ToldSoFar stopped start m' new ys
 
 -- A change is published if it was accepted, and its own session answered last.
-pub record TellsAll (accepted : Bool) (reply : Bytes) (old : Kept) (s : ℕ) (xs : List OpenSession) (new : Kept)
+pub record TellsAll (accepted : Bool) (reply : Bytes) (old : StoreModel) (s : ℕ) (xs : List OpenSession) (new : StoreModel)
     (ys : List OpenSession) : Type 0 where
   pub sound : IsSound new ys
   pub ids : map (λ (x : OpenSession). x.id) ys ≡ map (λ (x : OpenSession). x.id) xs

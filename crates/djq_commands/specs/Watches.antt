@@ -4,18 +4,18 @@ use Rattle.djq_model.specs.Data.{Bytes, bytes_eq, drop_first}
 use Rattle.djq_protocol.specs.declared.answer.Refusal.{Refusal}
 use Rattle.djq_protocol.specs.Conditions.{Answers, OutOfMemoryWhere}
 use Rattle.djq_machine.specs.Command.{watch_refusal}
-use Rattle.djq_engine.specs.Kept.{Kept}
-use Rattle.djq_commands.specs.Views.{Talk}
+use Rattle.djq_engine.specs.StoreModel.{StoreModel}
+use Rattle.djq_commands.specs.Views.{SessionModel}
 use Rattle.djq_commands.specs.Sound.{StaysCounted, is_among_watches}
 
 -- A session watches these queries now, which the engine counts, and nothing else has changed.
-pub record Rewatches (watches : List Bytes) (old : Kept) (before : Talk) (new : Kept) (after : Talk) : Type 0 where
+pub record Rewatches (watches : List Bytes) (old : StoreModel) (before : SessionModel) (new : StoreModel) (after : SessionModel) : Type 0 where
   pub rest : new ≡ record old { registered = new.registered }
   pub session : after ≡ record before { watches = watches }
   pub counted : StaysCounted old.registered before.watches new.registered watches
 
 -- It does if that was done; else all is as before.
-abbrev pub RewatchesWhere : List Bytes → Kept → Talk → Result ⊤ Refusal → Kept → Talk → Type 0
+abbrev pub RewatchesWhere : List Bytes → StoreModel → SessionModel → Result ⊤ Refusal → StoreModel → SessionModel → Type 0
 RewatchesWhere watches old before (Ok _) new after = Rewatches watches old before new after
 RewatchesWhere watches old before (Err _) new after = (new ≡ old) × (after ≡ before)
 
@@ -28,14 +28,14 @@ abbrev pub without_query : Bytes → List Bytes → List Bytes
 without_query q ws = drop_first (λ w. bytes_eq w q) ws
 
 -- A session begins to watch a query.
-pub record BeginsWatch (old : Kept) (before : Talk) (q : Bytes) (result : Result ⊤ Refusal) (new : Kept) (after : Talk)
+pub record BeginsWatch (old : StoreModel) (before : SessionModel) (q : Bytes) (result : Result ⊤ Refusal) (new : StoreModel) (after : SessionModel)
     : Type 0 where
   pub answer : Answers (watch_refusal old.store q) result (λ _. ⊤)
       (OutOfMemoryWhere (is_among_watches before.watches q ≡ false))
   pub becomes : RewatchesWhere (with_query q before.watches) old before result new after
 
 -- A session ceases to watch a query.
-pub record CeasesWatch (old : Kept) (before : Talk) (q : Bytes) (result : Result ⊤ Refusal) (new : Kept) (after : Talk)
+pub record CeasesWatch (old : StoreModel) (before : SessionModel) (q : Bytes) (result : Result ⊤ Refusal) (new : StoreModel) (after : SessionModel)
     : Type 0 where
   pub answer : Answers (watch_refusal old.store q) result (λ _. ⊤) (OutOfMemoryWhere ⊥)
   pub becomes : RewatchesWhere (without_query q before.watches) old before result new after

@@ -10,7 +10,7 @@ ghost use Rattle.djq_commands.specs.Performs.{Executes};
 ghost use Rattle.djq_commands.specs.Sound.{BatchSuits, CommandIsReady};
 ghost use Rattle.djq_commands.specs.Stepping.{LineLeaves};
 
-use crate::change::{Left, Outcome};
+use crate::change::{AfterCommand, Outcome};
 use crate::commands::{run_quit, run_stop};
 use crate::reading::{BatchLine, read_in_batch};
 use djq_counters::{Ledgers, Steps};
@@ -39,7 +39,7 @@ pub(crate) fn run_in_batch<L: Ledgers>(
     rest: usize,
     row: &mut Vec<Value>,
     steps: &mut Steps<L>,
-) -> Left
+) -> AfterCommand
     requires ready { CommandIsReady engine.old session.old }
     requires open { IsSome session.old.batch }
     requires suits { BatchSuits engine.old.store session.old.batch }
@@ -51,38 +51,38 @@ pub(crate) fn run_in_batch<L: Ledgers>(
     ensures { LineLeaves (take end session.old.held) result
         engine.old session.old engine.new session.new steps.old.listing steps.new.listing }
 {
-    match read_in_batch(alloc, &session.held()[..end], row) {
+    match read_in_batch(alloc, &session.input()[..end], row) {
         BatchLine::Hold(verb, name) => {
             let name = Name::new(name);
             let outcome = hold(engine, session, verb, &name, row.as_slice(), end);
             session.take_line(rest);
             session.answer_held(outcome, session.lines_held());
-            Left::Nothing { logged: false }
+            AfterCommand::Nothing { logged: false }
         }
         BatchLine::Done(given) => {
             session.take_line(rest);
-            Left::Telling(run_done(engine, session, given, steps))
+            AfterCommand::Telling(run_done(engine, session, given, steps))
         }
         BatchLine::Abandon => {
             session.take_line(rest);
             let _dropped = session.take_batch();
             session.answer_done(Ok(()));
-            Left::Nothing { logged: false }
+            AfterCommand::Nothing { logged: false }
         }
         BatchLine::Quit => {
             session.take_line(rest);
             run_quit(engine, session);
-            Left::Nothing { logged: false }
+            AfterCommand::Nothing { logged: false }
         }
         BatchLine::Stop => {
             session.take_line(rest);
             run_stop(engine, session);
-            Left::Stopping
+            AfterCommand::Stopping
         }
         BatchLine::Refused(refusal) => {
             session.take_line(rest);
             session.refuse(refusal);
-            Left::Nothing { logged: false }
+            AfterCommand::Nothing { logged: false }
         }
     }
 }

@@ -27,7 +27,7 @@ pub fn is_removal(outcome: Result<DeleteOutcome, Refusal>) -> bool
 
 /// What is left to do after a session's line was run.
 #[derive(Drop)]
-pub enum Left {
+pub enum AfterCommand {
     /// Nothing.
     Nothing {
         /// Whether the line is to be logged.

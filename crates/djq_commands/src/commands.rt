@@ -13,7 +13,7 @@ ghost use Rattle.djq_machine.specs.Keeping.{is_registration};
 ghost use Rattle.djq_commands.specs.Performs.{Executes, ExecutesKeeping};
 ghost use Rattle.djq_commands.specs.Sound.{CommandIsReady};
 
-use crate::ending::{cut_off, give_up};
+use crate::ending::{abort_reply, release_session};
 use bytes::BytesMut;
 use djq_counters::{Ledgers, Listing, Steps, Tally};
 use djq_model::{Name, Names, NoMem, Query, Types, Value};
@@ -59,7 +59,7 @@ pub(crate) fn run_query<L: Ledgers>(
     engine.laws();
     let kept = is_registered(&outcome);
     if session.answer_registered(&outcome).is_err() {
-        cut_off(engine, session);
+        abort_reply(engine, session);
         return kept;
     }
     kept
@@ -240,11 +240,11 @@ pub(crate) fn run_explain(
     match engine.explain(query) {
         Ok(explained) => {
             if queue_explained(alloc, engine, session, query, &explained).is_err() {
-                cut_off(engine, session);
+                abort_reply(engine, session);
             }
         }
         Err(refusal) => match refusal {
-            Refusal::NoMemory => cut_off(engine, session),
+            Refusal::NoMemory => abort_reply(engine, session),
             _ => session.refuse(refusal),
         },
     }
@@ -264,7 +264,7 @@ pub(crate) fn run_quit(engine: &mut Store, session: &mut Session<CursorId, Name>
     requires { CommandIsReady engine.old session.old }
     ensures { Executes Quit false engine.old session.old engine.new session.new 0 0 }
 {
-    give_up(engine, session);
+    release_session(engine, session);
     session.end_bye(EndCause::Quit);
 }
 
@@ -273,6 +273,6 @@ pub(crate) fn run_stop(engine: &mut Store, session: &mut Session<CursorId, Name>
     requires { CommandIsReady engine.old session.old }
     ensures { Executes Stop true engine.old session.old engine.new session.new 0 0 }
 {
-    give_up(engine, session);
+    release_session(engine, session);
     session.end_bye(EndCause::Stop);
 }

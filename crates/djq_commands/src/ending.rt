@@ -37,7 +37,7 @@ fn give_up_watches(engine: &mut Store, session: &mut Session<CursorId, Name>)
 }
 
 /// Closes the cursors of a session in the store and ends its watches, and changes nothing else.
-pub fn give_up(engine: &mut Store, session: &mut Session<CursorId, Name>)
+pub fn release_session(engine: &mut Store, session: &mut Session<CursorId, Name>)
     requires { IsOwn engine.old session.old }
     ensures gives_up { SessionGivesUp engine.old session.old engine.new session.new }
     ensures told { KeepsTold engine.old engine.new }
@@ -47,12 +47,12 @@ pub fn give_up(engine: &mut Store, session: &mut Session<CursorId, Name>)
 }
 
 /// Ends a session that is out of memory in the midst of a reply, with the line that reports it.
-pub fn cut_off(engine: &mut Store, session: &mut Session<CursorId, Name>)
+pub fn abort_reply(engine: &mut Store, session: &mut Session<CursorId, Name>)
     requires own { IsOwn engine.old session.old }
     requires running { session.old.cause ≡ None }
     ensures { CutsOff engine.old session.old engine.new session.new }
 {
-    give_up(engine, session);
+    release_session(engine, session);
     session.end_by(EndLine::Memory, EndCause::Memory);
 }
 
@@ -72,7 +72,7 @@ pub fn end_by(
     ensures watches { session.new.watches ≡ [] }
     ensures closed { session.new.batch ≡ None }
 {
-    give_up(engine, session);
+    release_session(engine, session);
     session.end_by(line, cause);
 }
 
@@ -85,6 +85,6 @@ pub fn end_input(engine: &mut Store, session: &mut Session<CursorId, Name>)
     ensures told { KeepsTold engine.old engine.new }
     ensures closed { session.new.batch ≡ None }
 {
-    give_up(engine, session);
+    release_session(engine, session);
     session.end_input();
 }

@@ -3,13 +3,13 @@
 //! [`step_session`] reads the next line of a session and runs it: the order of checks before a line is
 //! run, then the command. It gets the store and that session alone, and promises a step of the
 //! machine whatever sessions there are besides (`specs/Performs.antt`); so no command can read or write
-//! another session. What a command on rows leaves to do is returned ([`Left`]): publishing it to all
+//! another session. What a command on rows leaves to do is returned ([`AfterCommand`]): publishing it to all
 //! who watch is djq_core's.
 //!
 //! ```text
-//! the session holds   add r 7      Left::Telling: one row is new, and is to be published and answered
-//!                     watch q      Left::Nothing: `ok watch 1` is queued
-//!                     stop         Left::Stopping: `bye` is queued, and the session has ended
+//! the session holds   add r 7      AfterCommand::Telling: one row is new, and is to be published and answered
+//!                     watch q      AfterCommand::Nothing: `ok watch 1` is queued
+//!                     stop         AfterCommand::Stopping: `bye` is queued, and the session has ended
 //! ```
 //!
 //! What this crate is not: it knows no other session, sends nothing, and looks no session up.
@@ -35,10 +35,10 @@ mod queued;
 mod reading;
 mod watch;
 
-pub use change::{Left, Outcome, is_removal};
+pub use change::{AfterCommand, Outcome, is_removal};
 pub use commands::is_registered;
 pub use commit::{Commit, Entry};
-pub use ending::{cut_off, end_by, end_input, give_up};
+pub use ending::{abort_reply, end_by, end_input, release_session};
 pub use line::step_session;
 pub use open::OpenSession;
 pub use queued::Queued;

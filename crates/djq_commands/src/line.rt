@@ -12,7 +12,7 @@ ghost use Rattle.djq_commands.specs.Logging.{HasRoom};
 ghost use Rattle.djq_commands.specs.Stepping.{CopiesFront, IsRunnable, LeavesTo, LineLeaves, Obeys, is_on_row};
 
 use crate::batch::{run_batch, run_in_batch};
-use crate::change::{Left, Outcome};
+use crate::change::{AfterCommand, Outcome};
 use crate::commands::{
     run_close, run_drop, run_explain, run_has, run_open, run_query, run_quit, run_rel, run_shape,
     run_stop, run_union,
@@ -39,7 +39,7 @@ fn run_command<L: Ledgers>(
     session: &mut Session<CursorId, Name>,
     command: Command,
     steps: &mut Steps<L>,
-) -> Left
+) -> AfterCommand
     requires ready { CommandIsReady engine.old session.old }
     requires runnable { IsRunnable command }
     requires other { is_on_row command ≡ false }
@@ -48,64 +48,64 @@ fn run_command<L: Ledgers>(
         steps.old.listing steps.new.listing }
 {
     match command {
-        Command::Rel { name, types } => Left::Nothing {
+        Command::Rel { name, types } => AfterCommand::Nothing {
             logged: run_rel(engine, session, name, types),
         },
         Command::Add { .. } => unreachable!(),
         Command::Del { .. } => unreachable!(),
-        Command::Query { query } => Left::Nothing {
+        Command::Query { query } => AfterCommand::Nothing {
             logged: run_query(engine, session, query, steps),
         },
-        Command::Union { name, members } => Left::Nothing {
+        Command::Union { name, members } => AfterCommand::Nothing {
             logged: run_union(engine, session, name, &members),
         },
         Command::Open { cursor, query } => {
             run_open(engine, session, &cursor, &query);
-            Left::Nothing { logged: false }
+            AfterCommand::Nothing { logged: false }
         }
         Command::Next { cursor, count } => {
             run_next(engine, session, &cursor, count, &mut steps.listing);
-            Left::Nothing { logged: false }
+            AfterCommand::Nothing { logged: false }
         }
         Command::Close { cursor } => {
             run_close(engine, session, &cursor);
-            Left::Nothing { logged: false }
+            AfterCommand::Nothing { logged: false }
         }
-        Command::Drop { query } => Left::Nothing {
+        Command::Drop { query } => AfterCommand::Nothing {
             logged: run_drop(engine, session, &query),
         },
         Command::Has { query, row } => {
             run_has(engine, session, &query, row.as_slice(), &mut steps.listing);
-            Left::Nothing { logged: false }
+            AfterCommand::Nothing { logged: false }
         }
         Command::Watch { query } => {
             run_watch(engine, session, &query);
-            Left::Nothing { logged: false }
+            AfterCommand::Nothing { logged: false }
         }
         Command::Unwatch { query } => {
             run_unwatch(engine, session, &query);
-            Left::Nothing { logged: false }
+            AfterCommand::Nothing { logged: false }
         }
         Command::Explain { query } => {
             run_explain(alloc, engine, session, &query);
-            Left::Nothing { logged: false }
+            AfterCommand::Nothing { logged: false }
         }
         Command::Shape { query } => {
             run_shape(engine, session, &query);
-            Left::Nothing { logged: false }
+            AfterCommand::Nothing { logged: false }
         }
         Command::Batch => {
             run_batch(engine, session);
-            Left::Nothing { logged: false }
+            AfterCommand::Nothing { logged: false }
         }
         Command::Done { .. } | Command::Abandon => unreachable!(),
         Command::Quit => {
             run_quit(engine, session);
-            Left::Nothing { logged: false }
+            AfterCommand::Nothing { logged: false }
         }
         Command::Stop => {
             run_stop(engine, session);
-            Left::Stopping
+            AfterCommand::Stopping
         }
     }
 }
@@ -120,7 +120,7 @@ fn run_line<L: Ledgers>(
     rest: usize,
     row: &mut Vec<Value>,
     steps: &mut Steps<L>,
-) -> Left
+) -> AfterCommand
     requires ready { CommandIsReady engine.old session.old }
     requires suits { BatchSuits engine.old.store session.old.batch }
     requires front { front_of session.old.held ≡ a_line (take end session.old.held)
@@ -134,39 +134,39 @@ fn run_line<L: Ledgers>(
     if session.has_batch() {
         return run_in_batch(alloc, engine, session, end, rest, row, steps);
     }
-    match read_row(alloc, &session.held()[..end], row) {
+    match read_row(alloc, &session.input()[..end], row) {
         RowLine::Add(name) => {
             engine.laws();
             let outcome = engine.add(&Name::new(name), row.as_slice(), steps);
             session.take_line(rest);
-            Left::Telling(Outcome::Added(outcome))
+            AfterCommand::Telling(Outcome::Added(outcome))
         }
         RowLine::Del(name) => {
             engine.laws();
             let outcome = engine.del(&Name::new(name), row.as_slice(), steps);
             session.take_line(rest);
-            Left::Telling(Outcome::Deleted(outcome))
+            AfterCommand::Telling(Outcome::Deleted(outcome))
         }
         RowLine::Refused(_verb, refusal) => {
             session.take_line(rest);
             session.refuse(refusal_of(refusal));
-            Left::Nothing { logged: false }
+            AfterCommand::Nothing { logged: false }
         }
-        RowLine::Other => run_other(alloc, engine, session, end, rest, steps),
+        RowLine::Other => run_non_row(alloc, engine, session, end, rest, steps),
     }
 }
 
 /// The same for a line that isn't one of a row, if no batch is open. It is a separate function so that a
 /// row's line clears no room for a command.
 #[inline(never)]
-fn run_other<L: Ledgers>(
+fn run_non_row<L: Ledgers>(
     alloc: Global,
     engine: &mut Store,
     session: &mut Session<CursorId, Name>,
     end: usize,
     rest: usize,
     steps: &mut Steps<L>,
-) -> Left
+) -> AfterCommand
     requires ready { CommandIsReady engine.old session.old }
     requires front { front_of session.old.held ≡ a_line (take end session.old.held)
         (drop rest session.old.held) }
@@ -178,19 +178,19 @@ fn run_other<L: Ledgers>(
     ensures { LineLeaves (take end session.old.held) result
         engine.old session.old engine.new session.new steps.old.listing steps.new.listing }
 {
-    let command = read_command(alloc, &session.held()[..end]);
+    let command = read_command(alloc, &session.input()[..end]);
     session.take_line(rest);
     match command {
         Ok(command) => {
             if is_for_batch(&command) {
                 session.refuse(Refusal::Misplaced);
-                return Left::Nothing { logged: false };
+                return AfterCommand::Nothing { logged: false };
             }
             run_command(alloc, engine, session, command, steps)
         }
         Err(refusal) => {
             session.refuse(refusal_of(refusal));
-            Left::Nothing { logged: false }
+            AfterCommand::Nothing { logged: false }
         }
     }
 }
@@ -211,7 +211,7 @@ fn step_line<L: Ledgers>(
     rest: usize,
     row: &mut Vec<Value>,
     steps: &mut Steps<L>,
-) -> Left
+) -> AfterCommand
     requires own { IsOwn engine.old session.old }
     requires suits { BatchSuits engine.old.store session.old.batch }
     requires running { session.old.cause ≡ None }
@@ -222,21 +222,21 @@ fn step_line<L: Ledgers>(
         (counts steps.old.listing steps.old.update steps.old.rows)
         (counts steps.new.listing steps.new.update steps.new.rows) }
 {
-    if is_blank(&session.held()[..end]) {
+    if is_blank(&session.input()[..end]) {
         session.take_line(rest);
-        return Left::Nothing { logged: false };
+        return AfterCommand::Nothing { logged: false };
     }
     if session.pending().len() > PENDING_BYTES {
         session.take_line(rest);
         end_by(engine, session, EndLine::Slow, EndCause::Slow);
-        return Left::Nothing { logged: false };
+        return AfterCommand::Nothing { logged: false };
     }
-    match session.keep(REPLY_BYTES) {
+    match session.reserve(REPLY_BYTES) {
         Ok(()) => run_line(alloc, engine, session, end, rest, row, steps),
         Err(_) => {
             session.take_line(rest);
             end_by(engine, session, EndLine::Memory, EndCause::Memory);
-            Left::Nothing { logged: false }
+            AfterCommand::Nothing { logged: false }
         }
     }
 }
@@ -250,7 +250,7 @@ fn step_front<L: Ledgers>(
     commit: &mut Commit,
     row: &mut Vec<Value>,
     steps: &mut Steps<L>,
-) -> Left
+) -> AfterCommand
     requires own { IsOwn engine.old session.old }
     requires suits { BatchSuits engine.old.store session.old.batch }
     requires ready { dialog_is_ready session.old ≡ true }
@@ -265,10 +265,10 @@ fn step_front<L: Ledgers>(
         Front::Dry => unreachable!(),
         Front::Long => {
             end_by(engine, session, EndLine::Long, EndCause::Long);
-            Left::Nothing { logged: false }
+            AfterCommand::Nothing { logged: false }
         }
         Front::Line { end, rest } => {
-            commit.copy(&session.held()[..end]);
+            commit.copy(&session.input()[..end]);
             step_line(alloc, engine, session, end, rest, row, steps)
         }
     }
@@ -283,7 +283,7 @@ pub fn step_session<L: Ledgers>(
     queued: &Queued,
     row: &mut Vec<Value>,
     steps: &mut Steps<L>,
-) -> Left
+) -> AfterCommand
     requires own { IsOwn engine.old session.old }
     requires suits { BatchSuits engine.old.store session.old.batch }
     requires ready { dialog_is_ready session.old ≡ true }

@@ -6,7 +6,7 @@ ghost use Rattle.djq_commands.specs.Listing.{Lists, Lasts};
 ghost use Rattle.djq_commands.specs.Performs.{Executes};
 ghost use Rattle.djq_commands.specs.Sound.{AreHeld, CommandIsReady};
 
-use crate::ending::cut_off;
+use crate::ending::abort_reply;
 use djq_counters::{Ledgers, Listing, Tally};
 use djq_model::{Name, NoMem};
 use djq_protocol::Refusal;
@@ -42,7 +42,7 @@ pub(crate) fn run_next<L: Ledgers>(
         None => session.refuse(Refusal::NoCursor),
         Some(id) => match list_answers(engine, session, id, count, listing) {
             Listed::Whole => {}
-            Listed::Cut => cut_off(engine, session),
+            Listed::Cut => abort_reply(engine, session),
             Listed::Stale(relation, seq) => session.answer_stale(name, &relation, seq),
         },
     }

@@ -22,9 +22,9 @@ use Rattle.djq_machine.specs.Walk.{Walk}
 use Rattle.djq_machine.specs.Watch.{Telling, says_more, ends_more, TellsDelta, RepliesLast}
 use Rattle.djq_session.specs.Dialog.{Replies, KeepsFor}
 use Rattle.djq_engine.specs.declared.cursor.QueryId.{QueryId}
-use Rattle.djq_engine.specs.Kept.{Kept, Registered, is_watched, registered_at}
+use Rattle.djq_engine.specs.StoreModel.{StoreModel, Registered, is_watched, registered_at}
 use Rattle.djq_commands.specs.declared.open.OpenSession.{OpenSession}
-use Rattle.djq_commands.specs.Views.{Talk, session_in, state_in}
+use Rattle.djq_commands.specs.Views.{SessionModel, session_in, state_in}
 use Rattle.djq_commands.specs.Sound.{IsSound}
 use Rattle.djq_commands.specs.Performs.{among, to_keep, unqueued, Performs}
 use Rattle.djq_commands.specs.Telling.{AnswersLast, KeepsUntold, ToldSoFar, GoesOnTelling, AreAffected, TellsAffected}
@@ -42,12 +42,12 @@ use Rattle.djq_core.proofs.Queues.{has_part, queue_last, end_queued, is_of, push
 
 -- ---- the answer
 
-pub answers_reply : (roomy : Bool) (reply : Bytes) (k : Kept) (before mid after : Talk) → before.cause ≡ None → mid
+pub answers_reply : (roomy : Bool) (reply : Bytes) (k : StoreModel) (before mid after : SessionModel) → before.cause ≡ None → mid
     ≡ record before { room = mid.room } → Replies mid after reply
     → Performs (λ st s x e st'. AnswersLast roomy reply st s x e st') false k before k after 0 0
 answers_reply roomy reply k before mid after running same r =
     let told : Replies before after reply = r
-    ∙ ap (λ (d : Talk). record d { pending = d.pending ++ reply; room = after.room }) same in
+    ∙ ap (λ (d : SessionModel). record d { pending = d.pending ++ reply; room = after.room }) same in
     refused (λ st s x e st'. AnswersLast roomy reply st s x e st') k before after reply told
     (λ st s x store is. subst (λ (o : Option EndCause). MatchOption o
     (((says s reply ≡ says s reply) × (st ≡ st)) ⊎
@@ -55,7 +55,7 @@ answers_reply roomy reply k before mid after running same r =
     (λ c. (says s reply ≡ nothing) × (st ≡ st)))
     (sym (ap (λ (y : Session). y.cause) is ∙ running)) (inl (refl, refl)))
 
-pub answers_end : (roomy : Bool) (reply : Bytes) (old : Kept) (before mid : Talk) (new : Kept) (after : Talk)
+pub answers_end : (roomy : Bool) (reply : Bytes) (old : StoreModel) (before mid : SessionModel) (new : StoreModel) (after : SessionModel)
     → before.cause ≡ None → (roomy ≡ true → ⊥) → mid ≡ record before { room = mid.room }
     → Performs (λ st s x e st'. EndsWith end_memory Memory st s e st') false old mid new after 0 0
     → Performs (λ st s x e st'. AnswersLast roomy reply st s x e st') false old before new after 0 0
@@ -233,7 +233,7 @@ untold_same [] = tt
 untold_same (x ∷ xs) = (refl, inr refl, untold_same xs)
 
 -- What was told before the answer.
-pub record Spread (accepted : Bool) (old : Kept) (xs : List OpenSession) (new : Kept) (ys : List OpenSession) : Type 0
+pub record Spread (accepted : Bool) (old : StoreModel) (xs : List OpenSession) (new : StoreModel) (ys : List OpenSession) : Type 0
   where
     pub goes_on : GoesOnTelling old xs new ys
     pub tells : (readers : List Registered) (deltas : List Delta) (stopped : Bool) (m : Telling)
@@ -241,7 +241,7 @@ pub record Spread (accepted : Bool) (old : Kept) (xs : List OpenSession) (new : 
         → (told : Telling) × Walk (TellsDelta (old.store).seq) m (if accepted then deltas else []) told
         × ToldSoFar stopped xs told new ys
 
-pub spread_all : (accepted : Bool) (old : Kept) (xs : List OpenSession) (new : Kept) (ys : List OpenSession) → accepted
+pub spread_all : (accepted : Bool) (old : StoreModel) (xs : List OpenSession) (new : StoreModel) (ys : List OpenSession) → accepted
     ≡ true → TellsAffected old xs new ys → Spread accepted old xs new ys
 spread_all accepted old xs new ys yes_it_is t = record {
   goes_on = t.goes_on;
@@ -251,7 +251,7 @@ spread_all accepted old xs new ys yes_it_is t = record {
       (t.tells readers deltas stopped xs m (a yes_it_is) told);
 }
 
-pub spread_none : (accepted : Bool) (k : Kept) (xs : List OpenSession) → accepted ≡ false → IsSound k xs
+pub spread_none : (accepted : Bool) (k : StoreModel) (xs : List OpenSession) → accepted ≡ false → IsSound k xs
     → Spread accepted k xs k xs
 spread_none accepted k xs no_it_is sound = record {
   goes_on = goes_on_same k xs sound;
@@ -260,7 +260,7 @@ spread_none accepted k xs no_it_is sound = record {
       × ToldSoFar stopped xs last k xs) (sym no_it_is) (m, refl, told);
 }
 
-start_told : (k : Kept) (xs : List OpenSession) (stopped : Bool) (m : Telling) → m.queued ≡ [] → m.state
+start_told : (k : StoreModel) (xs : List OpenSession) (stopped : Bool) (m : Telling) → m.queued ≡ [] → m.state
     ≡ state_in k stopped xs → ToldSoFar stopped xs m k xs
 start_told k xs stopped m none is = record {
   seen = ap (λ (ps : List (ℕ × Bytes)). queue_all m.state ps) none ∙ is;
@@ -294,8 +294,8 @@ place_still xs ys at x ids e =
     )
 
 -- A change is told and answered.
-pub told_and_answered : (accepted : Bool) (reply : Bytes) (old mid new : Kept) (xs ys : List OpenSession) (at : ℕ)
-    (x e : OpenSession) (d : Talk)
+pub told_and_answered : (accepted : Bool) (reply : Bytes) (old mid new : StoreModel) (xs ys : List OpenSession) (at : ℕ)
+    (x e : OpenSession) (d : SessionModel)
     → Spread accepted old xs mid ys → slice_get xs at ≡ Some x → REPLY_BYTES + LAST_LINE_BYTES ≤ (x.session).room
     → at < length ys → e ≡ get_or ys at e
     → Performs (λ st s x f st'. AnswersLast (nat_le (REPLY_BYTES + LAST_LINE_BYTES) (e.session).room) reply st s x f
@@ -346,7 +346,7 @@ told_and_answered accepted reply old mid new xs ys at x e d spread is room l h p
 
 -- ---- Where nobody watches an affected query there is nothing to tell.
 
-watched_none : (k : Kept) (ids : List QueryId) (readers : List Registered)
+watched_none : (k : StoreModel) (ids : List QueryId) (readers : List Registered)
     → ids ≡ map (λ (r : Registered). r.id) readers
     → All (λ r. registered_at k.registered r.id ≡ Some r) readers
     → ((nth : ℕ) (id : QueryId) → slice_get ids nth ≡ Some id
@@ -369,7 +369,7 @@ no_delta : (deltas : List Delta) → map (λ (d : Delta). d.query) deltas ≡ []
 no_delta [] e = refl
 no_delta (d ∷ deltas) e = absurd (cc (e))
 
-pub affected_untold : (k : Kept) (xs : List OpenSession) → IsSound k xs → AffectsUnwatched k → TellsAffected k xs k xs
+pub affected_untold : (k : StoreModel) (xs : List OpenSession) → IsSound k xs → AffectsUnwatched k → TellsAffected k xs k xs
 affected_untold k xs sound none = record {
   goes_on = goes_on_same k xs sound;
   tells = λ readers deltas stopped start m a told.
@@ -381,11 +381,11 @@ affected_untold k xs sound none = record {
 
 -- How far they are known to be unwatched.
 
-abbrev pub UnwatchedTo : Kept → ℕ → Type 0
+abbrev pub UnwatchedTo : StoreModel → ℕ → Type 0
 UnwatchedTo k n = (nth : ℕ) (id : QueryId) → nth < n → slice_get k.affected nth ≡ Some id
     → IsSomeAnd (registered_at k.registered id) (λ r. r.watchers ≡ 0)
 
-pub unwatched_more : (k : Kept) (n : ℕ) (at : QueryId) (count : ℕ) → slice_get k.affected n ≡ Some at
+pub unwatched_more : (k : StoreModel) (n : ℕ) (at : QueryId) (count : ℕ) → slice_get k.affected n ≡ Some at
     → IsSomeAnd (registered_at k.registered at) (λ r. count ≡ r.watchers) → count ≤ 0 → UnwatchedTo k n
     → UnwatchedTo k (n + 1)
 unwatched_more k n at count is counted none before nth id l g = by (cases_lt nth n)
@@ -403,6 +403,6 @@ unwatched_more k n at count is counted none before nth id l g = by (cases_lt nth
         subst (λ (i : QueryId). IsSomeAnd (registered_at k.registered i) (λ r. r.watchers ≡ 0)) same
         (zeroed (registered_at k.registered at) counted)
 
-pub unwatched_all : (k : Kept) (n : ℕ) → length k.affected ≤ n → UnwatchedTo k n → AffectsUnwatched k
+pub unwatched_all : (k : StoreModel) (n : ℕ) → length k.affected ≤ n → UnwatchedTo k n → AffectsUnwatched k
 unwatched_all k n l all nth id g = let within = slice_get_within k.affected nth id g in
     all nth id (omega (arith, l, within)) g

@@ -45,13 +45,13 @@ use Rattle.djq_machine.specs.Command.{AddStep, DeleteStep, HoldStep, DoneStep, C
 use Rattle.djq_session.specs.Dialog.{Replies}
 use Rattle.djq_engine.specs.declared.cursor.CursorId.{CursorId}
 use Rattle.djq_engine.specs.declared.cursor.QueryId.{QueryId}
-use Rattle.djq_engine.specs.Kept.{Kept, HeldCursor, Registered, held_at, outdated_held, Outdates, registered_at}
-use Rattle.djq_engine.specs.Kept.{is_watched, readers_of, affected_of, IsRegistered}
+use Rattle.djq_engine.specs.StoreModel.{StoreModel, HeldCursor, Registered, held_at, outdated_held, Outdates, registered_at}
+use Rattle.djq_engine.specs.StoreModel.{is_watched, readers_of, affected_of, IsRegistered}
 use Rattle.djq_engine.specs.Watching.{LogsTell, queries_affected}
 use Rattle.djq_commands.specs.declared.open.OpenSession.{OpenSession}
 use Rattle.djq_commands.specs.declared.change.Outcome.{Outcome}
 use Rattle.djq_commands.specs.declared.change.Outcome.TheVariants.{Added, Deleted, Done}
-use Rattle.djq_commands.specs.Views.{Talk, session_in, session_seen, state_in}
+use Rattle.djq_commands.specs.Views.{SessionModel, session_in, session_seen, state_in}
 use Rattle.djq_commands.specs.Sound.{ids_of_cursors, all_ids, AreHeld, IsSound, is_among_watches, watchers_in, IsOwn}
 use Rattle.djq_commands.specs.Performs.{among, Performs}
 use Rattle.djq_commands.specs.Changing.{EngineChanged, IsChange, LeavesChange, is_accepted, reply_of}
@@ -70,7 +70,7 @@ use Rattle.djq_core.proofs.Replies.{at_session, copied_front, same_relations}
 
 -- ---- the cursors behind a change
 
-moves_held : (old new : Kept) (o : Option RowsChange) (cs : List CursorId) → Outdates old o new → AreHeld old.cursors cs
+moves_held : (old new : StoreModel) (o : Option RowsChange) (cs : List CursorId) → Outdates old o new → AreHeld old.cursors cs
     → AreHeld new.cursors cs
 moves_held old new (Some change) cs out h =
     let f = change.outdater in
@@ -78,7 +78,7 @@ moves_held old new (Some change) cs out h =
     (λ c. out c ∙ outdated_find (old.store).queries f (new.store).seq old.cursors c) h
 moves_held old new None cs out h = agree_held old.cursors new.cursors cs (agree_same old.cursors new.cursors cs out) h
 
-moves_still : (old new : Kept) (o : Option RowsChange) (c : CursorId) → Outdates old o new
+moves_still : (old new : StoreModel) (o : Option RowsChange) (c : CursorId) → Outdates old o new
     → IsSome (held_at new.cursors c) → IsSome (held_at old.cursors c)
 moves_still old new (Some change) c out i =
     was (held_at old.cursors c)
@@ -92,7 +92,7 @@ moves_still old new (Some change) c out i =
     was (Some x) h = refl
 moves_still old new None c out i = subst (λ (o : Option HeldCursor). IsSome o) (out c) i
 
-moves_open : (old new : Kept) (stopped : Bool) (o : Option RowsChange) (xs : List OpenSession) → Outdates old o new
+moves_open : (old new : StoreModel) (stopped : Bool) (o : Option RowsChange) (xs : List OpenSession) → Outdates old o new
     → map (session_seen new.cursors) xs ≡ sessions_behind (state_in old stopped xs) o (new.store).seq
 moves_open old new stopped (Some change) xs out =
     let f = change.outdater in
@@ -102,7 +102,7 @@ moves_open old new stopped None xs out = agree_open old.cursors new.cursors xs
     (agree_same old.cursors new.cursors (all_ids xs) out)
 
 -- all is sound behind a change whose line was taken
-pub sound_changed : (old new : Kept) (front : List OpenSession) (s : ℕ) (before after : Talk) (back : List OpenSession)
+pub sound_changed : (old new : StoreModel) (front : List OpenSession) (s : ℕ) (before after : SessionModel) (back : List OpenSession)
     (o : Option RowsChange) (rest : Bytes)
     → Outdates old o new → new.registered ≡ old.registered → after
     ≡ record before { held = rest; room = after.room; batch = None } → IsSound old (among front s before back)
@@ -112,7 +112,7 @@ sound_changed old new front s before after back o rest out still e sound =
     (moves_held old new o (ids_of_cursors before.cursors) out)
     (moves_held old new o (all_ids back) out) (λ c i. moves_still old new o c out i)
     (parts old front s before back sound) in
-    subst (λ (d : Talk). IsSound new (among front s d back)) (sym e)
+    subst (λ (d : SessionModel). IsSound new (among front s d back)) (sym e)
     (whole new front s (record before { held = rest; room = after.room; batch = None }) back
     (around_batch new.cursors front s (record before { held = rest; room = after.room }) None back
     (around_bytes new.cursors front s before rest before.pending after.room back p))
@@ -120,7 +120,7 @@ sound_changed old new front s before after back o rest out still e sound =
     (stays_same old.registered new.registered before.watches before.watches still refl) (λ q. q) sound))
 
 -- the state behind a change
-changed_is : (old new : Kept) (stopped : Bool) (xs : List OpenSession) (o : Option RowsChange) → Outdates old o new
+changed_is : (old new : StoreModel) (stopped : Bool) (xs : List OpenSession) (o : Option RowsChange) → Outdates old o new
     → state_in new stopped xs ≡ changed (state_in old stopped xs) o new.store
 changed_is old new stopped xs o out = ap
     (λ (ys : List Session). record { store = new.store; stopped = stopped; sessions = ys })
@@ -175,7 +175,7 @@ affects (r ∷ rs) sessions change h =
     step true false e m = absurd (cc (e))
     step false true e m = absurd (cc (e))
 
-affected_is : (k : Kept) (stopped : Bool) (xs : List OpenSession) (change : RowsChange) → IsSound k xs
+affected_is : (k : StoreModel) (stopped : Bool) (xs : List OpenSession) (change : RowsChange) → IsSound k xs
     → map (λ (r : Registered). r.query) k.registered ≡ (k.store).queries
     → map (λ (r : Registered). r.query) (affected_of k.registered change) ≡ affected (state_in k stopped xs) change
 affected_is k stopped xs change sound queries =
@@ -207,7 +207,7 @@ readers_by rs (out_of_memory change) = []
 readers_by rs unchanged = []
 
 -- the affected queries, with their logs
-pub affected_logs : (old new : Kept) (outcome : RowsOutcome) (was now : ℕ) (c : EngineChanged old outcome new was now)
+pub affected_logs : (old new : StoreModel) (outcome : RowsOutcome) (was now : ℕ) (c : EngineChanged old outcome new was now)
     → is_made outcome ≡ true → AreAffected new (readers_by old.registered outcome) (c.tells).deltas
 affected_logs old new (accepted change) was now c e =
     let rs = old.registered in
@@ -230,7 +230,7 @@ affected_logs old new unchanged was now c e = absurd (cc (e))
 -- ---- the step
 
 -- the deltas are listed as the machine says
-listed_as : (old : Kept) (stopped : Bool) (xs : List OpenSession) (o : Option RowsChange) (ds : List Delta)
+listed_as : (old : StoreModel) (stopped : Bool) (xs : List OpenSession) (o : Option RowsChange) (ds : List Delta)
     → IsSound old xs
     → map (λ (r : Registered). r.query) old.registered ≡ (old.store).queries
     → ListsDeltas (old.store).relations (queries_affected old) o ds
@@ -241,7 +241,7 @@ listed_as old stopped xs (Some change) ds sound queries h =
     (affected_is old stopped xs change sound queries) h
 
 -- what the machine says of a change, once its line was taken
-change_step : (old mid new : Kept) (stopped : Bool) (xs ys : List OpenSession) (s : ℕ) (outcome : RowsOutcome)
+change_step : (old mid new : StoreModel) (stopped : Bool) (xs ys : List OpenSession) (s : ℕ) (outcome : RowsOutcome)
     (reply : Bytes) (kept : Keeping) (was now : ℕ)
     → (c : EngineChanged old outcome mid was now) → IsSound old xs → TellsAll (is_made outcome) reply mid s xs new ys
     → (e : Effect) × (last : State)
@@ -337,7 +337,7 @@ pub record Composed (old : State) (s : ℕ) (y : Session) (l : Bytes) (command :
   pub keeps : effect.kept ≡ keeping_of change
   pub placed : is_misplaced y.batch command ≡ false
 
-module _ (old mid new : Kept) (stopped : Bool) (xs zs ys : List OpenSession) (s : ℕ) (y : Session) (l : Bytes)
+module _ (old mid new : StoreModel) (stopped : Bool) (xs zs ys : List OpenSession) (s : ℕ) (y : Session) (l : Bytes)
     (change : Outcome) (was now : ℕ) where
   composed : IsSound old xs → (command : Command) (batch : Option HeldTransaction) → y.batch ≡ batch
       → Shuts batch s (state_in old stopped zs) (state_in old stopped xs)
@@ -427,7 +427,7 @@ module _ (old mid new : Kept) (stopped : Bool) (xs zs ys : List OpenSession) (s 
   composed sound _ _ e shut a t = absurd a
 
 -- the session behind the line, and then without its batch
-shut_batch : (old : Kept) (stopped : Bool) (front : List OpenSession) (s : ℕ) (taken after : Talk)
+shut_batch : (old : StoreModel) (stopped : Bool) (front : List OpenSession) (s : ℕ) (taken after : SessionModel)
     (back : List OpenSession) (batch : Option HeldTransaction) → taken.batch ≡ batch
     → after ≡ record taken { batch = None } → IsSound old (among front s taken back)
     → Shuts batch s (state_in old stopped (among front s taken back))
@@ -441,7 +441,7 @@ shut_batch old stopped front s taken after back (Some held) e same sound =
     (ap (session_in old.cursors s) same)
 
 -- A change that was told and answered is a step of the machine.
-pub change_steps : (change : Outcome) (old mid new : Kept) (before after : Talk) (front : List OpenSession) (s : ℕ)
+pub change_steps : (change : Outcome) (old mid new : StoreModel) (before after : SessionModel) (front : List OpenSession) (s : ℕ)
     (back ys : List OpenSession) (stopped : Bool) (copy : Bytes) (was now : Counts) (commit : List Bytes)
     → LeavesChange change old before mid after was.listing now.listing → IsSound old (among front s before back)
     → TellsAll (is_accepted change) (reply_of change (mid.store).seq) mid s (among front s after back) new ys
@@ -452,14 +452,14 @@ change_steps change old mid new before after front s back ys stopped copy was no
     let st = state_in old stopped (among front s before back) in
     let x = session_in old.cursors s before in
     let y = behind_line c.rest x in
-    let taken : Talk = record before { held = c.rest; room = after.room } in
+    let taken : SessionModel = record before { held = c.rest; room = after.room } in
     let zs = among front s taken back in
     let xs = among front s after back in
     let moved : state_in old stopped zs
     ≡ with_session st s (behind_line c.rest) = becomes old stopped front s before taken back (behind_line c.rest)
     (parts old front s before back sound) refl in
     let between : IsSound old zs = sound_bytes old front s before c.rest before.pending after.room back sound in
-    let sound' : IsSound old xs = subst (λ (d : Talk). IsSound old (among front s d back)) (sym c.taken)
+    let sound' : IsSound old xs = subst (λ (d : SessionModel). IsSound old (among front s d back)) (sym c.taken)
     (sound_batch old front s taken None back between) in
     let r = composed old mid new stopped xs zs ys s y c.line change was.listing now.listing sound' c.command
     before.batch refl
@@ -491,7 +491,7 @@ change_steps change old mid new before after front s back ys stopped copy was no
     }
 
 -- What of it the cursors see.
-outdated_by : (command : Command) (batch : Option HeldTransaction) (old : Kept) (change : Outcome) (new : Kept)
+outdated_by : (command : Command) (batch : Option HeldTransaction) (old : StoreModel) (change : Outcome) (new : StoreModel)
     (was now : ℕ) → IsChange command batch old change new was now
     → (o : Option RowsChange) × Outdates old o new × (new.registered ≡ old.registered)
 outdated_by (Add name row) None old change new was now a =
@@ -506,7 +506,7 @@ outdated_by (CommandDone given) (Some held) old change new was now a =
 outdated_by _ _ old change new was now a = absurd a
 
 -- All is sound behind it.
-pub sound_left : (change : Outcome) (old new : Kept) (front : List OpenSession) (s : ℕ) (before after : Talk)
+pub sound_left : (change : Outcome) (old new : StoreModel) (front : List OpenSession) (s : ℕ) (before after : SessionModel)
     (back : List OpenSession) (was now : ℕ)
     → LeavesChange change old before new after was now → IsSound old (among front s before back)
     → IsSound new (among front s after back)
@@ -526,7 +526,7 @@ pub told_there : (P : OpenSession → Type 0) (xs : List OpenSession) (at : ℕ)
     → IsSomeAnd (slice_get (set xs at y) at) P → P y
 told_there P xs at y l h = subst (λ (o : Option OpenSession). IsSomeAnd o P) (set_there xs at y l) h
 
-readers_are : (old new : Kept) (outcome : RowsOutcome) (was now : ℕ) → EngineChanged old outcome new was now
+readers_are : (old new : StoreModel) (outcome : RowsOutcome) (was now : ℕ) → EngineChanged old outcome new was now
     → is_made outcome
     ≡ true → All (IsRegistered new) new.affected
 readers_are old new outcome was now c held =
@@ -535,7 +535,7 @@ readers_are old new outcome was now c held =
     (All-map (IsRegistered new) (λ (x : Registered). x.id) (readers_by old.registered outcome)
     (λ k d lt. subst (λ (o : Option Registered). IsSome o) (sym (r.there k d lt)) refl))
 
-registered_by : (command : Command) (batch : Option HeldTransaction) (old : Kept) (change : Outcome) (new : Kept)
+registered_by : (command : Command) (batch : Option HeldTransaction) (old : StoreModel) (change : Outcome) (new : StoreModel)
     (was now : ℕ) → IsChange command batch old change new was now → is_accepted change ≡ true
     → All (IsRegistered new) new.affected
 registered_by (Add name row) None old change new was now a held =
@@ -552,7 +552,7 @@ registered_by (CommandDone given) (Some held) old change new was now a made =
 registered_by _ _ old change new was now a held = absurd a
 
 -- The queries that an accepted change affects are registered.
-pub registered_left : (change : Outcome) (old new : Kept) (before after : Talk) (was now : ℕ)
+pub registered_left : (change : Outcome) (old new : StoreModel) (before after : SessionModel) (was now : ℕ)
     → LeavesChange change old before new after was now
     → is_accepted change ≡ true → All (IsRegistered new) new.affected
 registered_left change old new before after was now c held = registered_by c.command before.batch old change new was now
@@ -561,7 +561,7 @@ registered_left change old new before after was now c held = registered_by c.com
 -- ---- What a watching session hears of a delta.
 
 -- too much was pending
-pub hears_slow : (whole : Bool) (text : Bytes) (old : Kept) (before : Talk) (new : Kept) (after : Talk)
+pub hears_slow : (whole : Bool) (text : Bytes) (old : StoreModel) (before : SessionModel) (new : StoreModel) (after : SessionModel)
     → PENDING_BYTES < length before.pending
     → Performs (λ st s x e st'. EndsWith end_slow Slow st s e st') false old before new after 0 0
     → Performs (λ st s x e st'. HearsDelta whole text st s x e st') false old before new after 0 0
@@ -576,7 +576,7 @@ hears_slow whole text old before new after many p = record {
 }
 
 -- it ends out of memory
-pub hears_end : (whole : Bool) (text : Bytes) (old : Kept) (before : Talk) (new : Kept) (after : Talk)
+pub hears_end : (whole : Bool) (text : Bytes) (old : StoreModel) (before : SessionModel) (new : StoreModel) (after : SessionModel)
     → length before.pending ≤ PENDING_BYTES
     → Performs (λ st s x e st'. EndsWith end_memory Memory st s e st') false old before new after 0 0
     → Performs (λ st s x e st'. HearsDelta whole text st s x e st') false old before new after 0 0
@@ -590,7 +590,7 @@ hears_end whole text old before new after few p = record {
   counted = p.counted;
 }
 
-pub hears_end_roomy : (whole : Bool) (text : Bytes) (old : Kept) (before mid : Talk) (new : Kept) (after : Talk)
+pub hears_end_roomy : (whole : Bool) (text : Bytes) (old : StoreModel) (before mid : SessionModel) (new : StoreModel) (after : SessionModel)
     → length before.pending ≤ PENDING_BYTES → mid ≡ record before { room = mid.room }
     → Performs (λ st s x e st'. EndsWith end_memory Memory st s e st') false old mid new after 0 0
     → Performs (λ st s x e st'. HearsDelta whole text st s x e st') false old before new after 0 0
@@ -599,7 +599,7 @@ hears_end_roomy whole text old before mid new after few same p =
     (with_room (λ st s x e st'. EndsWith end_memory Memory st s e st') false old before mid new after 0 0 same p)
 
 -- it is told
-pub hears_whole : (whole : Bool) (text : Bytes) (k : Kept) (before after : Talk) → length before.pending ≤ PENDING_BYTES
+pub hears_whole : (whole : Bool) (text : Bytes) (k : StoreModel) (before after : SessionModel) → length before.pending ≤ PENDING_BYTES
     → whole ≡ true → Replies before after text
     → Performs (λ st s x e st'. HearsDelta whole text st s x e st') false k before k after 0 0
 hears_whole whole text k before after few v r =
@@ -614,6 +614,6 @@ hears_whole whole text k before after few v r =
     )))
 
 -- a session with other room has the same cursors and watches
-pub owns_roomy : (k : Kept) (before mid : Talk) → mid ≡ record before { room = mid.room } → IsOwn k before → IsOwn k mid
+pub owns_roomy : (k : StoreModel) (before mid : SessionModel) → mid ≡ record before { room = mid.room } → IsOwn k before → IsOwn k mid
 owns_roomy k before mid same own = subst (IsOwn k) (sym same)
     (record { cursors_held = own.cursors_held; apart = own.apart; counted = own.counted })

@@ -17,11 +17,11 @@ use Rattle.djq_machine.specs.State.{Session, State, state_ids, session_of}
 use Rattle.djq_machine.specs.Walk.{Walk}
 use Rattle.djq_machine.specs.Watch.{Telling, is_watching, watching, watcher_of, TellsWatcher, TellsSession, TellsDelta}
 use Rattle.djq_engine.specs.declared.cursor.QueryId.{QueryId}
-use Rattle.djq_engine.specs.Kept.{Kept, Registered, IsRegistered, is_watched, registered_at, same_query, told_at}
+use Rattle.djq_engine.specs.StoreModel.{StoreModel, Registered, IsRegistered, is_watched, registered_at, same_query, told_at}
 use Rattle.djq_engine.specs.Watching.{LogTells, LogsTell}
 use Rattle.djq_store.proofs.WantedQueries.{found_there}
 use Rattle.djq_commands.specs.declared.open.OpenSession.{OpenSession}
-use Rattle.djq_commands.specs.Views.{Talk, session_in, session_seen, state_in}
+use Rattle.djq_commands.specs.Views.{SessionModel, session_in, session_seen, state_in}
 use Rattle.djq_commands.specs.Performs.{among, to_keep, unqueued, Performs}
 use Rattle.djq_commands.specs.Sound.{IsSound, IsOwn, times_in, watchers_in, is_among_watches, all_ids, ids_of_cursors}
 use Rattle.djq_commands.specs.Sound.{without_watchers}
@@ -39,10 +39,10 @@ use Rattle.djq_core.proofs.Queues.{bridged, has_part, part_stays, ids_queued}
 
 -- What stays, step by step.
 
-pub kept_same : (k : Kept) → KeepsTold k k
+pub kept_same : (k : StoreModel) → KeepsTold k k
 kept_same k = record { store = refl; listed = refl; affected = refl; told = refl }
 
-pub kept_on : (old mid new : Kept) → KeepsTold old mid → KeepsTold mid new → KeepsTold old new
+pub kept_on : (old mid new : StoreModel) → KeepsTold old mid → KeepsTold mid new → KeepsTold old new
 kept_on old mid new a b = record {
   store = b.store ∙ a.store;
   listed = b.listed ∙ a.listed;
@@ -51,10 +51,10 @@ kept_on old mid new a b = record {
       ∙ a.told;
 }
 
-pub goes_on_same : (k : Kept) (xs : List OpenSession) → IsSound k xs → GoesOnTelling k xs k xs
+pub goes_on_same : (k : StoreModel) (xs : List OpenSession) → IsSound k xs → GoesOnTelling k xs k xs
 goes_on_same k xs sound = record { kept = kept_same k; sound = sound; ids = refl; fewer = λ q. omega arith }
 
-pub goes_on_on : (k l n : Kept) (xs ys zs : List OpenSession) → GoesOnTelling k xs l ys → GoesOnTelling l ys n zs
+pub goes_on_on : (k l n : StoreModel) (xs ys zs : List OpenSession) → GoesOnTelling k xs l ys → GoesOnTelling l ys n zs
     → GoesOnTelling k xs n zs
 goes_on_on k l n xs ys zs a b = record {
   kept = kept_on k l n a.kept b.kept;
@@ -65,11 +65,11 @@ goes_on_on k l n xs ys zs a b = record {
 }
 
 -- What is told of all sessions, as the machine tells it.
-abbrev pub Reaches : (Telling → Telling → Type 0) → Kept → List OpenSession → Kept → List OpenSession → Type 0
+abbrev pub Reaches : (Telling → Telling → Type 0) → StoreModel → List OpenSession → StoreModel → List OpenSession → Type 0
 Reaches R old xs new ys = (stopped : Bool) (start : List OpenSession) (m : Telling) → ToldSoFar stopped start m old xs
     → (m' : Telling) × R m m' × ToldSoFar stopped start m' new ys
 
-pub reaches_on : (R S T : Telling → Telling → Type 0) (k l n : Kept) (xs ys zs : List OpenSession)
+pub reaches_on : (R S T : Telling → Telling → Type 0) (k l n : StoreModel) (xs ys zs : List OpenSession)
     → ((a b c : Telling) → R a b → S b c → T a c) → Reaches R k xs l ys → Reaches S l ys n zs → Reaches T k xs n zs
 reaches_on R S T k l n xs ys zs both f g stopped start m so =
     let a = f stopped start m so in
@@ -89,7 +89,7 @@ untold_more ps qs (x ∷ start) (y ∷ xs) (i, h, rest) = (i, by h, untold_more 
 untold_more ps qs [] (y ∷ xs) h = h
 untold_more ps qs (x ∷ start) [] h = h
 
-untold_told : (ps : List (ℕ × Bytes)) (start front : List OpenSession) (s : ℕ) (d e : Talk) (back : List OpenSession)
+untold_told : (ps : List (ℕ × Bytes)) (start front : List OpenSession) (s : ℕ) (d e : SessionModel) (back : List OpenSession)
     → has_part s ps ≡ true
     → KeepsUntold ps start (among front s d back) → KeepsUntold ps start (among front s e back)
 untold_told ps [] [] s d e back p h = h
@@ -104,7 +104,7 @@ sees : (d : Delta) (q : Bytes) (b : Bool) (x : Session) → (listed_name d.query
     → is_watching (listed_name d.query) x ≡ b
 sees d q b x e h = ap (λ (n : Bytes). is_among_watches x.watches n) e ∙ h
 
-pub told_reaches : (q : Bytes) (whole : Bool) (text : Bytes) (old : Kept) (before : Talk) (new : Kept) (after : Talk)
+pub told_reaches : (q : Bytes) (whole : Bool) (text : Bytes) (old : StoreModel) (before : SessionModel) (new : StoreModel) (after : SessionModel)
     (front : List OpenSession) (s : ℕ) (back : List OpenSession)
     → Performs (λ st i x e st'. HearsDelta whole text st i x e st') false old before new after 0 0
     → IsSound old (among front s before back) → is_among_watches before.watches q ≡ true
@@ -129,7 +129,7 @@ told_reaches q whole text old before new after front s back p sound w d n same f
       },
     )
 
-pub untold_reaches : (q : Bytes) (k : Kept) (before : Talk) (front : List OpenSession) (s : ℕ) (back : List OpenSession)
+pub untold_reaches : (q : Bytes) (k : StoreModel) (before : SessionModel) (front : List OpenSession) (s : ℕ) (back : List OpenSession)
     → IsSound k (among front s before back) → is_among_watches before.watches q ≡ false → (d : Delta) (n : ℕ)
     → (listed_name d.query) ≡ q
     → Reaches (λ m m'. TellsSession d n m s m') k (among front s before back) k (among front s before back)
@@ -144,18 +144,18 @@ untold_reaches q k before front s back sound w d n same stopped start m so =
       so,
     )
 
-ids_stay : (front : List OpenSession) (s : ℕ) (d e : Talk) (back : List OpenSession)
+ids_stay : (front : List OpenSession) (s : ℕ) (d e : SessionModel) (back : List OpenSession)
     → map (λ (x : OpenSession). x.id) (among front s e back) ≡ map (λ (x : OpenSession). x.id) (among front s d back)
 ids_stay front s d e back = ids_are front s e back ∙ sym (ids_are front s d back)
 
-watches_fewer : (before after : Talk) (q : Bytes) → WatchesOn before after
+watches_fewer : (before after : SessionModel) (q : Bytes) → WatchesOn before after
     → times_in after.watches q ≤ times_in before.watches q
 watches_fewer before after q (inl e) = subst (λ (ws : List Bytes). times_in ws q ≤ times_in before.watches q) (sym e)
     (omega arith)
 watches_fewer before after q (inr e) = subst (λ (ws : List Bytes). times_in ws q ≤ times_in before.watches q) (sym e)
     (omega arith)
 
-pub one_goes_on : (whole : Bool) (text : Bytes) (old : Kept) (before : Talk) (new : Kept) (after : Talk)
+pub one_goes_on : (whole : Bool) (text : Bytes) (old : StoreModel) (before : SessionModel) (new : StoreModel) (after : SessionModel)
     (front : List OpenSession) (s : ℕ) (back : List OpenSession)
     → Performs (λ st i x e st'. HearsDelta whole text st i x e st') false old before new after 0 0 → KeepsTold old new
     → WatchesOn before after → IsSound old (among front s before back)
@@ -181,14 +181,14 @@ GoesOnFrom d n xs at m m' = (last : Telling)
     → Walk (TellsSession d n) m (map (λ (x : OpenSession). x.id) xs) last
 
 -- So many sessions have been told a delta.
-pub record TellsSoFar (q : Bytes) (whole : Bool) (text : Bytes) (old : Kept) (xs : List OpenSession) (at : ℕ) (k : Kept)
+pub record TellsSoFar (q : Bytes) (whole : Bool) (text : Bytes) (old : StoreModel) (xs : List OpenSession) (at : ℕ) (k : StoreModel)
     (ys : List OpenSession) : Type 0 where
   pub goes_on : GoesOnTelling old xs k ys
   pub reaches : (d : Delta) (n : ℕ) → (listed_name d.query) ≡ q
       → (whole ≡ true → text ≡ text_of (delta_lines (listed_name d.query) d.changes n))
       → Reaches (GoesOnFrom d n xs at) old xs k ys
 
-pub telling_starts : (q : Bytes) (whole : Bool) (text : Bytes) (k : Kept) (xs : List OpenSession) → IsSound k xs
+pub telling_starts : (q : Bytes) (whole : Bool) (text : Bytes) (k : StoreModel) (xs : List OpenSession) → IsSound k xs
     → TellsSoFar q whole text k xs 0 k xs
 telling_starts q whole text k xs sound = record {
   goes_on = goes_on_same k xs sound;
@@ -207,7 +207,7 @@ the_id (z ∷ zs) zero f l g = ap (λ (y : OpenSession). y.id) (sym g)
 the_id (z ∷ zs) (suc i) f l g = the_id zs i f (omega arith) g
 
 -- the ids from a session's place on
-ids_from : (old k : Kept) (xs ys : List OpenSession) (at : ℕ) (e : OpenSession) → GoesOnTelling old xs k ys
+ids_from : (old k : StoreModel) (xs ys : List OpenSession) (at : ℕ) (e : OpenSession) → GoesOnTelling old xs k ys
     → at < length ys → e ≡ get_or ys at e
     → drop at (map (λ (x : OpenSession). x.id) xs) ≡ e.id ∷ drop (suc at) (map (λ (x : OpenSession). x.id) xs)
 ids_from old k xs ys at e g l h =
@@ -217,7 +217,7 @@ ids_from old k xs ys at e g l h =
     (ap (λ (ns : List ℕ). get_or ns at 0) (sym g.ids) ∙ the_id ys at e l h)
 
 -- one more, which comes to this
-one_more : (q : Bytes) (whole : Bool) (text : Bytes) (old : Kept) (xs : List OpenSession) (at : ℕ) (k new : Kept)
+one_more : (q : Bytes) (whole : Bool) (text : Bytes) (old : StoreModel) (xs : List OpenSession) (at : ℕ) (k new : StoreModel)
     (ys zs : List OpenSession) (e : OpenSession)
     → TellsSoFar q whole text old xs at k ys → at < length ys → e ≡ get_or ys at e → GoesOnTelling k ys new zs
     → ((d : Delta) (n : ℕ) → (listed_name d.query) ≡ q
@@ -235,8 +235,8 @@ one_more q whole text old xs at k new ys zs e so l h g step = record {
       (so.reaches d n same fits) (step d n same fits);
 }
 
-pub told_one : (q : Bytes) (whole : Bool) (text : Bytes) (old : Kept) (xs : List OpenSession) (at : ℕ) (k new : Kept)
-    (ys : List OpenSession) (e : OpenSession) (d : Talk)
+pub told_one : (q : Bytes) (whole : Bool) (text : Bytes) (old : StoreModel) (xs : List OpenSession) (at : ℕ) (k new : StoreModel)
+    (ys : List OpenSession) (e : OpenSession) (d : SessionModel)
     → TellsSoFar q whole text old xs at k ys → at < length ys → e ≡ get_or ys at e
     → is_among_watches (e.session).watches q ≡ true
     → Performs (λ st i x f st'. HearsDelta whole text st i x f st') false k e.session new d 0 0 → KeepsTold k new
@@ -260,7 +260,7 @@ told_one q whole text old xs at k new ys e d so l h w p kept on =
     new us) (sym put)
     (told_reaches q whole text k e.session new d front e.id back p sound w t n same fits)))
 
-pub untold_one : (q : Bytes) (whole : Bool) (text : Bytes) (old : Kept) (xs : List OpenSession) (at : ℕ) (k : Kept)
+pub untold_one : (q : Bytes) (whole : Bool) (text : Bytes) (old : StoreModel) (xs : List OpenSession) (at : ℕ) (k : StoreModel)
     (ys : List OpenSession) (e : OpenSession)
     → TellsSoFar q whole text old xs at k ys → at < length ys → e ≡ get_or ys at e
     → is_among_watches (e.session).watches q ≡ false
@@ -275,7 +275,7 @@ untold_one q whole text old xs at k ys e so l h w =
     (untold_reaches q k e.session front e.id back (subst (IsSound k) cut so.goes_on.sound) w t n same))
 
 -- all have been told
-pub told_all : (q : Bytes) (whole : Bool) (text : Bytes) (old : Kept) (xs : List OpenSession) (at : ℕ) (k : Kept)
+pub told_all : (q : Bytes) (whole : Bool) (text : Bytes) (old : StoreModel) (xs : List OpenSession) (at : ℕ) (k : StoreModel)
     (ys : List OpenSession) → TellsSoFar q whole text old xs at k ys → length ys ≤ at
     → (d : Delta) (n : ℕ) → (listed_name d.query) ≡ q
     → (whole ≡ true → text ≡ text_of (delta_lines (listed_name d.query) d.changes n))
@@ -292,7 +292,7 @@ told_all q whole text old xs at k ys so l d n same fits stopped start m told =
     (r.0, subst (λ (is : List ℕ). Walk (TellsSession d n) m is r.0) same_ids walked, r.2)
 
 -- Nobody watches.
-nobody : (k : Kept) (xs : List OpenSession) (q : Bytes) (s : ℕ) → watchers_in xs q ≡ 0
+nobody : (k : StoreModel) (xs : List OpenSession) (q : Bytes) (s : ℕ) → watchers_in xs q ≡ 0
     → watching q (find (λ (x : Session). eqb x.id s) (map (session_seen k.cursors) xs)) ≡ None
 nobody k [] q s h = refl
 nobody k (x ∷ xs) q s h =
@@ -310,7 +310,7 @@ walks_still : (R : Telling → ℕ → Telling → Type 0) (m : Telling) (ns : L
 walks_still R m [] h = refl
 walks_still R m (n ∷ ns) h = (m, h n, walks_still R m ns h)
 
-pub nobody_reaches : (k : Kept) (xs : List OpenSession) (d : Delta) (n : ℕ) → watchers_in xs (listed_name d.query) ≡ 0
+pub nobody_reaches : (k : StoreModel) (xs : List OpenSession) (d : Delta) (n : ℕ) → watchers_in xs (listed_name d.query) ≡ 0
     → Reaches (λ m m'. TellsDelta n m d m') k xs k xs
 nobody_reaches k xs d n h stopped start m so = (
   m,
@@ -322,17 +322,17 @@ nobody_reaches k xs d n h stopped start m so = (
 )
 
 -- The session of a place.
-pub length_still : (q : Bytes) (whole : Bool) (text : Bytes) (old : Kept) (xs : List OpenSession) (at : ℕ) (k : Kept)
+pub length_still : (q : Bytes) (whole : Bool) (text : Bytes) (old : StoreModel) (xs : List OpenSession) (at : ℕ) (k : StoreModel)
     (ys : List OpenSession) → TellsSoFar q whole text old xs at k ys → length ys ≡ length xs
 length_still q whole text old xs at k ys so =
     sym (length-map ys (λ (x : OpenSession). x.id)) ∙ ap length so.goes_on.ids
     ∙ length-map xs (λ (x : OpenSession). x.id)
 
-among_at : (k : Kept) (ys : List OpenSession) (at : ℕ) (e : OpenSession) → IsSound k ys → at < length ys → e
+among_at : (k : StoreModel) (ys : List OpenSession) (at : ℕ) (e : OpenSession) → IsSound k ys → at < length ys → e
     ≡ get_or ys at e → IsSound k (among (take at ys) e.id e.session (drop (suc at) ys))
 among_at k ys at e sound l h = subst (IsSound k) (cut_at ys at e l h) sound
 
-pub owned_at : (k : Kept) (ys : List OpenSession) (at : ℕ) (e : OpenSession) → IsSound k ys → at < length ys → e
+pub owned_at : (k : StoreModel) (ys : List OpenSession) (at : ℕ) (e : OpenSession) → IsSound k ys → at < length ys → e
     ≡ get_or ys at e → IsOwn k e.session
 owned_at k ys at e sound l h =
     let s = among_at k ys at e sound l h in
@@ -343,7 +343,7 @@ owned_at k ys at e sound l h =
       counted = has_count k (take at ys) e.id e.session (drop (suc at) ys) s;
     }
 
-pub runs_at : (k : Kept) (ys : List OpenSession) (at : ℕ) (e : OpenSession) (q : Bytes) → IsSound k ys → at < length ys
+pub runs_at : (k : StoreModel) (ys : List OpenSession) (at : ℕ) (e : OpenSession) (q : Bytes) → IsSound k ys → at < length ys
     → e ≡ get_or ys at e → is_among_watches (e.session).watches q ≡ true → (e.session).cause ≡ None
 runs_at k ys at e q sound l h w =
     let s = among_at k ys at e sound l h in
@@ -362,7 +362,7 @@ next_place at = omega arith
 -- ---- One affected query after another is told.
 
 -- what was printed is the delta, where the log tells it
-pub printed : (k : Kept) (id : QueryId) (q : Bytes) (whole : Bool) (text : Bytes) (d : Delta)
+pub printed : (k : StoreModel) (id : QueryId) (q : Bytes) (whole : Bool) (text : Bytes) (d : Delta)
     → Prints k id q whole [] text → (listed_name d.query) ≡ q
     → (told_at k id ≡ None) ⊎ (told_at k id ≡ Some d.changes) → whole ≡ true → text
     ≡ text_of (delta_lines (listed_name d.query) d.changes (k.store).seq)
@@ -379,7 +379,7 @@ printed k id q whole text d p same logs v = by logs
         ∙ ap (λ (n : Bytes). text_of (delta_lines n d.changes (k.store).seq)) (sym same)
 
 -- A query's delta has been told to all.
-pub query_told : (old k : Kept) (id : QueryId) (q : Bytes) (xs ys : List OpenSession) (whole : Bool) (text : Bytes)
+pub query_told : (old k : StoreModel) (id : QueryId) (q : Bytes) (xs ys : List OpenSession) (whole : Bool) (text : Bytes)
     (at : ℕ) → Prints old id q whole [] text
     → TellsSoFar q whole text old xs at k ys → length ys ≤ at → (watchers_in xs q ≡ 0 → ⊥) → TellsQuery old id q xs k ys
 query_told old k id q xs ys whole text at p so l some = record {
@@ -390,7 +390,7 @@ query_told old k id q xs ys whole text at p so l some = record {
 }
 
 -- nobody watches it
-pub query_untold : (k : Kept) (id : QueryId) (q : Bytes) (xs : List OpenSession) → IsSound k xs → watchers_in xs q ≡ 0
+pub query_untold : (k : StoreModel) (id : QueryId) (q : Bytes) (xs : List OpenSession) → IsSound k xs → watchers_in xs q ≡ 0
     → TellsQuery k id q xs k xs
 query_untold k id q xs sound none = record {
   goes_on = goes_on_same k xs sound;
@@ -404,14 +404,14 @@ query_untold k id q xs sound none = record {
 abbrev pub FromRest : ℕ → List Delta → List Delta → Telling → Telling → Type 0
 FromRest n rest deltas m m' = (last : Telling) → Walk (TellsDelta n) m' rest last → Walk (TellsDelta n) m deltas last
 
-pub record IsLeft (old : Kept) (xs : List OpenSession) (left : List Registered) (deltas : List Delta) (k : Kept)
+pub record IsLeft (old : StoreModel) (xs : List OpenSession) (left : List Registered) (deltas : List Delta) (k : StoreModel)
     (ys : List OpenSession) : Type 0 where
   pub rest : List Delta
   pub logs : LogsTell old (filter is_watched left) rest
   pub queries : map (λ (d : Delta). d.query) rest ≡ map (λ (r : Registered). r.query) (filter is_watched left)
   pub reaches : Reaches (FromRest (old.store).seq rest deltas) old xs k ys
 
-pub all_left : (old : Kept) (xs : List OpenSession) (readers : List Registered) (deltas : List Delta)
+pub all_left : (old : StoreModel) (xs : List OpenSession) (readers : List Registered) (deltas : List Delta)
     → AreAffected old readers deltas → IsLeft old xs readers deltas old xs
 all_left old xs readers deltas a = record {
   rest = deltas;
@@ -421,8 +421,8 @@ all_left old xs readers deltas a = record {
 }
 
 -- one that nobody watched
-pub passes : (old : Kept) (xs : List OpenSession) (r : Registered) (left : List Registered) (deltas : List Delta)
-    (k : Kept) (ys : List OpenSession)
+pub passes : (old : StoreModel) (xs : List OpenSession) (r : Registered) (left : List Registered) (deltas : List Delta)
+    (k : StoreModel) (ys : List OpenSession)
     → is_watched r ≡ false → IsLeft old xs (r ∷ left) deltas k ys → IsLeft old xs left deltas k ys
 passes old xs r left deltas k ys h a =
     let same : filter is_watched (r ∷ left) ≡ filter is_watched left = cond-false _ _ _ h in
@@ -438,8 +438,8 @@ first_query : (q : Listed) (qs : List Listed) (p : Listed) (ps : List Listed) �
 first_query q qs p ps e = (cc (e), cc (e))
 
 -- one that was watched is told
-pub tells_next : (old : Kept) (xs : List OpenSession) (r : Registered) (left : List Registered) (deltas : List Delta)
-    (k new : Kept) (ys zs : List OpenSession)
+pub tells_next : (old : StoreModel) (xs : List OpenSession) (r : Registered) (left : List Registered) (deltas : List Delta)
+    (k new : StoreModel) (ys zs : List OpenSession)
     → is_watched r ≡ true → IsLeft old xs (r ∷ left) deltas k ys
     → ((d : Delta) → d.query ≡ r.query → LogTells old r d
     → Reaches (λ m m'. TellsDelta (old.store).seq m d m') k ys new zs) → IsLeft old xs left deltas new zs
@@ -468,7 +468,7 @@ tells_next old xs r left deltas k new ys zs h a next = by a.rest
         }
 
 -- none is left
-pub none_left : (old : Kept) (xs : List OpenSession) (deltas : List Delta) (k : Kept) (ys : List OpenSession)
+pub none_left : (old : StoreModel) (xs : List OpenSession) (deltas : List Delta) (k : StoreModel) (ys : List OpenSession)
     → IsLeft old xs [] deltas k ys
     → Reaches (λ m m'. Walk (TellsDelta (old.store).seq) m deltas m') old xs k ys
 none_left old xs deltas k ys a = by a.rest a.logs a.reaches
@@ -532,17 +532,17 @@ no_place (r ∷ readers) (suc nth) l = no_place readers nth (omega (arith, l))
 
 -- How far the affected queries are told.
 
-pub record AffectedSoFar (old : Kept) (xs : List OpenSession) (nth : ℕ) (k : Kept) (ys : List OpenSession) : Type 0
+pub record AffectedSoFar (old : StoreModel) (xs : List OpenSession) (nth : ℕ) (k : StoreModel) (ys : List OpenSession) : Type 0
   where
     pub goes_on : GoesOnTelling old xs k ys
     pub left : (readers : List Registered) (deltas : List Delta) → AreAffected old readers deltas
         → IsLeft old xs (drop nth readers) deltas k ys
 
-pub affected_starts : (k : Kept) (xs : List OpenSession) → IsSound k xs → AffectedSoFar k xs 0 k xs
+pub affected_starts : (k : StoreModel) (xs : List OpenSession) → IsSound k xs → AffectedSoFar k xs 0 k xs
 affected_starts k xs sound = record
     { goes_on = goes_on_same k xs sound; left = λ readers deltas a. all_left k xs readers deltas a }
 
-pub all_affected : (old : Kept) (xs : List OpenSession) (nth : ℕ) (k : Kept) (ys : List OpenSession)
+pub all_affected : (old : StoreModel) (xs : List OpenSession) (nth : ℕ) (k : StoreModel) (ys : List OpenSession)
     → AffectedSoFar old xs nth k ys → length k.affected ≤ nth → TellsAffected old xs k ys
 all_affected old xs nth k ys so l = record {
   goes_on = so.goes_on;
@@ -564,7 +564,7 @@ has_query None h = absurd (cc (h))
 has_query (Some r) h = (r, refl)
 
 -- how many watch it
-pub watchers_of : (k : Kept) (xs : List OpenSession) (id : QueryId) (r : Registered) (n : ℕ) → IsSound k xs
+pub watchers_of : (k : StoreModel) (xs : List OpenSession) (id : QueryId) (r : Registered) (n : ℕ) → IsSound k xs
     → registered_at k.registered id ≡ Some r
     → IsSomeAnd (registered_at k.registered id) (λ r. n ≡ r.watchers) → n ≡ watchers_in xs (listed_name r.query)
 watchers_of k xs id r n sound e h =
@@ -572,11 +572,11 @@ watchers_of k xs id r n sound e h =
     ∙ sound.counted.counted r (found_there k.registered id r e)
 
 -- its name
-pub name_of : (k : Kept) (id : QueryId) (r : Registered) (q : Bytes) → registered_at k.registered id ≡ Some r
+pub name_of : (k : StoreModel) (id : QueryId) (r : Registered) (q : Bytes) → registered_at k.registered id ≡ Some r
     → IsSomeAnd (registered_at k.registered id) (λ r. q ≡ (listed_name r.query)) → q ≡ (listed_name r.query)
 name_of k id r q e h = subst (λ (o : Option Registered). IsSomeAnd o (λ x. q ≡ (listed_name x.query))) e h
 
-pub still_registered : (old k : Kept) (id : QueryId) → KeepsTold old k → IsRegistered old id → IsRegistered k id
+pub still_registered : (old k : StoreModel) (id : QueryId) → KeepsTold old k → IsRegistered old id → IsRegistered k id
 still_registered old k id kept h =
     let r = has_query (registered_at old.registered id) h in
     let s = same_at old.registered k.registered id r.0 kept.listed r.1 in
@@ -600,7 +600,7 @@ reader_of (r ∷ readers) (i ∷ ids) (suc nth) id e h =
 none_still : (a b : ℕ) → a ≤ b → b ≡ 0 → a ≡ 0
 none_still a b l e = omega (arith, l, e)
 
-told_then : (old k : Kept) (r : Registered) (d : Delta) (id : QueryId) → KeepsTold old k → id ≡ r.id → LogTells old r d
+told_then : (old k : StoreModel) (r : Registered) (d : Delta) (id : QueryId) → KeepsTold old k → id ≡ r.id → LogTells old r d
     → (told_at k id ≡ None) ⊎ (told_at k id ≡ Some d.changes)
 told_then old k r d id kept same log =
     subst (λ (o : Option (List Change)). (o ≡ None) ⊎ (o ≡ Some d.changes))
@@ -608,7 +608,7 @@ told_then old k r d id kept same log =
     ∙ ap (λ (ts : List (Option (List Change))). slice_index_or ts (r.id).at None) kept.told)) log
 
 -- one more of the affected queries
-pub affected_more : (old k new : Kept) (xs ys zs : List OpenSession) (nth : ℕ) (id : QueryId) → IsSound old xs
+pub affected_more : (old k new : StoreModel) (xs ys zs : List OpenSession) (nth : ℕ) (id : QueryId) → IsSound old xs
     → AffectedSoFar old xs nth k ys → IsRegistered k id
     → slice_get k.affected nth ≡ Some id
     → ((r : Registered) → registered_at k.registered id ≡ Some r → TellsQuery k id (listed_name r.query) ys new zs)
@@ -652,7 +652,7 @@ affected_more old k new xs ys zs nth id sound so there at told =
             (ap (λ (p : Listed). watchers_in xs (listed_name p)) query
             ∙ sym (sound.counted.counted q (found_there old.registered q.id q known)) ∙ is_watched_none q w) in
             let still = t.quiet none in
-            subst (λ (x : Kept). IsLeft old xs (drop (suc nth) readers) deltas x zs) (sym still.0)
+            subst (λ (x : StoreModel). IsLeft old xs (drop (suc nth) readers) deltas x zs) (sym still.0)
             (subst (λ (us : List OpenSession). IsLeft old xs (drop (suc nth) readers) deltas k us) (sym still.1)
             (passes old xs q (drop (suc nth) readers) deltas k ys w left))
 

@@ -38,8 +38,8 @@ use Rattle.djq_machine.specs.LineStep.{past_limit_refusal}
 use Rattle.djq_machine.specs.Loading.{CommandLoads, Loading, LoadStep, ReadingLoads, StoreLoads, loaded_by, refused_by}
 use Rattle.djq_machine.specs.Loading.{HoldsLoaded, HoldsOrRefuses, done_loaded}
 use Rattle.djq_engine.specs.declared.cursor.CursorId.{CursorId}
-use Rattle.djq_engine.specs.Kept.{Kept, HeldCursor, Registered, held_at, is_watched, SameCursors, Outdates}
-use Rattle.djq_engine.specs.Kept.{outdated_held, Uses, DropGives, DropsRegistered}
+use Rattle.djq_engine.specs.StoreModel.{StoreModel, HeldCursor, Registered, held_at, is_watched, SameCursors, Outdates}
+use Rattle.djq_engine.specs.StoreModel.{outdated_held, Uses, DropGives, DropsRegistered}
 use Rattle.djq_engine.specs.Watching.{Enrols}
 use Rattle.djq_store.specs.Registering.{EnrolsUnion}
 use Rattle.djq_commands.specs.declared.open.OpenSession.{OpenSession}
@@ -119,7 +119,7 @@ suited_more st batch xs ys y h n e = subst (λ (zs : List OpenSession). BatchesS
     (h.0, more_there st xs y h.1 (suits_none st (y.session).batch n))
 
 -- So it is behind a step.
-pub suited_behind : (k new : Kept) (batch : Option HeldTransaction) (stopped stops : Bool) (xs ys : List OpenSession)
+pub suited_behind : (k new : StoreModel) (batch : Option HeldTransaction) (stopped stops : Bool) (xs ys : List OpenSession)
     (s : ℕ) (was now : Counts) (commit commit' : List Bytes)
     → BatchesSuit k.store (batches_of batch xs)
     → StepsLine (state_in k stopped xs) s (state_in new stops ys) was now commit commit'
@@ -136,7 +136,7 @@ suited_behind k new batch stopped stops xs ys s was now commit commit' h m =
 
 -- ---- the core without sessions
 
-pub none_open : (k : Kept) (stopped : Bool) (xs : List OpenSession) (st : State) → state_in k stopped xs ≡ st
+pub none_open : (k : StoreModel) (stopped : Bool) (xs : List OpenSession) (st : State) → state_in k stopped xs ≡ st
     → st.sessions ≡ [] → xs ≡ []
 none_open k stopped xs st v none = by xs (ap (λ (x : State). x.sessions) v ∙ none)
   where
@@ -144,7 +144,7 @@ none_open k stopped xs st v none = by xs (ap (λ (x : State). x.sessions) v ∙ 
     by [] e = refl
     by (y ∷ ys) e = absurd (cc (e))
 
-idle_sound : (k : Kept) → IsSound k [] → IsUnused k
+idle_sound : (k : StoreModel) → IsSound k [] → IsUnused k
 idle_sound k sound = record {
   cursorless = λ c. by c (held_at k.cursors c) refl;
   unwatched = hold_each (λ (r : Registered). is_watched r ≡ false) k.registered
@@ -155,7 +155,7 @@ idle_sound k sound = record {
     by c None e = e
     by c (Some h) e = absurd (false≢true (sound.owned c (subst (λ (o : Option HeldCursor). IsSome o) (sym e) refl)))
 
-sound_idle : (k : Kept) → IsUnused k → IsSound k []
+sound_idle : (k : StoreModel) → IsUnused k → IsSound k []
 sound_idle k idle = record {
   rising = tt;
   few = omega arith;
@@ -176,10 +176,10 @@ sound_idle k idle = record {
     nobody zero e = refl
     nobody (suc n) e = absurd (false≢true (sym e ∙ lt-ltb 0 (suc n) (omega arith)))
 
-pub idle_core : (k : Kept) (xs : List OpenSession) → IsSound k xs → xs ≡ [] → IsUnused k
+pub idle_core : (k : StoreModel) (xs : List OpenSession) → IsSound k xs → xs ≡ [] → IsUnused k
 idle_core k xs sound none = idle_sound k (subst (IsSound k) none sound)
 
-pub core_idle : (new : Kept) (xs : List OpenSession) → xs ≡ [] → IsUnused new → IsSound new xs
+pub core_idle : (new : StoreModel) (xs : List OpenSession) → xs ≡ [] → IsUnused new → IsSound new xs
 core_idle new xs none idle = subst (IsSound new) (sym none) (sound_idle new idle)
 
 -- where no session is open, the batch of the loaded lines is the only one
@@ -190,7 +190,7 @@ suits_loaded st batch xs none h = subst (λ (ys : List OpenSession). BatchesSuit
 
 -- ---- what the verbs leave
 
-pub idle_same : (old new : Kept) → IsUnused old → SameCursors old.cursors new.cursors → new.registered ≡ old.registered
+pub idle_same : (old new : StoreModel) → IsUnused old → SameCursors old.cursors new.cursors → new.registered ≡ old.registered
     → IsUnused new
 idle_same old new idle same still = record {
   cursorless = λ c. same c ∙ idle.cursorless c;
@@ -198,7 +198,7 @@ idle_same old new idle same still = record {
       idle.unwatched;
 }
 
-pub idle_outdated : (old new : Kept) (o : Option RowsChange) → IsUnused old → Outdates old o new → new.registered
+pub idle_outdated : (old new : StoreModel) (o : Option RowsChange) → IsUnused old → Outdates old o new → new.registered
     ≡ old.registered → IsUnused new
 idle_outdated old new None idle out still = idle_same old new idle out still
 idle_outdated old new (Some change) idle out still = record {
@@ -225,7 +225,7 @@ enrolled old new q (Ok (NotConnex rest)) e h = subst
 enrolled old new q (Err r) e h = subst (λ (rs : List Registered). All (λ (r : Registered). is_watched r ≡ false) rs)
     (sym e) h
 
-pub idle_enrolled : (old new : Kept) (q : Query) (result : Result QueryOutcome Refusal) → IsUnused old
+pub idle_enrolled : (old new : StoreModel) (q : Query) (result : Result QueryOutcome Refusal) → IsUnused old
     → SameCursors old.cursors new.cursors
     → Enrols old.registered q result new.registered → IsUnused new
 idle_enrolled old new q result idle same e = record {
@@ -233,7 +233,7 @@ idle_enrolled old new q result idle same e = record {
   unwatched = enrolled old.registered new.registered q result e idle.unwatched;
 }
 
-united : (old new : Kept) (name : Bytes) (members : List Bytes) (result : Result ℕ Refusal)
+united : (old new : StoreModel) (name : Bytes) (members : List Bytes) (result : Result ℕ Refusal)
     → EnrolsUnion old name members result new → All (λ (r : Registered). is_watched r ≡ false) old.registered
     → All (λ (r : Registered). is_watched r ≡ false) new.registered
 united old new name members (Ok most) e h =
@@ -245,7 +245,7 @@ united old new name members (Ok most) e h =
 united old new name members (Err r) e h = subst
     (λ (rs : List Registered). All (λ (r : Registered). is_watched r ≡ false) rs) (sym e) h
 
-pub idle_united : (old new : Kept) (name : Bytes) (members : List Bytes) (result : Result ℕ Refusal) → IsUnused old
+pub idle_united : (old new : StoreModel) (name : Bytes) (members : List Bytes) (result : Result ℕ Refusal) → IsUnused old
     → SameCursors old.cursors new.cursors
     → EnrolsUnion old name members result new → IsUnused new
 idle_united old new name members result idle same e = record {
@@ -263,7 +263,7 @@ left old new q (Ok done) e h =
 left old new q (Err r) e h = subst (λ (rs : List Registered). All (λ (r : Registered). is_watched r ≡ false) rs) (sym e)
     h
 
-pub idle_dropped : (old new : Kept) (q : Bytes) (result : Result ⊤ Refusal) → IsUnused old → DropGives old q result new
+pub idle_dropped : (old new : StoreModel) (q : Bytes) (result : Result ⊤ Refusal) → IsUnused old → DropGives old q result new
     → IsUnused new
 idle_dropped old new q result idle d = record {
   cursorless = λ c. (d.cursors c) ∙ idle.cursorless c;
@@ -283,7 +283,7 @@ unwatched_found p (x ∷ rs) h f = by (p x) f
     by false f more = more f
 
 -- No query is in use.
-pub drops_unused : (old new : Kept) (q : Bytes) (result : Result ⊤ Refusal) → IsUnused old → DropGives old q result new
+pub drops_unused : (old new : StoreModel) (q : Bytes) (result : Result ⊤ Refusal) → IsUnused old → DropGives old q result new
     → DropsQuery old.store false q result new.store
 drops_unused old new q result idle d = by d.used d.is_used d.store
   where
@@ -314,7 +314,7 @@ step_loads old new line how l =
       after = refl;
     }
 
-module _ (k : Kept) (line : Bytes) where
+module _ (k : StoreModel) (line : Bytes) where
   -- outside a batch: one opens
   pub opens_batch : (c : Command) → LineReadsAs line (Ok c) → is_batch c ≡ true
       → ReadingLoads (loading_by k None) line (reading_of line) ran (loading_by k (Some nothing_held))
@@ -328,7 +328,7 @@ module _ (k : Kept) (line : Bytes) where
       by _ e = absurd (cc (e))
 
   -- or a command is loaded by itself
-  pub said_alone : (new : Kept) (c : Command) (how : Loaded) → LineReadsAs line (Ok c) → is_batch c ≡ false
+  pub said_alone : (new : StoreModel) (c : Command) (how : Loaded) → LineReadsAs line (Ok c) → is_batch c ≡ false
       → StoreLoads k.store c how new.store
       → ReadingLoads (loading_by k None) line (reading_of line) how (loading_by new None)
   said_alone new c how g b l =
@@ -355,7 +355,7 @@ module _ (k : Kept) (line : Bytes) where
       subst (λ (r : Reading). ReadingLoads (loading_by k None) line r no_memory (loading_by k None)) (sym m.2)
       (inr (m.3, late_alone m.0 (inr m.3), refl, refl))
 
-module _ (k : Kept) (line : Bytes) (held : HeldTransaction) where
+module _ (k : StoreModel) (line : Bytes) (held : HeldTransaction) where
   -- in a batch: a line is held
   pub said_hold : (verb : Verb) (name : Bytes) (row : Tuple) (result : Result ⊤ Refusal) (how : Loaded)
       (new : HeldTransaction)
@@ -387,7 +387,7 @@ module _ (k : Kept) (line : Bytes) (held : HeldTransaction) where
       suits (Err r) a e own = subst (λ (t : HeldTransaction). BatchSuits k.store (Some t)) (sym e) own
 
   -- it is done
-  pub said_done : (new : Kept) (given : Option ℕ) (result : Result ℕ DoneRefusal) (how : Loaded)
+  pub said_done : (new : StoreModel) (given : Option ℕ) (result : Result ℕ DoneRefusal) (how : Loaded)
       → reading_of line ≡ says_command (Done given) → DoesAll k.store held.lines given result new.store
       → how ≡ done_loaded result
       → ReadingLoads (loading_by k (Some held)) line (reading_of line) how (loading_by new None)

@@ -16,7 +16,7 @@ use Rattle.slab.specs.Slab.{Slab, get, slab_len, ContainsKey, HasRoomFor, Update
 use Rattle.slab.proofs.SlabLemmas.{ContainsKey-within, Updates-with_value}
 use Rattle.djq_protocol.specs.declared.limits.TheConstants.{SESSIONS}
 use Rattle.djq_commands.specs.declared.open.OpenSession.{OpenSession}
-use Rattle.djq_commands.specs.Views.{Talk}
+use Rattle.djq_commands.specs.Views.{SessionModel}
 use Rattle.djq_commands.specs.Sound.{IsBelowAll, Rises}
 use Rattle.djq_commands.proofs.CommitLines.{rises_above, rises_up}
 use Rattle.djq_core.specs.Sessions.{ids_of, lies_at, lying_before, lying_in, opened_at}
@@ -97,56 +97,56 @@ above_ids (x ∷ xs) s h = (h 0 x (omega arith), above_ids xs s (λ k d l. h (su
 -- ---- Sessions in their slots.
 
 -- what lies in a slot that has a session
-pub held_in_slot : (o : Option Talk) → IsSome o → (d : Talk) × (o ≡ Some d)
+pub held_in_slot : (o : Option SessionModel) → IsSome o → (d : SessionModel) × (o ≡ Some d)
 held_in_slot None h = absurd (cc (h))
 held_in_slot (Some d) h = (d, refl)
 
-pub ids_placed : (ids keys : List ℕ) (slots : List (Option Talk)) → length keys ≡ length ids → HoldApart slots keys
+pub ids_placed : (ids keys : List ℕ) (slots : List (Option SessionModel)) → length keys ≡ length ids → HoldApart slots keys
     → ids_of (lying_in ids keys slots) ≡ ids
 ids_placed [] keys slots l h = refl
 ids_placed (id ∷ ids) [] slots l h = absurd (omega (arith, l))
 ids_placed (id ∷ ids) (key ∷ keys) slots l h =
     let d = held_in_slot (lies_at slots key) h.0 in
-    ap (λ (o : Option Talk). ids_of (lying_before id o (lying_in ids keys slots))) d.1
+    ap (λ (o : Option SessionModel). ids_of (lying_before id o (lying_in ids keys slots))) d.1
     ∙ ap (λ (is : List ℕ). id ∷ is) (ids_placed ids keys slots (omega (arith, l)) h.2)
 
 -- the slot of the key at a place has a session
-pub holds_at : (slots : List (Option Talk)) (keys : List ℕ) (at : ℕ) → HoldApart slots keys → at < length keys
+pub holds_at : (slots : List (Option SessionModel)) (keys : List ℕ) (at : ℕ) → HoldApart slots keys → at < length keys
     → IsSome (lies_at slots (get_or keys at 0))
 holds_at slots [] at h l = absurd (omega arith)
 holds_at slots (key ∷ keys) zero h l = h.0
 holds_at slots (key ∷ keys) (suc at) h l = holds_at slots keys at h.2 (omega (arith, l))
 
 -- the session at a place is the one in the slot of its key
-pub at_placed : (ids keys : List ℕ) (slots : List (Option Talk)) (at : ℕ) (d : Talk) → length keys ≡ length ids
+pub at_placed : (ids keys : List ℕ) (slots : List (Option SessionModel)) (at : ℕ) (d : SessionModel) → length keys ≡ length ids
     → HoldApart slots keys → at < length ids → lies_at slots (get_or keys at 0) ≡ Some d
     → slice_get (lying_in ids keys slots) at ≡ Some (record { id = get_or ids at 0; session = d })
 at_placed [] keys slots at d l h within e = absurd (omega arith)
 at_placed (id ∷ ids) [] slots at d l h within e = absurd (omega (arith, l))
 at_placed (id ∷ ids) (key ∷ keys) slots zero d l h within e =
-    ap (λ (o : Option Talk). slice_get (lying_before id o (lying_in ids keys slots)) 0) e
+    ap (λ (o : Option SessionModel). slice_get (lying_before id o (lying_in ids keys slots)) 0) e
 at_placed (id ∷ ids) (key ∷ keys) slots (suc at) d l h within e =
     let x = held_in_slot (lies_at slots key) h.0 in
-    ap (λ (o : Option Talk). slice_get (lying_before id o (lying_in ids keys slots)) (suc at)) x.1
+    ap (λ (o : Option SessionModel). slice_get (lying_before id o (lying_in ids keys slots)) (suc at)) x.1
     ∙ at_placed ids keys slots at d (omega (arith, l)) h.2 (omega (arith, within)) e
 
 -- each slot but this is as it was
-abbrev pub AreSame : ℕ → List (Option Talk) → List (Option Talk) → Type 0
+abbrev pub AreSame : ℕ → List (Option SessionModel) → List (Option SessionModel) → Type 0
 AreSame k old new = (key : ℕ) → key ≢ k → lies_at new key ≡ lies_at old key
 
-same_placed : (ids keys : List ℕ) (k : ℕ) (old new : List (Option Talk)) → AreSame k old new → IsNoneOf k keys
+same_placed : (ids keys : List ℕ) (k : ℕ) (old new : List (Option SessionModel)) → AreSame k old new → IsNoneOf k keys
     → lying_in ids keys new ≡ lying_in ids keys old
 same_placed [] keys k old new same none = refl
 same_placed (id ∷ ids) [] k old new same none = refl
 same_placed (id ∷ ids) (key ∷ keys) k old new same none =
-    ap₂ (λ (o : Option Talk) (xs : List OpenSession). lying_before id o xs) (same key none.0)
+    ap₂ (λ (o : Option SessionModel) (xs : List OpenSession). lying_before id o xs) (same key none.0)
     (same_placed ids keys k old new same none.1)
 
-same_apart : (keys : List ℕ) (k : ℕ) (old new : List (Option Talk)) → AreSame k old new → IsNoneOf k keys
+same_apart : (keys : List ℕ) (k : ℕ) (old new : List (Option SessionModel)) → AreSame k old new → IsNoneOf k keys
     → HoldApart old keys → HoldApart new keys
 same_apart [] k old new same none h = tt
 same_apart (key ∷ keys) k old new same none h =
-    (subst (λ (o : Option Talk). IsSome o) (sym (same key none.0)) h.0, h.1, same_apart keys k old new same none.1 h.2)
+    (subst (λ (o : Option SessionModel). IsSome o) (sym (same key none.0)) h.0, h.1, same_apart keys k old new same none.1 h.2)
 
 -- the key at a place is none of those that a key isn't
 none_at : (key : ℕ) (keys : List ℕ) (at : ℕ) → IsNoneOf key keys → at < length keys → get_or keys at 0 ≢ key
@@ -155,7 +155,7 @@ none_at key (k ∷ ks) zero none l = none.0
 none_at key (k ∷ ks) (suc at) none l = none_at key ks at none.1 (omega (arith, l))
 
 -- one session is changed where it lies
-pub put_placed : (ids keys : List ℕ) (old new : List (Option Talk)) (at : ℕ) (d : Talk) → length keys ≡ length ids
+pub put_placed : (ids keys : List ℕ) (old new : List (Option SessionModel)) (at : ℕ) (d : SessionModel) → length keys ≡ length ids
     → HoldApart old keys → at < length ids → AreSame (get_or keys at 0) old new
     → lies_at new (get_or keys at 0) ≡ Some d
     → (lying_in ids keys new ≡ set (lying_in ids keys old) at (record { id = get_or ids at 0; session = d }))
@@ -165,11 +165,11 @@ put_placed (id ∷ ids) [] old new at d l h within same e = absurd (omega (arith
 put_placed (id ∷ ids) (key ∷ keys) old new zero d l h within same e =
     let x = held_in_slot (lies_at old key) h.0 in
     let rest = lying_in ids keys old in (
-      ap₂ (λ (o : Option Talk) (xs : List OpenSession). lying_before id o xs) e
+      ap₂ (λ (o : Option SessionModel) (xs : List OpenSession). lying_before id o xs) e
           (same_placed ids keys key old new same h.1)
           ∙ sym (ap
-          (λ (o : Option Talk). set (lying_before id o rest) 0 (record { id = id; session = d })) x.1),
-      (subst (λ (o : Option Talk). IsSome o) (sym e) refl, h.1, same_apart keys key old new same h.1 h.2),
+          (λ (o : Option SessionModel). set (lying_before id o rest) 0 (record { id = id; session = d })) x.1),
+      (subst (λ (o : Option SessionModel). IsSome o) (sym e) refl, h.1, same_apart keys key old new same h.1 h.2),
     )
 put_placed (id ∷ ids) (key ∷ keys) old new (suc at) d l h within same e =
     let x = held_in_slot (lies_at old key) h.0 in
@@ -178,13 +178,13 @@ put_placed (id ∷ ids) (key ∷ keys) old new (suc at) d l h within same e =
     let r = put_placed ids keys old new at d (omega (arith, l)) h.2 (omega (arith, within)) same e in
     let rest = lying_in ids keys old in
     let y : OpenSession = record { id = get_or ids at 0; session = d } in (
-      ap₂ (λ (o : Option Talk) (xs : List OpenSession). lying_before id o xs) (still ∙ x.1) r.0
-          ∙ sym (ap (λ (o : Option Talk). set (lying_before id o rest) (suc at) y) x.1),
-      (subst (λ (o : Option Talk). IsSome o) (sym still) h.0, h.1, r.1),
+      ap₂ (λ (o : Option SessionModel) (xs : List OpenSession). lying_before id o xs) (still ∙ x.1) r.0
+          ∙ sym (ap (λ (o : Option SessionModel). set (lying_before id o rest) (suc at) y) x.1),
+      (subst (λ (o : Option SessionModel). IsSome o) (sym still) h.0, h.1, r.1),
     )
 
 -- a key whose slot is empty is none of those that hold
-none_of : (slots : List (Option Talk)) (keys : List ℕ) (key : ℕ) → HoldApart slots keys → lies_at slots key ≡ None
+none_of : (slots : List (Option SessionModel)) (keys : List ℕ) (key : ℕ) → HoldApart slots keys → lies_at slots key ≡ None
     → IsNoneOf key keys
 none_of slots [] key h free = tt
 none_of slots (k ∷ ks) key h free = (
@@ -199,15 +199,15 @@ none_push k [] key none other = (other, tt)
 none_push k (j ∷ js) key none other = (none.0, none_push k js key none.1 other)
 
 -- one session is put behind the others, into an empty slot
-pub push_placed : (ids keys : List ℕ) (old new : List (Option Talk)) (id key : ℕ) (d : Talk)
+pub push_placed : (ids keys : List ℕ) (old new : List (Option SessionModel)) (id key : ℕ) (d : SessionModel)
     → length keys ≡ length ids → HoldApart old keys → lies_at old key ≡ None → AreSame key old new
     → lies_at new key ≡ Some d
     → (lying_in (ids ++ id ∷ []) (keys ++ key ∷ []) new
     ≡ lying_in ids keys old ++ record { id = id; session = d } ∷ [])
     × HoldApart new (keys ++ key ∷ [])
 push_placed [] [] old new id key d l h free same e = (
-  ap (λ (o : Option Talk). lying_before id o []) e,
-  (subst (λ (o : Option Talk). IsSome o) (sym e) refl, tt, tt),
+  ap (λ (o : Option SessionModel). lying_before id o []) e,
+  (subst (λ (o : Option SessionModel). IsSome o) (sym e) refl, tt, tt),
 )
 push_placed [] (k ∷ ks) old new id key d l h free same e = absurd (omega (arith, l))
 push_placed (i ∷ ids) [] old new id key d l h free same e = absurd (omega (arith, l))
@@ -218,10 +218,10 @@ push_placed (i ∷ ids) (k ∷ ks) old new id key d l h free same e =
     let r = push_placed ids ks old new id key d (omega (arith, l)) h.2 free same e in
     let rest = lying_in ids ks old in
     let y : OpenSession = record { id = id; session = d } in (
-      ap₂ (λ (o : Option Talk) (xs : List OpenSession). lying_before i o xs) (still ∙ x.1) r.0
-          ∙ sym (ap (λ (o : Option Talk). lying_before i o rest ++ y ∷ []) x.1),
+      ap₂ (λ (o : Option SessionModel) (xs : List OpenSession). lying_before i o xs) (still ∙ x.1) r.0
+          ∙ sym (ap (λ (o : Option SessionModel). lying_before i o rest ++ y ∷ []) x.1),
       (
-        subst (λ (o : Option Talk). IsSome o) (sym still) h.0,
+        subst (λ (o : Option SessionModel). IsSome o) (sym still) h.0,
         none_push k ks key h.1 (λ s. none.0 (sym s)),
         r.1,
       ),
@@ -234,7 +234,7 @@ none_gone k (j ∷ js) zero none = none.1
 none_gone k (j ∷ js) (suc at) none = (none.0, none_gone k js at none.1)
 
 -- one session is taken out
-pub gone_placed : (ids keys : List ℕ) (old new : List (Option Talk)) (at : ℕ) → length keys ≡ length ids
+pub gone_placed : (ids keys : List ℕ) (old new : List (Option SessionModel)) (at : ℕ) → length keys ≡ length ids
     → HoldApart old keys → at < length ids → AreSame (get_or keys at 0) old new
     → (lying_in (remove ids at) (remove keys at) new ≡ remove (lying_in ids keys old) at)
     × HoldApart new (remove keys at)
@@ -244,7 +244,7 @@ gone_placed (id ∷ ids) (key ∷ keys) old new zero l h within same =
     let x = held_in_slot (lies_at old key) h.0 in
     let rest = lying_in ids keys old in (
       same_placed ids keys key old new same h.1
-          ∙ sym (ap (λ (o : Option Talk). remove (lying_before id o rest) 0) x.1),
+          ∙ sym (ap (λ (o : Option SessionModel). remove (lying_before id o rest) 0) x.1),
       same_apart keys key old new same h.1 h.2,
     )
 gone_placed (id ∷ ids) (key ∷ keys) old new (suc at) l h within same =
@@ -253,25 +253,25 @@ gone_placed (id ∷ ids) (key ∷ keys) old new (suc at) l h within same =
     let still = same key (λ s. other (sym s)) in
     let r = gone_placed ids keys old new at (omega (arith, l)) h.2 (omega (arith, within)) same in
     let rest = lying_in ids keys old in (
-      ap₂ (λ (o : Option Talk) (xs : List OpenSession). lying_before id o xs) (still ∙ x.1) r.0
-          ∙ sym (ap (λ (o : Option Talk). remove (lying_before id o rest) (suc at)) x.1),
-      (subst (λ (o : Option Talk). IsSome o) (sym still) h.0, none_gone key keys at h.1, r.1),
+      ap₂ (λ (o : Option SessionModel) (xs : List OpenSession). lying_before id o xs) (still ∙ x.1) r.0
+          ∙ sym (ap (λ (o : Option SessionModel). remove (lying_before id o rest) (suc at)) x.1),
+      (subst (λ (o : Option SessionModel). IsSome o) (sym still) h.0, none_gone key keys at h.1, r.1),
     )
 
 -- ---- What contracts see.
 
-pub seen_ids : (ids keys : List ℕ) (slab : Slab Talk) (id_room key_room : ℕ) (xs : List OpenSession)
+pub seen_ids : (ids keys : List ℕ) (slab : Slab SessionModel) (id_room key_room : ℕ) (xs : List OpenSession)
     → HasKeys ids keys slab id_room key_room → lying_in ids keys slab.slots ≡ xs → ids_of xs ≡ ids
 seen_ids ids keys slab id_room key_room xs p seen =
     ap ids_of (sym seen) ∙ ids_placed ids keys slab.slots p.paired p.apart
 
-pub seen_length : (ids keys : List ℕ) (slab : Slab Talk) (id_room key_room : ℕ) (xs : List OpenSession)
+pub seen_length : (ids keys : List ℕ) (slab : Slab SessionModel) (id_room key_room : ℕ) (xs : List OpenSession)
     → HasKeys ids keys slab id_room key_room → lying_in ids keys slab.slots ≡ xs → length xs ≡ length ids
 seen_length ids keys slab id_room key_room xs p seen =
     sym (length-map xs (λ (x : OpenSession). x.id)) ∙ ap length (seen_ids ids keys slab id_room key_room xs p seen)
 
 -- a place has a key
-pub key_within : (ids keys : List ℕ) (slab : Slab Talk) (id_room key_room : ℕ) (xs : List OpenSession) (at : ℕ)
+pub key_within : (ids keys : List ℕ) (slab : Slab SessionModel) (id_room key_room : ℕ) (xs : List OpenSession) (at : ℕ)
     → HasKeys ids keys slab id_room key_room → lying_in ids keys slab.slots ≡ xs → at < length xs → at < length keys
 key_within ids keys slab id_room key_room xs at p seen l =
     omega (arith, l, seen_length ids keys slab id_room key_room xs p seen, p.paired)
@@ -280,7 +280,7 @@ pub key_is : (keys : List ℕ) (at key : ℕ) → at < length keys → key ≡ g
 key_is keys at key l h = get_or_default keys at 0 key l ∙ sym h
 
 -- its slot has a session
-pub key_holds : (ids keys : List ℕ) (slab : Slab Talk) (id_room key_room : ℕ) (xs : List OpenSession) (at key : ℕ)
+pub key_holds : (ids keys : List ℕ) (slab : Slab SessionModel) (id_room key_room : ℕ) (xs : List OpenSession) (at key : ℕ)
     → HasKeys ids keys slab id_room key_room → lying_in ids keys slab.slots ≡ xs → at < length xs
     → key ≡ get_or keys at key → ContainsKey slab key
 key_holds ids keys slab id_room key_room xs at key p seen l h =
@@ -289,8 +289,8 @@ key_holds ids keys slab id_room key_room xs at key p seen l h =
     (holds_at slab.slots keys at p.apart within)
 
 -- which is the one at the place
-pub get_placed : (ids keys : List ℕ) (slab : Slab Talk) (id_room key_room : ℕ) (xs : List OpenSession) (at key : ℕ)
-    (d : Talk) → HasKeys ids keys slab id_room key_room → lying_in ids keys slab.slots ≡ xs → at < length xs
+pub get_placed : (ids keys : List ℕ) (slab : Slab SessionModel) (id_room key_room : ℕ) (xs : List OpenSession) (at key : ℕ)
+    (d : SessionModel) → HasKeys ids keys slab id_room key_room → lying_in ids keys slab.slots ≡ xs → at < length xs
     → key ≡ get_or keys at key → get slab key ≡ Some d → slice_get xs at ≡ Some (opened_at xs at d)
 get_placed ids keys slab id_room key_room xs at key d p seen l h e =
     let within = key_within ids keys slab id_room key_room xs at p seen l in
@@ -301,10 +301,10 @@ get_placed ids keys slab id_room key_room xs at key d p seen l h e =
     (sym (seen_ids ids keys slab id_room key_room xs p seen))
 
 -- a slot that has a session counts as much where another is put into it
-abbrev one_if : Option Talk → ℕ
+abbrev one_if : Option SessionModel → ℕ
 one_if o = cond (is_some o) 1 0
 
-same_count : (slots : List (Option Talk)) (key : ℕ) (d e : Talk) → lies_at slots key ≡ Some e → key < length slots
+same_count : (slots : List (Option SessionModel)) (key : ℕ) (d e : SessionModel) → lies_at slots key ≡ Some e → key < length slots
     → count_by is_some (set slots key (Some d)) ≡ count_by is_some slots
 same_count slots key d e there low =
     let one : one_if (lies_at slots key) ≡ 1 = ap one_if there in
@@ -313,8 +313,8 @@ same_count slots key d e there low =
     omega (arith, one, counts)
 
 -- it is written
-pub lent_placed : (ids keys : List ℕ) (slab : Slab Talk) (id_room key_room : ℕ) (xs : List OpenSession) (at key : ℕ)
-    (d : Talk) → HasKeys ids keys slab id_room key_room → lying_in ids keys slab.slots ≡ xs → at < length xs
+pub lent_placed : (ids keys : List ℕ) (slab : Slab SessionModel) (id_room key_room : ℕ) (xs : List OpenSession) (at key : ℕ)
+    (d : SessionModel) → HasKeys ids keys slab id_room key_room → lying_in ids keys slab.slots ≡ xs → at < length xs
     → key ≡ get_or keys at key
     → (lying_in ids keys (with_value slab key d).slots ≡ set xs at (opened_at xs at d))
     × HasKeys ids keys (with_value slab key d) id_room key_room
@@ -343,7 +343,7 @@ lent_placed ids keys slab id_room key_room xs at key d p seen l h =
     )
 
 -- there is room for one more
-pub room_placed : (ids keys : List ℕ) (slab : Slab Talk) (id_room key_room : ℕ) (xs : List OpenSession)
+pub room_placed : (ids keys : List ℕ) (slab : Slab SessionModel) (id_room key_room : ℕ) (xs : List OpenSession)
     → HasKeys ids keys slab id_room key_room → lying_in ids keys slab.slots ≡ xs → length xs < SESSIONS
     → HasRoomFor slab 1 × (length ids < id_room) × (length keys < key_room)
 room_placed ids keys slab id_room key_room xs p seen few =
@@ -354,8 +354,8 @@ room_placed ids keys slab id_room key_room xs p seen few =
     )
 
 -- one is put in
-pub insert_placed : (ids keys ids' keys' : List ℕ) (slab new : Slab Talk) (id_room key_room id_room' key_room' : ℕ)
-    (xs : List OpenSession) (id key : ℕ) (d : Talk) → HasKeys ids keys slab id_room key_room
+pub insert_placed : (ids keys ids' keys' : List ℕ) (slab new : Slab SessionModel) (id_room key_room id_room' key_room' : ℕ)
+    (xs : List OpenSession) (id key : ℕ) (d : SessionModel) → HasKeys ids keys slab id_room key_room
     → lying_in ids keys slab.slots ≡ xs → All (λ (x : OpenSession). x.id < id) xs → get slab key ≡ None
     → Updates slab new key (Some d) → slab_len new ≡ slab_len slab + 1 → new.capacity ≡ slab.capacity
     → ids' ≡ ids ++ id ∷ [] → keys' ≡ keys ++ key ∷ [] → id_room' ≡ id_room → key_room' ≡ key_room
@@ -386,7 +386,7 @@ insert_placed ids keys ids' keys' slab new id_room key_room id_room' key_room' x
     )
 
 -- one is taken out
-pub remove_placed : (ids keys ids' keys' : List ℕ) (slab new : Slab Talk) (id_room key_room id_room' key_room' : ℕ)
+pub remove_placed : (ids keys ids' keys' : List ℕ) (slab new : Slab SessionModel) (id_room key_room id_room' key_room' : ℕ)
     (xs : List OpenSession) (at key : ℕ) → HasKeys ids keys slab id_room key_room
     → lying_in ids keys slab.slots ≡ xs → at < length xs → key ≡ get_or keys at key → Updates slab new key None
     → slab_len new + 1 ≡ slab_len slab → new.capacity ≡ slab.capacity → ids' ≡ remove ids at → keys' ≡ remove keys at
@@ -421,7 +421,7 @@ remove_placed ids keys ids' keys' slab new id_room key_room id_room' key_room' x
 -- ---- The first session of at least an id that passes a test.
 
 -- whether it is of at least this id, and passes the test
-abbrev pub passes_from : (Talk → Bool) → ℕ → OpenSession → Bool
+abbrev pub passes_from : (SessionModel → Bool) → ℕ → OpenSession → Bool
 passes_from test from x = nat_le from x.id && test x.session
 
 and_false : (a b : Bool) → a ≡ false → (a && b) ≡ false
@@ -438,7 +438,7 @@ low_le (Err e) from h =
       | inr high ↦ omega (arith, high)
     ]
 
-module _ (test : Talk → Bool) where
+module _ (test : SessionModel → Bool) where
   abbrev passes : ℕ → OpenSession → Bool
   passes from x = passes_from test from x
 
@@ -487,7 +487,7 @@ module _ (test : Talk → Bool) where
   passed_lower (x ∷ xs) from (suc at) l low = passed_lower xs from at (omega (arith, l)) low
 
   -- nor one that doesn't pass
-  pub passed_quiet : (xs : List OpenSession) (from at : ℕ) (d : Talk) → slice_get xs at ≡ Some (opened_at xs at d)
+  pub passed_quiet : (xs : List OpenSession) (from at : ℕ) (d : SessionModel) → slice_get xs at ≡ Some (opened_at xs at d)
       → test d ≡ false → find (passes from) (drop at xs) ≡ find (passes from) (drop (suc at) xs)
   passed_quiet xs from at d e quiet = passed_one xs from at (opened_at xs at d) e
       (step (nat_le from (slice_index (ids_of xs) at)) (test d) quiet)
@@ -497,7 +497,7 @@ module _ (test : Talk → Bool) where
       step false b h = refl
 
   -- the one that is found does
-  pub is_found : (xs : List OpenSession) (from at id : ℕ) (d : Talk)
+  pub is_found : (xs : List OpenSession) (from at id : ℕ) (d : SessionModel)
       → find (passes from) xs ≡ find (passes from) (drop at xs) → slice_get xs at ≡ Some (opened_at xs at d)
       → slice_index (ids_of xs) at ≡ id → from ≤ id → test d ≡ true
       → Some id ≡ option_map (λ (x : OpenSession). x.id) (find (passes from) xs)

@@ -21,9 +21,9 @@ use Rattle.djq_machine.specs.Watch.{Telling, is_watching, says_more, ends_more, 
 use Rattle.djq_machine.specs.Watch.{TellsSession}
 use Rattle.djq_protocol.specs.Line.{Front, dry, too_long, a_line, front_of}
 use Rattle.djq_session.specs.Dialog.{dialog_is_due, dialog_is_ready, holds_no_line}
-use Rattle.djq_engine.specs.Kept.{Kept, HeldCursor}
+use Rattle.djq_engine.specs.StoreModel.{StoreModel, HeldCursor}
 use Rattle.djq_commands.specs.declared.open.OpenSession.{OpenSession}
-use Rattle.djq_commands.specs.Views.{Talk, session_seen, state_in}
+use Rattle.djq_commands.specs.Views.{SessionModel, session_seen, state_in}
 use Rattle.djq_commands.specs.Sound.{IsBelowAll, Rises, IsSound}
 use Rattle.djq_commands.specs.Telling.{HearsDelta}
 
@@ -38,7 +38,7 @@ seen_ids : (hs : List HeldCursor) (xs : List OpenSession) → map (λ (x : OpenS
 seen_ids hs [] = refl
 seen_ids hs (x ∷ xs) = ap (λ (is : List ℕ). x.id ∷ is) (seen_ids hs xs)
 
-module _ (hs : List HeldCursor) (kept : Talk → Bool) (seen : Option Session → Bool)
+module _ (hs : List HeldCursor) (kept : SessionModel → Bool) (seen : Option Session → Bool)
     (same : (x : OpenSession) → kept x.session ≡ seen (Some (session_seen hs x))) where
   abbrev first_of : List OpenSession → ℕ → List ℕ → Option ℕ
   first_of xs from is = find (λ s. nat_le from s && seen (at_id hs xs s)) is
@@ -81,7 +81,7 @@ module _ (hs : List HeldCursor) (kept : Talk → Bool) (seen : Option Session �
 abbrev due_in : Option Session → Bool
 due_in o = nat_lt 0 (length (pending_in o)) || is_some (cause_in o)
 
-pub first_is_due : (k : Kept) (stopped : Bool) (xs : List OpenSession) (from : ℕ) (st : State) → IsSound k xs
+pub first_is_due : (k : StoreModel) (stopped : Bool) (xs : List OpenSession) (from : ℕ) (st : State) → IsSound k xs
     → state_in k stopped xs ≡ st
     → option_map (λ (x : OpenSession). x.id)
     (find (λ (x : OpenSession). nat_le from x.id && dialog_is_due x.session) xs)
@@ -107,7 +107,7 @@ is_line_front : (held l r : Bytes) → front_of held ≡ a_line l r → is_dry h
 is_line_front held l r e = cc
 
 -- as it is kept and as the join machine sees it
-pub same_ready : (d : Talk) → (is_none d.cause && not (is_dry d.held)) ≡ dialog_is_ready d
+pub same_ready : (d : SessionModel) → (is_none d.cause && not (is_dry d.held)) ≡ dialog_is_ready d
 same_ready d = ap (λ (b : Bool). is_none d.cause && not b) (by (front_of d.held) refl)
   where
     by : (f : Front) → front_of d.held ≡ f → is_dry d.held ≡ holds_no_line (front_of d.held)
@@ -119,7 +119,7 @@ pub both_right : (a b : Bool) → (a && b) ≡ true → b ≡ true
 both_right true b h = h
 both_right false b h = absurd (false≢true h)
 
-pub first_is_ready : (k : Kept) (xs : List OpenSession) (from : ℕ) (st : State) → IsSound k xs
+pub first_is_ready : (k : StoreModel) (xs : List OpenSession) (from : ℕ) (st : State) → IsSound k xs
     → state_in k false xs ≡ st
     → option_map (λ (x : OpenSession). x.id)
     (find (λ (x : OpenSession). nat_le from x.id && dialog_is_ready x.session) xs)

@@ -14,10 +14,10 @@ use Rattle.djq_machine.specs.LineStep.{LineOutcome, long, blank, slow, no_room, 
 use Rattle.djq_machine.specs.Step.{Event, stepped, Acts, Step, SameRelations}
 use Rattle.djq_machine.specs.Call.{Counts, MakesCounted, StepsLine}
 use Rattle.djq_machine.specs.Call.{cause_of, cause_in, held_of, held_in}
-use Rattle.djq_engine.specs.Kept.{Kept}
+use Rattle.djq_engine.specs.StoreModel.{StoreModel}
 use Rattle.djq_commands.specs.declared.open.OpenSession.{OpenSession}
 use Rattle.djq_commands.specs.Logging.{line_where}
-use Rattle.djq_commands.specs.Views.{Talk, session_in, state_in}
+use Rattle.djq_commands.specs.Views.{SessionModel, session_in, state_in}
 use Rattle.djq_commands.specs.Sound.{IsSound}
 use Rattle.djq_commands.specs.Performs.{among, to_one, to_keep, with_text_behind, unqueued, Performs}
 use Rattle.djq_commands.specs.Stepping.{Fronts, FrontsKeeping, StepsTo, CopiesFront, is_run}
@@ -30,7 +30,7 @@ same_relations [] = tt
 same_relations (r ∷ rs) = (refl, refl, IsPermutation-refl r.rows, same_relations rs)
 
 -- what was queued to a session is queued by the machine
-pub queued : (k : Kept) (stopped : Bool) (front : List OpenSession) (s : ℕ) (before after : Talk)
+pub queued : (k : StoreModel) (stopped : Bool) (front : List OpenSession) (s : ℕ) (before after : SessionModel)
     (back : List OpenSession) (text : Option Bytes) (cost : ℕ) → IsSound k (among front s after back)
     → after.pending ≡ with_text_behind before.pending text → state_in k stopped (among front s after back)
     ≡ queue_all (state_in k stopped (among front s (unqueued before after) back)) (to_one s text cost).queued
@@ -42,8 +42,8 @@ queued k stopped front s before after back (Some text) cost sound e =
     (ap (λ (bs : Bytes). record (session_in k.cursors s after) { pending = bs }) e)
 
 -- What is done to a session is a step of the machine.
-pub makes_step : (M : State → ℕ → Session → Effect → State → Type 0) (event : Event) (stops : Bool) (old : Kept)
-    (before : Talk) (new : Kept) (after : Talk) (was now : ℕ) (front back : List OpenSession) (s : ℕ) (stopped : Bool)
+pub makes_step : (M : State → ℕ → Session → Effect → State → Type 0) (event : Event) (stops : Bool) (old : StoreModel)
+    (before : SessionModel) (new : StoreModel) (after : SessionModel) (was now : ℕ) (front back : List OpenSession) (s : ℕ) (stopped : Bool)
     → (p : Performs M stops old before new after was now) → IsSound old (among front s before back)
     → ((e : Effect) (st' : State)
     → M (state_in old stopped (among front s before back)) s (session_in old.cursors s before) e st'
@@ -61,22 +61,22 @@ makes_step M event stops old before new after was now front back s stopped p sou
 }
 
 -- the session that is open under its id
-pub at_session : (k : Kept) (stopped : Bool) (front : List OpenSession) (s : ℕ) (d : Talk) (back : List OpenSession)
+pub at_session : (k : StoreModel) (stopped : Bool) (front : List OpenSession) (s : ℕ) (d : SessionModel) (back : List OpenSession)
     (P : Session → Type 0) → IsSound k (among front s d back) → P (session_in k.cursors s d)
     → IsSomeAnd (session_of (state_in k stopped (among front s d back)) s) P
 at_session k stopped front s d back P sound p = subst (λ (o : Option Session). IsSomeAnd o P)
     (sym (found k stopped front s d back (parts k front s d back sound))) p
 
-pub cause_is : (k : Kept) (stopped : Bool) (front : List OpenSession) (s : ℕ) (d : Talk) (back : List OpenSession)
+pub cause_is : (k : StoreModel) (stopped : Bool) (front : List OpenSession) (s : ℕ) (d : SessionModel) (back : List OpenSession)
     → IsSound k (among front s d back) → cause_of (state_in k stopped (among front s d back)) s ≡ d.cause
 cause_is k stopped front s d back sound = ap cause_in (found k stopped front s d back (parts k front s d back sound))
 
-pub held_is : (k : Kept) (stopped : Bool) (front : List OpenSession) (s : ℕ) (d : Talk) (back : List OpenSession)
+pub held_is : (k : StoreModel) (stopped : Bool) (front : List OpenSession) (s : ℕ) (d : SessionModel) (back : List OpenSession)
     → IsSound k (among front s d back) → held_of (state_in k stopped (among front s d back)) s ≡ d.held
 held_is k stopped front s d back sound = ap held_in (found k stopped front s d back (parts k front s d back sound))
 
 -- The front of a session's bytes comes to something.
-fronts : (o : LineOutcome) (stops : Bool) (old : Kept) (before : Talk) (new : Kept) (after : Talk) (was now : Counts)
+fronts : (o : LineOutcome) (stops : Bool) (old : StoreModel) (before : SessionModel) (new : StoreModel) (after : SessionModel) (was now : Counts)
     (front back : List OpenSession) (s : ℕ) (stopped : Bool) → before.cause ≡ None
     → Fronts o stops old before new after was.listing now.listing → IsSound old (among front s before back)
     → MakesCounted (state_in old stopped (among front s before back)) (stepped s o)
@@ -93,7 +93,7 @@ fronts o stops old before new after was now front back s stopped c p sound = rec
     cost_is (Some t) = refl
 
 -- So it does, and its line is kept or isn't.
-fronts_keeping : (o : LineOutcome) (kept stops : Bool) (old : Kept) (before : Talk) (new : Kept) (after : Talk)
+fronts_keeping : (o : LineOutcome) (kept stops : Bool) (old : StoreModel) (before : SessionModel) (new : StoreModel) (after : SessionModel)
     (was now : Counts) (front back : List OpenSession) (s : ℕ) (stopped : Bool) → before.cause ≡ None
     → FrontsKeeping o kept stops old before new after was.listing now.listing → IsSound old (among front s before back)
     → (m : MakesCounted (state_in old stopped (among front s before back)) (stepped s o)
@@ -128,7 +128,7 @@ copied_front held l m r (inl e) f = let g : too_long ≡ a_line l r = sym e ∙ 
 copied_front held l m r (inr (q, e)) f = let g : a_line l r ≡ a_line m q = sym f ∙ e in cc (g)
 
 -- A step of a session is one of the machine, and what it logs stands behind the lines of the commit.
-pub step_makes : (logged stops : Bool) (old : Kept) (before : Talk) (new : Kept) (after : Talk) (copy : Bytes)
+pub step_makes : (logged stops : Bool) (old : StoreModel) (before : SessionModel) (new : StoreModel) (after : SessionModel) (copy : Bytes)
     (was now : Counts) (front back : List OpenSession) (s : ℕ) (stopped : Bool) (commit : List Bytes)
     → StepsTo logged stops old before new after was now → CopiesFront before.held copy
     → IsSound old (among front s before back)
@@ -163,7 +163,7 @@ step_makes logged stops old before new after copy was now front back s stopped c
         }
 
 -- what holds afterwards
-pub step_sound : (logged stops : Bool) (old : Kept) (before : Talk) (new : Kept) (after : Talk)
+pub step_sound : (logged stops : Bool) (old : StoreModel) (before : SessionModel) (new : StoreModel) (after : SessionModel)
     (was now : Counts) (front back : List OpenSession) (s : ℕ)
     → StepsTo logged stops old before new after was now → IsSound old (among front s before back)
     → IsSound new (among front s after back)

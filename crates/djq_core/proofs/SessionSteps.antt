@@ -23,10 +23,10 @@ use Rattle.djq_machine.specs.Call.{Counts, Makes, IsOpen, FedGives, StepsLine, c
 use Rattle.djq_machine.specs.Call.{state_ids, may_run}
 use Rattle.djq_session.specs.Dialog.{IsNewDialog, dialog_is_ready}
 use Rattle.djq_engine.specs.declared.cursor.CursorId.{CursorId}
-use Rattle.djq_engine.specs.Kept.{Kept, HeldCursor}
+use Rattle.djq_engine.specs.StoreModel.{StoreModel, HeldCursor}
 use Rattle.djq_commands.specs.declared.open.OpenSession.{OpenSession}
 use Rattle.djq_commands.specs.Logging.{line_where, OpenCommit, HasRoom}
-use Rattle.djq_commands.specs.Views.{Talk, Visible, cursor_in, session_in, session_seen, state_in}
+use Rattle.djq_commands.specs.Views.{SessionModel, Visible, cursor_in, session_in, session_seen, state_in}
 use Rattle.djq_commands.specs.Sound.{IsBelowAll, Rises, IsSound, IsOwn, ids_of_cursors, all_ids, AreHeld}
 use Rattle.djq_commands.specs.Sound.{CursorsDiffer, NoneOnceEnded, AreOwned}
 use Rattle.djq_commands.specs.Ends.{SessionGivesUp, EndsQuietly}
@@ -61,18 +61,18 @@ set_at (x ∷ xs) zero y l = refl
 set_at (x ∷ xs) (suc at) y l = ap (λ (r : List OpenSession). x ∷ r) (set_at xs at y (omega arith))
 
 -- A session, where the core keeps it.
-pub record Here (k : Kept) (xs : List OpenSession) (at s : ℕ) (e : OpenSession) : Type 0 where
+pub record Here (k : StoreModel) (xs : List OpenSession) (at s : ℕ) (e : OpenSession) : Type 0 where
   pub is : xs ≡ among (take at xs) s e.session (drop (suc at) xs)
-  pub put : (d : Talk) → set xs at (record e { session = d }) ≡ among (take at xs) s d (drop (suc at) xs)
+  pub put : (d : SessionModel) → set xs at (record e { session = d }) ≡ among (take at xs) s d (drop (suc at) xs)
   pub sound : IsSound k (among (take at xs) s e.session (drop (suc at) xs))
 
-pub here : (k : Kept) (xs : List OpenSession) (at s : ℕ) (d : Talk) → IsSound k xs → at < length xs
+pub here : (k : StoreModel) (xs : List OpenSession) (at s : ℕ) (d : SessionModel) → IsSound k xs → at < length xs
     → slice_index (ids_of xs) at ≡ s → slice_get xs at ≡ Some (opened_at xs at d) → Here k xs at s (opened_at xs at d)
 here k xs at s d sound within i h =
     let e = opened_at xs at d in
     let cut : xs ≡ among (take at xs) s d (drop (suc at) xs) = cut_at xs at e within (stands xs at e h)
     ∙ ap (λ (n : ℕ). take at xs ++ record { id = n; session = d } ∷ drop (suc at) xs) i in
-    let put = λ (d : Talk). set_at xs at (record e { session = d }) within
+    let put = λ (d : SessionModel). set_at xs at (record e { session = d }) within
     ∙ ap (λ (n : ℕ). take at xs ++ record { id = n; session = d } ∷ drop (suc at) xs) i in
     record {
       is = cut;
@@ -97,7 +97,7 @@ found_id hs (x ∷ xs) s h = step (eqb x.id s) refl (λ rest. found_id hs xs s r
     step true e rest h = (0, omega arith, eqb-true x.id s e)
     step false e rest h = let r = rest h in (suc r.0, omega (arith, r.1), r.2)
 
-pub is_there : (k : Kept) (st : State) (stopped : Bool) (xs : List OpenSession) (s : ℕ) → state_in k stopped xs ≡ st
+pub is_there : (k : StoreModel) (st : State) (stopped : Bool) (xs : List OpenSession) (s : ℕ) → state_in k stopped xs ≡ st
     → IsOpen st s → Contains (ids_of xs) s
 is_there k st stopped xs s e there =
     found_id k.cursors xs s (subst (λ (x : State). is_some (session_of x s) ≡ true) (sym e) there)
@@ -111,7 +111,7 @@ apart_of [] ys zs h = front ys zs h
     front (y ∷ ys) zs h = ((apart_split y ys zs h.0).0, front ys zs h.1)
 apart_of (x ∷ xs) ys zs h = apart_of xs ys zs h.1
 
-pub owns : (k : Kept) (xs : List OpenSession) (at s : ℕ) (e : OpenSession) → Here k xs at s e → IsOwn k e.session
+pub owns : (k : StoreModel) (xs : List OpenSession) (at s : ℕ) (e : OpenSession) → Here k xs at s e → IsOwn k e.session
 owns k xs at s e h =
     let p = parts k (take at xs) s e.session (drop (suc at) xs) h.sound in
     record {
@@ -121,12 +121,12 @@ owns k xs at s e h =
     }
 
 -- sessions with one changed
-pub still_sound : (k new : Kept) (xs : List OpenSession) (at s : ℕ) (e : OpenSession) (d : Talk) → Here k xs at s e
+pub still_sound : (k new : StoreModel) (xs : List OpenSession) (at s : ℕ) (e : OpenSession) (d : SessionModel) → Here k xs at s e
     → IsSound new (among (take at xs) s d (drop (suc at) xs)) → IsSound new (set xs at (record e { session = d }))
 still_sound k new xs at s e d h sound = subst (IsSound new) (sym (h.put d)) sound
 
 -- `step`
-pub steps : (k new : Kept) (xs : List OpenSession) (at s : ℕ) (e : OpenSession) (d : Talk)
+pub steps : (k new : StoreModel) (xs : List OpenSession) (at s : ℕ) (e : OpenSession) (d : SessionModel)
     (logged stops stopped : Bool) (copy : Bytes) (was now : Counts) (commit : List Bytes) → Here k xs at s e
     → StepsTo logged stops k e.session new d was now → CopiesFront (e.session).held copy
     → StepsLine (state_in k stopped xs) s
@@ -142,7 +142,7 @@ steps k new xs at s e d logged stops stopped copy was now commit h t copies =
     (step_makes logged stops k e.session new d copy was now (take at xs) (drop (suc at) xs) s stopped commit t copies
     h.sound))
 
-pub steps_sound : (k new : Kept) (xs : List OpenSession) (at s : ℕ) (e : OpenSession) (d : Talk)
+pub steps_sound : (k new : StoreModel) (xs : List OpenSession) (at s : ℕ) (e : OpenSession) (d : SessionModel)
     (logged stops : Bool) (was now : Counts) → Here k xs at s e → StepsTo logged stops k e.session new d was now
     → IsSound new (set xs at (record e { session = d }))
 steps_sound k new xs at s e d logged stops was now h t = still_sound k new xs at s e d h
@@ -171,22 +171,22 @@ as_seen st seen new s was now c d commit logged commit' e f same appended m =
     (sym (appended ∙ ap (λ (o : OpenCommit). o.lines ++ logged) same)) m))
 
 -- what a session says of the state
-at_here : {A : Type 0} (f : State → A) (k : Kept) (stopped : Bool) (xs : List OpenSession) (at s : ℕ) (e : OpenSession)
+at_here : {A : Type 0} (f : State → A) (k : StoreModel) (stopped : Bool) (xs : List OpenSession) (at s : ℕ) (e : OpenSession)
     (a : A) → Here k xs at s e → f (state_in k stopped (among (take at xs) s e.session (drop (suc at) xs))) ≡ a
     → f (state_in k stopped xs) ≡ a
 at_here f k stopped xs at s e a h g = ap (λ (ys : List OpenSession). f (state_in k stopped ys)) h.is ∙ g
 
-pub cause_at : (k : Kept) (stopped : Bool) (xs : List OpenSession) (at s : ℕ) (e : OpenSession) → Here k xs at s e
+pub cause_at : (k : StoreModel) (stopped : Bool) (xs : List OpenSession) (at s : ℕ) (e : OpenSession) → Here k xs at s e
     → cause_of (state_in k stopped xs) s ≡ (e.session).cause
 cause_at k stopped xs at s e h = at_here (λ st. cause_of st s) k stopped xs at s e (e.session).cause h
     (cause_is k stopped (take at xs) s e.session (drop (suc at) xs) h.sound)
 
-pub held_at_state : (k : Kept) (stopped : Bool) (xs : List OpenSession) (at s : ℕ) (e : OpenSession) → Here k xs at s e
+pub held_at_state : (k : StoreModel) (stopped : Bool) (xs : List OpenSession) (at s : ℕ) (e : OpenSession) → Here k xs at s e
     → held_of (state_in k stopped xs) s ≡ (e.session).held
 held_at_state k stopped xs at s e h = at_here (λ st. held_of st s) k stopped xs at s e (e.session).held h
     (held_is k stopped (take at xs) s e.session (drop (suc at) xs) h.sound)
 
-pub pending_at : (k : Kept) (stopped : Bool) (xs : List OpenSession) (at s : ℕ) (e : OpenSession) → Here k xs at s e
+pub pending_at : (k : StoreModel) (stopped : Bool) (xs : List OpenSession) (at s : ℕ) (e : OpenSession) → Here k xs at s e
     → pending_of (state_in k stopped xs) s ≡ (e.session).pending
 pending_at k stopped xs at s e h = at_here (λ st. pending_of st s) k stopped xs at s e (e.session).pending h
     (ap pending_in (found k stopped (take at xs) s e.session (drop (suc at) xs)
@@ -202,7 +202,7 @@ run_open st s m = by (session_of st s) (both_right (not st.stopped) _ m)
     by (Some x) h = refl
 
 -- and its next line may be run, as the session is kept
-pub run_ready : (k : Kept) (stopped : Bool) (xs : List OpenSession) (at s : ℕ) (e : OpenSession) (st : State)
+pub run_ready : (k : StoreModel) (stopped : Bool) (xs : List OpenSession) (at s : ℕ) (e : OpenSession) (st : State)
     → Here k xs at s e → state_in k stopped xs ≡ st → may_run st s ≡ true → dialog_is_ready e.session ≡ true
 run_ready k stopped xs at s e st h seen m =
     let here : (is_none (cause_of st s) && not (is_dry (held_of st s))) ≡ true = both_right (not st.stopped) _ m in
@@ -213,14 +213,14 @@ run_ready k stopped xs at s e st h seen m =
     sym (ap₂ (λ (c : Option EndCause) (bs : Bytes). is_none c && not (is_dry bs)) cause held
     ∙ same_ready e.session) ∙ here
 
-pub cause_put : (k : Kept) (stopped : Bool) (xs : List OpenSession) (at s : ℕ) (e : OpenSession) (d : Talk) (new : Kept)
+pub cause_put : (k : StoreModel) (stopped : Bool) (xs : List OpenSession) (at s : ℕ) (e : OpenSession) (d : SessionModel) (new : StoreModel)
     → Here k xs at s e → IsSound new (among (take at xs) s d (drop (suc at) xs))
     → cause_of (state_in new stopped (set xs at (record e { session = d }))) s ≡ d.cause
 cause_put k stopped xs at s e d new h sound = ap (λ (ys : List OpenSession). cause_of (state_in new stopped ys) s)
     (h.put d) ∙ cause_is new stopped (take at xs) s d (drop (suc at) xs) sound
 
 -- the ids of the state
-pub ids_seen : (k : Kept) (stopped : Bool) (xs : List OpenSession) → state_ids (state_in k stopped xs)
+pub ids_seen : (k : StoreModel) (stopped : Bool) (xs : List OpenSession) → state_ids (state_in k stopped xs)
     ≡ map (λ (x : OpenSession). x.id) xs
 ids_seen k stopped [] = refl
 ids_seen k stopped (x ∷ xs) = ap (λ (r : List ℕ). x.id ∷ r) (ids_seen k stopped xs)
@@ -240,8 +240,8 @@ makes_plain old event new acts = record {
 }
 
 -- An event that is done to a session.
-makes_by : (M : State → ℕ → Session → Effect → State → Type 0) (event : Event) (k new : Kept) (xs : List OpenSession)
-    (at s : ℕ) (e : OpenSession) (d : Talk) (stopped : Bool) → Here k xs at s e → Performs M false k e.session new d 0 0
+makes_by : (M : State → ℕ → Session → Effect → State → Type 0) (event : Event) (k new : StoreModel) (xs : List OpenSession)
+    (at s : ℕ) (e : OpenSession) (d : SessionModel) (stopped : Bool) → Here k xs at s e → Performs M false k e.session new d 0 0
     → ((eff : Effect) (st st' : State) → IsSomeAnd (session_of st s) (λ x. x ≡ session_in k.cursors s e.session)
     → M st s (session_in k.cursors s e.session) eff st' → Acts st event eff st')
     → Makes (state_in k stopped xs) event (state_in new stopped (set xs at (record e { session = d })))
@@ -264,14 +264,14 @@ same_session None x P h p = absurd h
 same_session (Some y) x P h p = subst P (sym h) p
 
 -- A session whose bytes alone change.
-bytes_sound : (k : Kept) (front : List OpenSession) (s : ℕ) (d e : Talk) (held pending : Bytes)
+bytes_sound : (k : StoreModel) (front : List OpenSession) (s : ℕ) (d e : SessionModel) (held pending : Bytes)
     (back : List OpenSession) → e ≡ record d { held = held; pending = pending; room = e.room }
     → IsSound k (among front s d back) → IsSound k (among front s e back)
-bytes_sound k front s d e held pending back same sound = subst (λ (x : Talk). IsSound k (among front s x back))
+bytes_sound k front s d e held pending back same sound = subst (λ (x : SessionModel). IsSound k (among front s x back))
     (sym same) (sound_bytes k front s d held pending e.room back sound)
 
 -- `took`
-pub takes : (k : Kept) (xs : List OpenSession) (at s count : ℕ) (e : OpenSession) (d : Talk) (stopped : Bool)
+pub takes : (k : StoreModel) (xs : List OpenSession) (at s count : ℕ) (e : OpenSession) (d : SessionModel) (stopped : Bool)
     → Here k xs at s e → d
     ≡ record e.session { pending = drop count (e.session).pending; room = d.room }
     → Makes (state_in k stopped xs) (took s (take count (e.session).pending))
@@ -312,7 +312,7 @@ by_some : (o : Option EndCause) (c : EndCause) (P : Type 0) (Q : EndCause → Ty
 by_some o c P Q e q = subst (λ (w : Option EndCause). MatchOption w P Q) (sym e) q
 
 -- a session that has ended drops what comes
-pub fed_ended : (k : Kept) (xs : List OpenSession) (at s : ℕ) (e : OpenSession) (stopped : Bool) (bytes : Bytes)
+pub fed_ended : (k : StoreModel) (xs : List OpenSession) (at s : ℕ) (e : OpenSession) (stopped : Bool) (bytes : Bytes)
     (c : EndCause) → Here k xs at s e → (e.session).cause ≡ Some c
     → Makes (state_in k stopped xs) (fed s bytes) (state_in k stopped xs)
     × FedGives (state_in k stopped xs) s (Ended c) (state_in k stopped xs)
@@ -326,7 +326,7 @@ fed_ended k xs at s e stopped bytes c h is = let cause = cause_at k stopped xs a
 )
 
 -- bytes are held
-pub fed_held : (k : Kept) (xs : List OpenSession) (at s : ℕ) (e : OpenSession) (d : Talk) (stopped : Bool)
+pub fed_held : (k : StoreModel) (xs : List OpenSession) (at s : ℕ) (e : OpenSession) (d : SessionModel) (stopped : Bool)
     (bytes : Bytes) → Here k xs at s e → (e.session).cause ≡ None
     → d ≡ record e.session { held = (e.session).held ++ bytes }
     → Makes (state_in k stopped xs) (fed s bytes) (state_in k stopped (set xs at (record e { session = d })))
@@ -341,7 +341,7 @@ fed_held k xs at s e d stopped bytes h running same =
     same in
     let sound = bytes_sound k front s e.session d ((e.session).held ++ bytes) (e.session).pending back
     (same ∙ ap (λ (r : ℕ). record e.session { held = (e.session).held ++ bytes; room = r })
-    (sym (ap (λ (x : Talk). x.room) same))) h.sound in (
+    (sym (ap (λ (x : SessionModel). x.room) same))) h.sound in (
       subst (λ (ys : List OpenSession). Makes (state_in k stopped ys) (fed s bytes)
           (state_in k stopped (set xs at (record e { session = d })))) (sym h.is)
           (subst (λ (ys : List OpenSession). Makes old (fed s bytes) (state_in k stopped ys)) (sym (h.put d))
@@ -352,12 +352,12 @@ fed_held k xs at s e d stopped bytes h running same =
             becomes k stopped front s e.session d back (λ y. record y { held = y.held ++ bytes })
                 (parts k front s e.session back h.sound) seen,
           )))))),
-      cause_put k stopped xs at s e d k h sound ∙ ap (λ (x : Talk). x.cause) same ∙ running,
+      cause_put k stopped xs at s e d k h sound ∙ ap (λ (x : SessionModel). x.cause) same ∙ running,
       still_sound k k xs at s e d h sound,
     )
 
 -- a session ends since there is no memory for what comes
-pub fed_lacking : (k new : Kept) (xs : List OpenSession) (at s : ℕ) (e : OpenSession) (d : Talk) (stopped : Bool)
+pub fed_lacking : (k new : StoreModel) (xs : List OpenSession) (at s : ℕ) (e : OpenSession) (d : SessionModel) (stopped : Bool)
     (bytes : Bytes) → Here k xs at s e → (e.session).cause ≡ None
     → Performs (λ st i x eff st'. EndsWith end_memory Memory st i eff st') false k e.session new d 0 0 → d.cause
     ≡ Some Memory
@@ -381,7 +381,7 @@ fed_lacking k new xs at s e d stopped bytes h running p for_memory =
 
 -- `end_session`
 
-pub ended_had : (k : Kept) (xs : List OpenSession) (at s : ℕ) (e : OpenSession) (stopped : Bool) (c : EndCause)
+pub ended_had : (k : StoreModel) (xs : List OpenSession) (at s : ℕ) (e : OpenSession) (stopped : Bool) (c : EndCause)
     → Here k xs at s e → (e.session).cause ≡ Some c → Makes (state_in k stopped xs) (ended s) (state_in k stopped xs)
 ended_had k xs at s e stopped c h is =
     makes_plain (state_in k stopped xs) (ended s) (state_in k stopped xs)
@@ -390,11 +390,11 @@ ended_had k xs at s e stopped c h is =
     (at_session k stopped (take at xs) s e.session (drop (suc at) xs) _ h.sound
     (by_some (e.session).cause c _ _ is (refl, refl))))
 
-quiet_acts : (hs : List HeldCursor) (d : Talk) (s : ℕ) (eff : Effect) (st st' : State) → is_dry d.held ≡ true
+quiet_acts : (hs : List HeldCursor) (d : SessionModel) (s : ℕ) (eff : Effect) (st st' : State) → is_dry d.held ≡ true
     → EndsQuietly d st s eff st' → EndedStep st s (record (session_in hs s d) { cause = None }) eff st'
 quiet_acts hs d s eff st st' dry m = (dry, m.0, m.1)
 
-pub ended_now : (k new : Kept) (xs : List OpenSession) (at s : ℕ) (e : OpenSession) (d : Talk) (stopped : Bool)
+pub ended_now : (k new : StoreModel) (xs : List OpenSession) (at s : ℕ) (e : OpenSession) (d : SessionModel) (stopped : Bool)
     → Here k xs at s e → (e.session).cause ≡ None
     → is_dry (e.session).held ≡ true
     → Performs (λ st i x eff st'. EndsQuietly e.session st i eff st') false k e.session new d 0 0
@@ -411,7 +411,7 @@ ended_now k new xs at s e d stopped h running dry p = (
 
 -- `close_session`
 
-removed_here : (xs : List OpenSession) (at s : ℕ) (d : Talk) (front back : List OpenSession) → xs ≡ among front s d back
+removed_here : (xs : List OpenSession) (at s : ℕ) (d : SessionModel) (front back : List OpenSession) → xs ≡ among front s d back
     → length front ≡ at → remove xs at ≡ front ++ back
 removed_here xs at s d front back e l = ap (λ (ys : List OpenSession). remove ys at) e
     ∙ dropped front (record { id = s; session = d }) back at l
@@ -439,7 +439,7 @@ all_below hs [] s b = refl
 all_below hs (x ∷ back) s b = cond-true _ _ _ (ap not (apart_ids x.id s (λ e. absurd (omega (arith, e, b.0)))))
     ∙ ap (λ (r : List Session). session_seen hs x ∷ r) (all_below hs back s b.1)
 
-filtered : (hs : List HeldCursor) (front : List OpenSession) (s : ℕ) (d : Talk) (back : List OpenSession)
+filtered : (hs : List HeldCursor) (front : List OpenSession) (s : ℕ) (d : SessionModel) (back : List OpenSession)
     → IsAbove s (map (λ (x : OpenSession). x.id) front) → IsBelowAll s (map (λ (x : OpenSession). x.id) back)
     → filter (λ (x : Session). not (eqb x.id s)) (map (session_seen hs) (among front s d back))
     ≡ map (session_seen hs) (front ++ back)
@@ -457,7 +457,7 @@ agree_join old new [] ys g h = h
 agree_join old new (x ∷ xs) ys g h = (g.0, agree_join old new xs ys g.1 h)
 
 -- The sessions without one that has given up its cursors.
-pub closes : (k new : Kept) (xs : List OpenSession) (at s : ℕ) (e : OpenSession) (d : Talk) (stopped : Bool)
+pub closes : (k new : StoreModel) (xs : List OpenSession) (at s : ℕ) (e : OpenSession) (d : SessionModel) (stopped : Bool)
     → Here k xs at s e → at < length xs → SessionGivesUp k e.session new d
     → Makes (state_in k stopped xs) (closed s (pending_of (state_in k stopped xs) s))
     (state_in new stopped (remove (set xs at (record e { session = d })) at))
@@ -516,13 +516,13 @@ below_seen hs (x ∷ xs) s h (suc k) d l =
     below_seen hs xs s (λ j e m. h (suc j) e (omega (arith, m))) k d (omega (arith, l))
 
 -- an id above all sessions that the machine sees is above all that are kept
-pub last_kept : (k : Kept) (st : State) (stopped : Bool) (xs : List OpenSession) (s : ℕ) → state_in k stopped xs ≡ st
+pub last_kept : (k : StoreModel) (st : State) (stopped : Bool) (xs : List OpenSession) (s : ℕ) → state_in k stopped xs ≡ st
     → All (λ (x : Session). x.id < s) st.sessions → All (λ (x : OpenSession). x.id < s) xs
 last_kept k st stopped xs s v above = below_seen k.cursors xs s
     (subst (λ (z : State). All (λ (x : Session). x.id < s) z.sessions) (sym v) above)
 
 -- a session that opens is as the machine has it
-fresh_session : (hs : List HeldCursor) (s : ℕ) (d : Talk) → IsNewDialog d → session_in hs s d ≡ fresh s
+fresh_session : (hs : List HeldCursor) (s : ℕ) (d : SessionModel) → IsNewDialog d → session_in hs s d ≡ fresh s
 fresh_session hs s d f =
     ap₂ (λ (held pending : Bytes). record (session_in hs s d) { held = held; pending = pending }) f.held f.pending
     ∙ ap₂ (λ (c : Option EndCause) (ns : _). record {
@@ -540,7 +540,7 @@ fresh_session hs s d f =
     ∙ ap (λ (b : Option HeldTransaction). record
     { id = s; held = []; pending = []; cause = None; cursors = []; watches = []; batch = b }) f.batch
 
-pub opens : (k : Kept) (xs : List OpenSession) (s : ℕ) (d : Talk) (st : State) (stopped : Bool) → IsSound k xs
+pub opens : (k : StoreModel) (xs : List OpenSession) (s : ℕ) (d : SessionModel) (st : State) (stopped : Bool) → IsSound k xs
     → state_in k stopped xs ≡ st → length xs < SESSIONS → IsNewDialog d → All (λ (x : Session). x.id < s) st.sessions
     → (Makes st (opened s) (state_in k stopped (xs ++ record { id = s; session = d } ∷ []))
     × IsOpen (state_in k stopped (xs ++ record { id = s; session = d } ∷ [])) s)
@@ -585,11 +585,11 @@ opens k xs s d st stopped before v few f above =
     )
 
 -- a session that was looked at alone
-pub same_list : (k : Kept) (xs : List OpenSession) (at s : ℕ) (e : OpenSession) → Here k xs at s e → set xs at e ≡ xs
+pub same_list : (k : StoreModel) (xs : List OpenSession) (at s : ℕ) (e : OpenSession) → Here k xs at s e → set xs at e ≡ xs
 same_list k xs at s e h = h.put e.session ∙ sym h.is
 
 -- a session that goes on and may end holds no line
-pub dry_here : (k : Kept) (st : State) (stopped : Bool) (xs : List OpenSession) (at s : ℕ) (e : OpenSession)
+pub dry_here : (k : StoreModel) (st : State) (stopped : Bool) (xs : List OpenSession) (at s : ℕ) (e : OpenSession)
     → Here k xs at s e → state_in k stopped xs ≡ st → (e.session).cause ≡ None
     → (is_some (cause_of st s) ≡ true) ⊎ (is_dry (held_of st s) ≡ true) → is_dry (e.session).held ≡ true
 dry_here k st stopped xs at s e h v running (inl c) =

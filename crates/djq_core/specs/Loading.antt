@@ -26,11 +26,11 @@ use Rattle.djq_machine.specs.declared.machine.Loaded.{Loaded}
 use Rattle.djq_machine.specs.declared.machine.Loaded.TheVariants.{Ran, Refused}
 use Rattle.djq_machine.specs.Loading.{Loading, ReadingLoads, refused_by}
 use Rattle.djq_engine.specs.declared.cursor.CursorId.{CursorId}
-use Rattle.djq_engine.specs.Kept.{Kept, held_at, IsUnwatched}
+use Rattle.djq_engine.specs.StoreModel.{StoreModel, held_at, IsUnwatched}
 use Rattle.djq_commands.specs.Sound.{BatchSuits}
 
 -- The engine holds no cursor, and nobody watches a query.
-pub record IsUnused (k : Kept) : Type 0 where
+pub record IsUnused (k : StoreModel) : Type 0 where
   pub cursorless : (c : CursorId) → held_at k.cursors c ≡ None
   pub unwatched : IsUnwatched k
 
@@ -45,11 +45,11 @@ is_batch Batch = true
 is_batch _ = false
 
 -- how far loading is, by the engine and the batch that is open
-abbrev pub loading_by : Kept → Option HeldTransaction → Loading
+abbrev pub loading_by : StoreModel → Option HeldTransaction → Loading
 loading_by k batch = record { store = k.store; batch = batch }
 
 -- A line is loaded, and nobody watches after it either. Batches suit as before.
-pub record LoadsLine (line : Bytes) (how : Loaded) (old : Kept) (before : Option HeldTransaction) (new : Kept)
+pub record LoadsLine (line : Bytes) (how : Loaded) (old : StoreModel) (before : Option HeldTransaction) (new : StoreModel)
     (after : Option HeldTransaction) : Type 0 where
   pub loads : ReadingLoads (loading_by old before) line (reading_of line) how (loading_by new after)
   pub idle : IsUnused new

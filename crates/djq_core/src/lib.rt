@@ -28,11 +28,11 @@
 //! the commit is cleared.
 //!
 //! Inside: `sessions` has the sessions by id, `serving` the calls, `serving/load` the lines that are
-//! loaded, and `tell` what a command on rows leaves to do: each delta printed once, and then its answer.
+//! loaded, and `publish` what a command on rows leaves to do: each delta printed once, and then its answer.
 #![tactic(auto)]
 
 pub use serving::Core;
 
+mod publish;
 mod serving;
 mod sessions;
-mod tell;

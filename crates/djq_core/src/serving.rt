@@ -3,10 +3,12 @@ ghost use Rattle.djq_model.specs.Data.{rows_of};
 ghost use Rattle.djq_machine.specs.State.{opening};
 ghost use Rattle.djq_engine.specs.Sizes.{rows_together};
 
+use crate::publish::publish_change;
 use crate::sessions::Sessions;
-use crate::tell::tell_change;
 use bytes::BytesMut;
-use djq_commands::{Commit, Left, OpenSession, Queued, end_by, end_input, give_up, step_session};
+use djq_commands::{
+    AfterCommand, Commit, OpenSession, Queued, end_by, end_input, release_session, step_session,
+};
 use djq_counters::{Ledgers, Steps};
 use djq_machine::{Fed, Machine, OpenRefusal};
 use djq_model::{Name, NoMem, Value};
@@ -170,10 +172,10 @@ impl Machine for Core {
         );
         self.queued.count(found);
         match left {
-            Left::Nothing { logged } => self.commit.log_line(logged),
-            Left::Stopping => self.stopped = true,
-            Left::Telling(outcome) => {
-                tell_change(
+            AfterCommand::Nothing { logged } => self.commit.log_line(logged),
+            AfterCommand::Stopping => self.stopped = true,
+            AfterCommand::Telling(outcome) => {
+                publish_change(
                     &mut self.engine,
                     &mut self.sessions,
                     at,
@@ -209,7 +211,7 @@ impl Machine for Core {
     #[inline]
     fn took(&mut self, id: u64, count: usize) {
         let at = self.sessions.find(id);
-        self.sessions.get_mut(at).took(count);
+        self.sessions.get_mut(at).advance(count);
     }
 
     fn end_session(&mut self, id: u64) {
@@ -224,7 +226,7 @@ impl Machine for Core {
     fn close_session(&mut self, id: u64) {
         let at = self.sessions.find(id);
         let found = self.sessions.get_mut(at);
-        give_up(&mut self.engine, found);
+        release_session(&mut self.engine, found);
         self.sessions.remove(at);
     }
 

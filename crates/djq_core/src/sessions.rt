@@ -151,7 +151,7 @@ impl Sessions {
         let low = u64::try_from(from).unwrap_or(u64::MAX);
         for at in place_from(self.ids.as_slice(), low)..self.ids.len() {
             let id = self.ids[at];
-            if from <= u128::from(id) && self.get(at).is_due() {
+            if from <= u128::from(id) && self.get(at).has_pending() {
                 return Some(id);
             }
         }

@@ -23,9 +23,9 @@ use Rattle.djq_live_query.specs.Member.{in_head, ShowableCellsStand}
 use Rattle.djq_reach.specs.Places.{place_at, is_reader, watched_at, log_at}
 use Rattle.djq_engine.specs.declared.parts.Parts.{Parts}
 use Rattle.djq_engine.specs.declared.cursor.CursorId.{CursorId}
-use Rattle.djq_engine.specs.Kept.{Kept, Registered, readers_of, affected_of, is_watched, told_at, HeldCursor}
-use Rattle.djq_engine.specs.Kept.{PlacesAreKept, IdsArePlaced, PlacesAreRegistered, CursorsAreRegistered, ToldCellsFit}
-use Rattle.djq_engine.specs.Kept.{CellsAre, registered_at}
+use Rattle.djq_engine.specs.StoreModel.{StoreModel, Registered, readers_of, affected_of, is_watched, told_at, HeldCursor}
+use Rattle.djq_engine.specs.StoreModel.{PlacesAreKept, IdsArePlaced, PlacesAreRegistered, CursorsAreRegistered, ToldCellsFit}
+use Rattle.djq_engine.specs.StoreModel.{CellsAre, registered_at}
 use Rattle.djq_engine.specs.Places.{is_live, query_in, id_at, query_registered_as, registered_in, told_from}
 use Rattle.djq_engine.specs.Places.{held_query_cursor, query_cursor_of, told_of}
 use Rattle.djq_engine.specs.Sound.{QueriesAreSound}
@@ -182,7 +182,7 @@ module _ (c : Catalog) (gs : List (Option Live)) (order : List ℕ) (readers : L
       sym (map_mapped (λ (r : Registered). r.id) (query_registered_as gs ws) places)
       ∙ ap (map (λ (r : Registered). r.id)) (sym outdated_are)
 
-  pub logs_with : (f : ℕ → List Change) (n : ℕ → ℕ) (new : Kept)
+  pub logs_with : (f : ℕ → List Change) (n : ℕ → ℕ) (new : StoreModel)
       → ((i : ℕ) → is_reader places i ≡ true → LogTells new (query_registered_as gs ws i) (delta_at f n i))
       → LogsTell new (affected_of (registered_in gs ws order) change) (deltas_with f n)
   logs_with f n new h =
@@ -234,10 +234,10 @@ module _ (c : Catalog) (gs : List (Option Live)) (order : List ℕ) (readers : L
     told_or i None = some_changes i
     told_or i (Some changes) = changes
 
-    pub told_changes : Kept → ℕ → List Change
+    pub told_changes : StoreModel → ℕ → List Change
     told_changes new i = told_or i (told_at new (id_at i))
 
-    pub told_are : (new : Kept)
+    pub told_are : (new : StoreModel)
         → ((i : ℕ) (l : Live) → is_reader places i ≡ true → watched_at ws i ≡ true → place_at gs i ≡ Some l
         → (changes : List Change)
         → told_at new (id_at i) ≡ Some changes
@@ -251,7 +251,7 @@ module _ (c : Catalog) (gs : List (Option Live)) (order : List ℕ) (readers : L
         by_told None e = some_are i l there
         by_told (Some changes) e = h i l r w there changes e
 
-    pub told_by_log : (new : Kept) (n : ℕ → ℕ) (i : ℕ)
+    pub told_by_log : (new : StoreModel) (n : ℕ → ℕ) (i : ℕ)
         → LogTells new (query_registered_as gs ws i) (delta_at (told_changes new) n i)
     unfolding told_changes told_or
     told_by_log new n i = by_told (told_at new (id_at i)) refl

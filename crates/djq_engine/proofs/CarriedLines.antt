@@ -41,10 +41,10 @@ use Rattle.djq_reach.proofs.PlacedQueries.{reader_both}
 use Rattle.djq_queries.specs.Changing.{touched}
 use Rattle.djq_transaction.specs.Leading.{AreGroupsOf, HasHeadings, ChangedIsEither, catalog_after, catalog_between}
 use Rattle.djq_engine.specs.declared.parts.Parts.{Parts}
-use Rattle.djq_engine.specs.Kept.{Outdates, is_tried}
+use Rattle.djq_engine.specs.StoreModel.{Outdates, is_tried}
 use Rattle.djq_engine.specs.Places.{is_live, query_in, queries_in}
 use Rattle.djq_engine.specs.Changing.{KeepsRest}
-use Rattle.djq_engine.specs.Outdating.{AgesAll, AgesAt, AgesBy, AreReaders, first_of_names}
+use Rattle.djq_engine.specs.Outdating.{QueriesOutdated, QueryOutdatedAt, QueryOutdatedBy, AreReaders, first_of_names}
 use Rattle.djq_engine.specs.Watching.{EngineTellsChange}
 use Rattle.djq_engine.specs.Whole.{kept_in, EngineIsWhole, IsTended}
 use Rattle.djq_engine.specs.Transacting.{changed_relations}
@@ -301,16 +301,16 @@ module _ (old mid new : Parts) (s : EngineIsWhole old) (t : IsTended old) (lines
       place_outdated old.catalog old.queries.items old.order old.readers.items s old.watchers.items change
       (outdated_places old.queries.items old.order change) refl i y ∙ sym (outdated_here i y)
 
-  ages_all : AgesAll outdater new.seq mid.queries.items new.queries.items
+  ages_all : QueriesOutdated outdater new.seq mid.queries.items new.queries.items
   ages_all = record {
     long = x.ages.long;
     each = λ i. by (place_at mid.queries.items i) (place_at new.queries.items i) (x.ages.each i);
   }
     where
-      by : (o p : Option Live) → AgesAt (first_of_names (changed_relations rs lines)) new.seq o p
-          → AgesAt outdater new.seq o p
+      by : (o p : Option Live) → QueryOutdatedAt (first_of_names (changed_relations rs lines)) new.seq o p
+          → QueryOutdatedAt outdater new.seq o p
       by None p h = h
-      by (Some l) p h = subst (λ (r : Option Bytes). AgesBy r new.seq l p) (first_of_changed rs lines (a_query
+      by (Some l) p h = subst (λ (r : Option Bytes). QueryOutdatedBy r new.seq l p) (first_of_changed rs lines (a_query
           l.query)) h
 
   turned : Turned outdater places old mid new

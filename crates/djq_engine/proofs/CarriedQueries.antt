@@ -22,19 +22,19 @@ use Rattle.djq_live_query.specs.Live.{Live, IsLive, position_of}
 use Rattle.djq_live_query.specs.Staying.{StaysOver}
 use Rattle.djq_live_query.specs.Reading as live
 use Rattle.djq_reach.specs.Places.{place_at, is_reader, reads_place, readers_at}
-use Rattle.djq_reach.specs.Reaching.{DoneAt, Reach, Renews, Ages, Carries}
+use Rattle.djq_reach.specs.Reaching.{DoneAt, Reach, Renews, QueryOutdated, Carries}
 use Rattle.djq_reach.specs.Tending.{LogsCanBeShown}
 use Rattle.djq_reach.proofs.PlacedQueries.{everywhere, place_below}
 use Rattle.djq_engine.specs.declared.cursor.CursorId.{CursorId}
 use Rattle.djq_engine.specs.declared.parts.Parts.{Parts}
-use Rattle.djq_engine.specs.Kept.{HeldCursor, held_at, same_id, outdated_held, SameShape, SameLiveTables, KeepsQuery}
-use Rattle.djq_engine.specs.Kept.{is_tried}
+use Rattle.djq_engine.specs.StoreModel.{HeldCursor, held_at, same_id, outdated_held, SameShape, SameLiveTables, KeepsQuery}
+use Rattle.djq_engine.specs.StoreModel.{is_tried}
 use Rattle.djq_engine.specs.Places.{is_live, query_in, queries_in, held_query_cursor, query_cursor_of}
 use Rattle.djq_engine.specs.Places.{query_cursors_from, registered_in}
 use Rattle.djq_engine.specs.Sound.{QueriesAreSound}
-use Rattle.djq_engine.specs.Outdating.{AgesBy, AgesAt, AgesAll}
+use Rattle.djq_engine.specs.Outdating.{QueryOutdatedBy, QueryOutdatedAt, QueriesOutdated}
 use Rattle.djq_engine.specs.Whole.{kept_in, EngineIsWhole}
-use Rattle.djq_engine.specs.Changing.{AgesReaders}
+use Rattle.djq_engine.specs.Changing.{ReadersOutdated}
 use Rattle.djq_engine.specs.Placing.{SamePlaces}
 use Rattle.djq_engine.specs.Moving.{Moves, OpensAt, ClosesAt, ReadsAt, TellsMore}
 use Rattle.djq_engine.proofs.StaleCursors.{Turns, SameNames, outdated_at, held_with, held_is}
@@ -61,14 +61,14 @@ module _ (c d : Catalog) (outdater : Listed → Option Bytes) (n : ℕ) (places 
     (reach : Reach places (Renews d) gs hs)
     (stay : (i : ℕ) (l : Live) → place_at gs i ≡ Some l → is_reader places i ≡ false → StaysOver c d l)
     (within : (i : ℕ) → is_reader places i ≡ true → is_some (outdater (query_in (place_at gs i))) ≡ true)
-    (ages : AgesAll outdater n hs ks) where
-  turns_here : (l m : Live) (p : Option Live) → Renews d l m → AgesAt outdater n (Some m) p → (o : Option Bytes)
+    (ages : QueriesOutdated outdater n hs ks) where
+  turns_here : (l m : Live) (p : Option Live) → Renews d l m → QueryOutdatedAt outdater n (Some m) p → (o : Option Bytes)
       → outdater (a_query l.query) ≡ o → is_some o ≡ true → TurnsBy c d o n l p
   turns_here l m p r a None e some = absurd (false≢true some)
   turns_here l m p r a (Some relation) e some = by_place p
-      (subst (λ (o : Option Bytes). AgesBy o n m p) (ap (λ (q : Query). outdater (a_query q)) r.same.query ∙ e) a)
+      (subst (λ (o : Option Bytes). QueryOutdatedBy o n m p) (ap (λ (q : Query). outdater (a_query q)) r.same.query ∙ e) a)
     where
-      by_place : (p : Option Live) → AgesBy (Some relation) n m p → TurnsBy c d (Some relation) n l p
+      by_place : (p : Option Live) → QueryOutdatedBy (Some relation) n m p → TurnsBy c d (Some relation) n l p
       by_place None b = b
       by_place (Some k) b = record {
         query = ap (λ (x : Live). x.query) b.outdated ∙ r.same.query;
@@ -76,7 +76,7 @@ module _ (c d : Catalog) (outdater : Listed → Option Bytes) (n : ℕ) (places 
         live = b.live d r.kept;
       }
 
-  turns_there : (l : Live) (p : Option Live) → StaysOver c d l → (o : Option Bytes) → AgesBy o n l p
+  turns_there : (l : Live) (p : Option Live) → StaysOver c d l → (o : Option Bytes) → QueryOutdatedBy o n l p
       → TurnsBy c d o n l p
   turns_there l p s None a = (a, s)
   turns_there l None s (Some relation) a = a
@@ -90,11 +90,11 @@ module _ (c d : Catalog) (outdater : Listed → Option Bytes) (n : ℕ) (places 
   turned_all i = by_place (is_reader places i) refl (place_at gs i) refl (place_at hs i) (reach.each i) (ages.each i)
     where
       by_place : (b : Bool) → is_reader places i ≡ b → (o : Option Live) → place_at gs i ≡ o → (p : Option Live)
-          → DoneAt (Renews d) b o p → AgesAt outdater n p (place_at ks i)
+          → DoneAt (Renews d) b o p → QueryOutdatedAt outdater n p (place_at ks i)
           → TurnsAt c d outdater n o (place_at ks i)
-      by_place false e None f p t a = subst (λ (x : Option Live). AgesAt outdater n x (place_at ks i)) t a
+      by_place false e None f p t a = subst (λ (x : Option Live). QueryOutdatedAt outdater n x (place_at ks i)) t a
       by_place false e (Some l) f p t a = turns_there l (place_at ks i) (stay i l f e) (outdater (a_query l.query))
-          (subst (λ (x : Option Live). AgesAt outdater n x (place_at ks i)) t a)
+          (subst (λ (x : Option Live). QueryOutdatedAt outdater n x (place_at ks i)) t a)
       by_place true e None f None t a = a
       by_place true e None f (Some m) t a = absurd t
       by_place true e (Some l) f None t a = absurd t
@@ -106,7 +106,7 @@ module _ (c d : Catalog) (outdater : Listed → Option Bytes) (n : ℕ) (places 
   pub turned_alike : AreAlike gs ks
   turned_alike i = by_place (is_reader places i) (place_at gs i) (place_at hs i) (reach.each i) (ages.each i)
     where
-      aged : (m : Live) (p : Option Live) (o : Option Bytes) → AgesBy o n m p → AlikeAt (Some m) p
+      aged : (m : Live) (p : Option Live) (o : Option Bytes) → QueryOutdatedBy o n m p → AlikeAt (Some m) p
       aged m p None a = subst (λ (x : Option Live). AlikeAt (Some m) x) (sym a) (alike_itself m)
       aged m None (Some relation) a = a
       aged m (Some k) (Some relation) a = record {
@@ -120,14 +120,14 @@ module _ (c d : Catalog) (outdater : Listed → Option Bytes) (n : ℕ) (places 
       renewed l m (Some k) r a = record
           { query = a.query ∙ r.same.query; numbered = a.numbered ∙ r.same.numbered; tree = a.tree ∙ r.same.tree }
 
-      still : (o p : Option Live) → AgesAt outdater n o p → AlikeAt o p
+      still : (o p : Option Live) → QueryOutdatedAt outdater n o p → AlikeAt o p
       still None p a = subst (λ (x : Option Live). AlikeAt None x) (sym a) tt
       still (Some l) p a = aged l p (outdater (a_query l.query)) a
 
-      by_place : (b : Bool) (o p : Option Live) → DoneAt (Renews d) b o p → AgesAt outdater n p (place_at ks i)
+      by_place : (b : Bool) (o p : Option Live) → DoneAt (Renews d) b o p → QueryOutdatedAt outdater n p (place_at ks i)
           → AlikeAt o (place_at ks i)
       by_place false o p t a = still o (place_at ks i)
-          (subst (λ (x : Option Live). AgesAt outdater n x (place_at ks i)) t a)
+          (subst (λ (x : Option Live). QueryOutdatedAt outdater n x (place_at ks i)) t a)
       by_place true None None t a = still None (place_at ks i) a
       by_place true None (Some m) t a = absurd t
       by_place true (Some l) None t a = absurd t
@@ -285,7 +285,7 @@ pub record Turned (outdater : Listed → Option Bytes) (places : List ℕ) (old 
       → StaysOver old.catalog mid.catalog l
   pub within : (i : ℕ) → is_reader places i ≡ true → is_some (outdater (query_in (place_at old.queries.items i))) ≡ true
   pub names : SameNames old.catalog mid.catalog
-  pub ages : AgesAll outdater new.seq mid.queries.items new.queries.items
+  pub ages : QueriesOutdated outdater new.seq mid.queries.items new.queries.items
   pub catalog : new.catalog ≡ mid.catalog
   pub readers : new.readers.items ≡ old.readers.items
   pub order : new.order ≡ old.order
@@ -430,7 +430,7 @@ unreached Does places gs hs r i e = subst (λ (b : Bool). DoneAt Does b (place_a
 module _ (old mid new : Parts) (s : EngineIsWhole old) (at : ℕ) (name : Bytes) (after : List Relation)
     (low : at < length (old.catalog).relations) (named : (relation_at (old.catalog).relations at).name ≡ name)
     (carries : Carries (readers_at old.readers.items at) old.catalog old.queries.items mid.catalog mid.queries.items)
-    (readers : mid.readers.items ≡ old.readers.items) (a : AgesReaders at name mid new) where
+    (readers : mid.readers.items ≡ old.readers.items) (a : ReadersOutdated at name mid new) where
   untouched : (i : ℕ) (l : Live) → place_at old.queries.items i ≡ Some l
       → is_outdated (one_change name after) (a_query l.query) ≡ false → is_reader (readers_at old.readers.items at) i
       ≡ false
@@ -445,7 +445,7 @@ module _ (old mid new : Parts) (s : EngineIsWhole old) (at : ℕ) (name : Bytes)
       old.queries.items mid.queries.items new.queries.items carries.reach a.reach)
       (λ i l e out.
       let no = untouched i l e out in
-      unreached (Ages name mid.seq) (readers_at mid.readers.items at) mid.queries.items new.queries.items a.reach i
+      unreached (QueryOutdated name mid.seq) (readers_at mid.readers.items at) mid.queries.items new.queries.items a.reach i
       (ap (λ (rs : List (List ℕ)). is_reader (readers_at rs at) i) readers ∙ no)
       ∙ unreached (Renews mid.catalog) (readers_at old.readers.items at) old.queries.items mid.queries.items
       carries.reach i no
@@ -465,13 +465,13 @@ keeps_turned outdater reached places old mid new s by b =
     ∙ ap (λ (o : Option Live). is_some (outdater (query_in o))) (sym e) ∙ b.within i yes)) in
     let first = unreached (Renews mid.catalog) places old.queries.items mid.queries.items b.reach i no ∙ e in
     unaged l (place_at new.queries.items i) (outdater (a_query l.query)) none
-    (subst (λ (o : Option Live). AgesAt outdater new.seq o (place_at new.queries.items i)) first (b.ages.each i)))
+    (subst (λ (o : Option Live). QueryOutdatedAt outdater new.seq o (place_at new.queries.items i)) first (b.ages.each i)))
   where
     isnt : (b : Bool) → (b ≡ true → ⊥) → b ≡ false
     isnt true h = absurd (h refl)
     isnt false h = refl
 
-    unaged : (l : Live) (p : Option Live) (o : Option Bytes) → is_some o ≡ false → AgesBy o new.seq l p → p ≡ Some l
+    unaged : (l : Live) (p : Option Live) (o : Option Bytes) → is_some o ≡ false → QueryOutdatedBy o new.seq l p → p ≡ Some l
     unaged l p None none a = a
     unaged l p (Some relation) none a = absurd (false≢true (sym none))
 
@@ -512,13 +512,13 @@ at_slot c l None P Q f h = absurd h
 at_slot c l (Some p) P Q f h = f (position_of c.texts l p) h
 
 -- What is kept of an engine of which one query moved.
-pub record Kept (c : Catalog) (logs : List Log) (gs hs : List (Option Live)) : Type 0 where
+pub record StoreModel (c : Catalog) (logs : List Log) (gs hs : List (Option Live)) : Type 0 where
   pub long : length hs ≡ length gs
   pub shown : LogsCanBeShown c.texts gs logs → LogsCanBeShown c.texts hs logs
   pub places : KeepsIn (λ q. false) gs hs
 
 kept_by : (Does : Live → Live → Type 0) (at : ℕ) (c : Catalog) (logs : List Log) (gs hs : List (Option Live))
-    → Moves Does at gs hs → ((l m : Live) → place_at gs at ≡ Some l → Does l m → SameLiveTables l m) → Kept c logs gs hs
+    → Moves Does at gs hs → ((l m : Live) → place_at gs at ≡ Some l → Does l m → SameLiveTables l m) → StoreModel c logs gs hs
 kept_by Does at c logs gs hs v f =
     let same = f v.old v.new v.there v.done in
     record {
@@ -529,20 +529,20 @@ kept_by Does at c logs gs hs v f =
 
 module _ (c : Catalog) (gs hs : List (Option Live)) (order : List ℕ) (readers : List (List ℕ))
     (s : QueriesAreSound c gs order readers) (logs : List Log) (at k : ℕ) where
-  pub opened_kept : Moves (OpensAt k) at gs hs → Kept c logs gs hs
+  pub opened_kept : Moves (OpensAt k) at gs hs → StoreModel c logs gs hs
   opened_kept v = kept_by (OpensAt k) at c logs gs hs v (λ l m e d. but_cursors l m m.cursors d.opens.others)
 
-  pub closed_kept : Moves (ClosesAt k) at gs hs → Kept c logs gs hs
+  pub closed_kept : Moves (ClosesAt k) at gs hs → StoreModel c logs gs hs
   closed_kept v = kept_by (ClosesAt k) at c logs gs hs v (λ l m e d. but_cursors l m _ d.closes)
 
   pub read_kept : (result : Next) (u : List ℕ) (before now : ℕ) → Moves (ReadsAt k result u before now) at gs hs
-      → Kept c logs gs hs
+      → StoreModel c logs gs hs
   read_kept result u before now v = kept_by (ReadsAt k result u before now) at c logs gs hs v
       (λ l m e d. at_slot c l (slot_at l.cursors k) (λ p. live.QueryNextGivesAt c l k p result u m) (SameLiveTables l m)
       (λ p h. next_tables c l m k p result u h) (d.gives c (s.live at l e)))
 
   pub looked_kept : (result : Bool) (before now : ℕ) → Moves (TellsMore k result before now) at gs hs
-      → Kept c logs gs hs
+      → StoreModel c logs gs hs
   looked_kept result before now v = kept_by (TellsMore k result before now) at c logs gs hs v
       (λ l m e d. at_slot c l (slot_at l.cursors k) (λ p. live.QueryMoreGivesAt c l k p result m) (SameLiveTables l m)
       (λ p h. more_tables c l m k p result h) (d.gives c (s.live at l e)))

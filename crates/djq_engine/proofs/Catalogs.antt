@@ -14,7 +14,7 @@ use Rattle.djq_leaves.specs.Changes.{Came, Went}
 use Rattle.djq_live_query.specs.Live.{Live, IsKept, IsLive}
 use Rattle.djq_live_query.specs.Staying.{StaysOver, CamePasses, WentPasses}
 use Rattle.djq_reach.specs.Places.{place_at, is_reader, readers_at, reads_place, AreOnce}
-use Rattle.djq_reach.specs.Reaching.{DoneAt, Reach, AllAt, TakesIn, LetsOut, GivesBack, Renews, Carries}
+use Rattle.djq_reach.specs.Reaching.{DoneAt, Reach, AllAt, QueryInserts, QueryDeletes, GivesBack, Renews, Carries}
 use Rattle.djq_reach.proofs.PlacedQueries.{same_refl}
 use Rattle.djq_engine.specs.Places.{is_live}
 use Rattle.djq_engine.specs.Sound.{QueriesAreSound}
@@ -165,18 +165,18 @@ module _ (c d : Catalog) (gs hs : List (Option Live)) (order : List ℕ) (reader
       → reads l.query (relation_at c.relations at).name ≡ false
   unread i l e f = sym (reader_reads c gs order readers s at low i l e) ∙ f
 
-  pub came_carries : CamePasses → Came c d at cells row → Reach (readers_at readers at) (TakesIn at cells) gs hs
+  pub came_carries : CamePasses → Came c d at cells row → Reach (readers_at readers at) (QueryInserts at cells) gs hs
       → Carries (readers_at readers at) c gs d hs
   came_carries passes came r = record {
-    reach = reach_as (TakesIn at cells) (Renews d) (readers_at readers at) gs hs r
+    reach = reach_as (QueryInserts at cells) (Renews d) (readers_at readers at) gs hs r
         (λ i l m b e t. record { kept = t.follows c d row (s.live i l e).kept came; same = t.same });
     stay = λ i l e f. passes c d at cells row l came low (unread i l e f) (s.live i l e);
   }
 
-  pub went_carries : WentPasses → Went c d at cells row → Reach (readers_at readers at) (LetsOut at cells) gs hs
+  pub went_carries : WentPasses → Went c d at cells row → Reach (readers_at readers at) (QueryDeletes at cells) gs hs
       → Carries (readers_at readers at) c gs d hs
   went_carries passes went r = record {
-    reach = reach_as (LetsOut at cells) (Renews d) (readers_at readers at) gs hs r
+    reach = reach_as (QueryDeletes at cells) (Renews d) (readers_at readers at) gs hs r
         (λ i l m b e t. record { kept = t.follows c d row (s.live i l e).kept went; same = t.same });
     stay = λ i l e f. passes c d at cells row l went low (unread i l e f) (s.live i l e);
   }

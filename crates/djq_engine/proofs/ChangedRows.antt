@@ -27,7 +27,7 @@ use Rattle.djq_live_query.specs.Updating.{HasFewRows, IsDeltaOf, change_of}
 use Rattle.djq_reach.specs.declared.group.Group.{Group}
 use Rattle.djq_reach.specs.Places.{place_at, reads_place, is_reader, readers_at, log_at, watched_at, AreOnce}
 use Rattle.djq_reach.specs.Reaching.{AllAt, DoneAt, Reach, Renews}
-use Rattle.djq_reach.specs.Tending.{DeltasOf, TendedAt, Tends, AreUnwatched}
+use Rattle.djq_reach.specs.Tending.{DeltasOf, TendedAt, LogsHold, AreUnwatched}
 use Rattle.djq_reach.specs.Grouping.{GroupsLead, CostsBy, WorksBy, PlacesAreAmong, group_relations, reached}
 use Rattle.djq_reach.proofs.Batches.{kept_same}
 use Rattle.djq_reach.proofs.CatalogChains.{ReadsNone, reads_of, stays_by}
@@ -45,7 +45,7 @@ use Rattle.djq_transaction.specs.Applied.{IsJudged, HasAllInserted}
 use Rattle.djq_transaction.specs.Grouped.{AreItsGroups, inserted_groups, deleted_groups}
 use Rattle.djq_transaction.proofs.LeadingLines.{left_have, left_is_after, lines_lead}
 use Rattle.djq_engine.specs.declared.parts.Parts.{Parts}
-use Rattle.djq_engine.specs.Kept.{IsUnwatched}
+use Rattle.djq_engine.specs.StoreModel.{IsUnwatched}
 use Rattle.djq_engine.specs.Places.{is_live}
 use Rattle.djq_engine.specs.Outdating.{AreReaders}
 use Rattle.djq_engine.specs.Carrying.{ChangesQueries, LeavesQueries, ChangesRows, LeavesRows, come_of, gone_of}
@@ -293,7 +293,7 @@ module _ (old : Parts) (s : EngineIsWhole old) (lines : List HeldLine) (lead : L
           quiet = λ i l there h. quiet_at tends i l there h;
         }
       where
-        tended : Tends (touched readers come gone) (TellsChangeAt old.watchers.items c e left) gs old.logs.items
+        tended : LogsHold (touched readers come gone) (TellsChangeAt old.watchers.items c e left) gs old.logs.items
             new.logs.items → (i : ℕ) (l : Live) → place_at gs i ≡ Some l → (b : Bool)
             → is_reader (touched readers come gone) i ≡ b
             → TendedAt (TellsChangeAt old.watchers.items c e left i) b (Some l) (log_at old.logs.items i)
@@ -304,14 +304,14 @@ module _ (old : Parts) (s : EngineIsWhole old) (lines : List HeldLine) (lead : L
             (subst (λ (x : Bool). TendedAt (TellsChangeAt old.watchers.items c e left i) x (place_at gs i)
             (log_at old.logs.items i) (log_at new.logs.items i)) h (t.each i))
 
-        told_at : Tends (touched readers come gone) (TellsChangeAt old.watchers.items c e left) gs old.logs.items
+        told_at : LogsHold (touched readers come gone) (TellsChangeAt old.watchers.items c e left) gs old.logs.items
             new.logs.items → (i : ℕ) (l : Live) → is_reader (touched readers come gone) i ≡ true
             → watched_at old.watchers.items i ≡ true → place_at gs i ≡ Some l
             → LogTellsNet c e left l (log_at new.logs.items i)
         told_at t i l h w there = subst (λ (b : Bool). TellsChangeWhere b c e left l (log_at old.logs.items i)
             (log_at new.logs.items i)) w (tended t i l there true h)
 
-        quiet_at : Tends (touched readers come gone) (TellsChangeAt old.watchers.items c e left) gs old.logs.items
+        quiet_at : LogsHold (touched readers come gone) (TellsChangeAt old.watchers.items c e left) gs old.logs.items
             new.logs.items → (i : ℕ) (l : Live) → place_at gs i ≡ Some l
             → (is_reader (touched readers come gone) i && watched_at old.watchers.items i) ≡ false
             → log_at new.logs.items i ≡ log_at old.logs.items i

@@ -29,16 +29,16 @@ use Rattle.djq_store_spec.specs.Stale.{by_relation}
 use Rattle.djq_leaves.proofs.Fills.{fits_long}
 use Rattle.djq_live_query.specs.Live.{Live}
 use Rattle.djq_reach.specs.Places.{readers_at, AreOnce}
-use Rattle.djq_reach.specs.Reaching.{Reach, AllAt, Ages, Carries}
+use Rattle.djq_reach.specs.Reaching.{Reach, AllAt, QueryOutdated, Carries}
 use Rattle.djq_reach.proofs.PlacedQueries.{apart}
 use Rattle.djq_engine.specs.declared.cursor.CursorId.{CursorId}
 use Rattle.djq_engine.specs.declared.parts.Parts.{Parts}
 use Rattle.djq_engine.specs.Judging.{bare_store, RowSuits, Deletion, MayCome, MayGo}
-use Rattle.djq_engine.specs.Kept.{held_at, outdated_held}
+use Rattle.djq_engine.specs.StoreModel.{held_at, outdated_held}
 use Rattle.djq_engine.specs.Places.{queries_in, store_of, query_cursors_from}
 use Rattle.djq_engine.specs.Sound.{QueriesAreSound}
 use Rattle.djq_engine.specs.Changing.{KeepsRest, PutsRow, LacksMemory, NoPlace, for_copies, for_texts, RowLacksPlace}
-use Rattle.djq_engine.specs.Changing.{HasCopies, HasCopyMore, DeletesFrom, AgesReaders, RestsOver}
+use Rattle.djq_engine.specs.Changing.{HasCopies, HasCopyMore, DeletesFrom, ReadersOutdated, RestsOver}
 use Rattle.djq_engine.specs.Whole.{kept_in, EngineIsWhole}
 use Rattle.djq_engine.proofs.Catalogs.{field_with, long_with, readers_once, readers_there, sound_rows, sound_texts}
 use Rattle.djq_engine.proofs.StaleCursors.{turned, carried_there, SameNames, turned_sound, turned_queries, turned_held}
@@ -336,13 +336,13 @@ module _ (old mid : Parts) (s : EngineIsWhole old) (at : ℕ) (low : at < length
       carries.reach)
 
   pub aged : (new : Parts) (name : Bytes) → (relation_at (old.catalog).relations at).name ≡ name
-      → AgesReaders at name mid new → Aged old new name new.seq
+      → ReadersOutdated at name mid new → Aged old new name new.seq
   aged new name named a =
-      let r0 = subst (λ (n : ℕ). Reach (readers_at mid.readers.items at) (Ages name n) mid.queries.items
+      let r0 = subst (λ (n : ℕ). Reach (readers_at mid.readers.items at) (QueryOutdated name n) mid.queries.items
       new.queries.items) (sym a.rest.seq) a.reach in
-      let r1 = subst (λ (rs : List (List ℕ)). Reach (readers_at rs at) (Ages name new.seq) mid.queries.items
+      let r1 = subst (λ (rs : List (List ℕ)). Reach (readers_at rs at) (QueryOutdated name new.seq) mid.queries.items
       new.queries.items) readers r0 in
-      let r2 = subst (λ (x : Bytes). Reach (readers_at old.readers.items at) (Ages x new.seq) mid.queries.items
+      let r2 = subst (λ (x : Bytes). Reach (readers_at old.readers.items at) (QueryOutdated x new.seq) mid.queries.items
       new.queries.items) (sym named) r1 in
       let t = turned mid.catalog (relation_at (old.catalog).relations at).name new.seq (readers_at old.readers.items at)
       old.queries.items mid.queries.items new.queries.items carries.reach r2 in

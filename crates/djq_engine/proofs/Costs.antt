@@ -24,7 +24,7 @@ use Rattle.djq_live_query.proofs.HeadTuples.{atoms_long}
 use Rattle.djq_reach.specs.Places.{place_at, is_reader, readers_at}
 use Rattle.djq_reach.specs.Tending.{IsBounded, work_of, work_at}
 use Rattle.djq_engine.specs.declared.parts.Parts.{Parts}
-use Rattle.djq_engine.specs.Kept.{Registered, registered_at, readers_of}
+use Rattle.djq_engine.specs.StoreModel.{Registered, registered_at, readers_of}
 use Rattle.djq_engine.specs.Places.{is_live, query_in, id_at, query_registered_as}
 use Rattle.djq_engine.specs.Changing.{WorksRows}
 use Rattle.djq_engine.specs.Watching.{AreBounded, CountsUpdates, IsBoundedBy, bounded_steps}

@@ -50,7 +50,7 @@ use Rattle.djq_queries.specs.Going.{gone_group_work, gone_work_of, gone_work_at}
 use Rattle.djq_transaction.specs.Leading.{AreGroupsOf, ChangedIsEither, LinesSpareOthers, catalog_between}
 use Rattle.djq_transaction.specs.Settled.{RowsInserted}
 use Rattle.djq_engine.specs.declared.parts.Parts.{Parts}
-use Rattle.djq_engine.specs.Kept.{Registered, registered_at, readers_of}
+use Rattle.djq_engine.specs.StoreModel.{Registered, registered_at, readers_of}
 use Rattle.djq_engine.specs.Places.{is_live, query_in, id_at, query_registered_as}
 use Rattle.djq_engine.specs.Outdating.{AreReaders}
 use Rattle.djq_engine.specs.Carrying.{AreGroupsFor, CountsInserts, WorksHalves, come_of, gone_of}

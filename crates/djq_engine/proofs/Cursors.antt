@@ -33,9 +33,9 @@ use Rattle.djq_reach.proofs.PlacedQueries.{below_some, place_read, place_below}
 use Rattle.djq_engine.specs.declared.cursor.CursorId.{CursorId}
 use Rattle.djq_engine.specs.declared.cursor.QueryId.{QueryId}
 use Rattle.djq_engine.specs.declared.parts.Parts.{Parts}
-use Rattle.djq_engine.specs.Kept.{HeldCursor, Kept, held_at, MovesCursor, OpensCursor, CursorOpenGives, ClosesCursor}
-use Rattle.djq_engine.specs.Kept.{EngineNextGives, EngineNextGivesAt, read_steps, MoreGives, MoreGivesAt, IsHeld}
-use Rattle.djq_engine.specs.Kept.{IsThere, AnswerIs, IsFresh, IsOpenAt, QueryExplainGives, TreeExplains, HasTree}
+use Rattle.djq_engine.specs.StoreModel.{HeldCursor, StoreModel, held_at, MovesCursor, OpensCursor, CursorOpenGives, ClosesCursor}
+use Rattle.djq_engine.specs.StoreModel.{EngineNextGives, EngineNextGivesAt, read_steps, MoreGives, MoreGivesAt, IsHeld}
+use Rattle.djq_engine.specs.StoreModel.{IsThere, AnswerIs, IsFresh, IsOpenAt, QueryExplainGives, TreeExplains, HasTree}
 use Rattle.djq_engine.specs.Places.{queries_in, held_query_cursor, query_cursors_from, query_cursor_of, kept_of}
 use Rattle.djq_engine.specs.Places.{is_query, Watches, told_of, query_in, store_of}
 use Rattle.djq_engine.specs.Sound.{QueriesAreSound}
@@ -86,7 +86,7 @@ some_held : (o : Option HeldCursor) (P : HeldCursor → Type 0) → IsSomeAnd o 
 some_held None P h = absurd h
 some_held (Some x) P h = refl
 
-pub fresh_held : (k : Kept) (id : CursorId) → IsFresh k id → IsHeld k id
+pub fresh_held : (k : StoreModel) (id : CursorId) → IsFresh k id → IsHeld k id
 fresh_held k id h = some_held (held_at k.cursors id) (λ h. IsOpenAt h.position) h
 
 pub some_slot : (slots : List (Option Progress)) (k : ℕ) (p : Progress) → slot_at slots k ≡ Some p

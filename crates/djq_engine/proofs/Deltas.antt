@@ -46,9 +46,9 @@ use Rattle.djq_reach.specs.Reaching.{Carries}
 use Rattle.djq_reach.proofs.PlacedQueries.{place_below, apart}
 use Rattle.djq_engine.specs.declared.cursor.QueryId.{QueryId}
 use Rattle.djq_engine.specs.declared.parts.Parts.{Parts}
-use Rattle.djq_engine.specs.Kept.{Kept, registered_at, told_at}
+use Rattle.djq_engine.specs.StoreModel.{StoreModel, registered_at, told_at}
 use Rattle.djq_engine.specs.Places.{is_live, query_in, id_at, registered_in, told_of, told_from, places_without}
-use Rattle.djq_engine.specs.Changing.{IsDeltaWith, TellsRows, CountsRows, KeepsRest, KeepsLogs, AgesReaders}
+use Rattle.djq_engine.specs.Changing.{IsDeltaWith, TellsRows, CountsRows, KeepsRest, KeepsLogs, ReadersOutdated}
 use Rattle.djq_engine.specs.Changing.{LacksMemory, NoPlace, for_copies, for_texts, RowLacksPlace, PutsRow, DropsRow}
 use Rattle.djq_engine.specs.Changing.{reads_at, tells_at}
 use Rattle.djq_engine.specs.Watching.{EngineTellsChange, reaches}
@@ -204,7 +204,7 @@ pub affected_same : (old new : Parts) → new.affected.items ≡ old.affected.it
 affected_same old new same = ap (map id_at) same
 
 -- nothing is told
-pub tells_nothing : (old new : Kept) (before now : ℕ) → now ≤ before → new.affected ≡ old.affected
+pub tells_nothing : (old new : StoreModel) (before now : ℕ) → now ≤ before → new.affected ≡ old.affected
     → ((id : QueryId) → IsSomeAnd (registered_at old.registered id) (λ r. reaches unchanged r ≡ false)
     → told_at new id ≡ told_at old id)
     → EngineTellsChange old unchanged new before now
@@ -334,7 +334,7 @@ module _ (old : Parts) (s : EngineIsWhole old) (at : ℕ) (low : at < length (ol
 module _ (old mid new : Parts) (at : ℕ) (name : Bytes)
     (carries : Carries (readers_at old.readers.items at) old.catalog old.queries.items mid.catalog mid.queries.items)
     (watchers : mid.watchers.items ≡ old.watchers.items) (order : mid.order ≡ old.order)
-    (long : length mid.logs.items ≡ length old.logs.items) (a : AgesReaders at name mid new) where
+    (long : length mid.logs.items ≡ length old.logs.items) (a : ReadersOutdated at name mid new) where
   pub alike_now : AreAlike old.queries.items new.queries.items
   alike_now = aged_alike mid.catalog name mid.seq (readers_at old.readers.items at) (readers_at mid.readers.items at)
       old.queries.items mid.queries.items new.queries.items carries.reach a.reach

@@ -46,7 +46,7 @@ use Rattle.djq_transaction.proofs.LeadingLines.{changed_is_either, headings_stay
 use Rattle.djq_transaction.specs.Leading.{AreGroupsOf, ChangedIsEither, HeadingsStay, LeftRows, catalog_after}
 use Rattle.djq_transaction.specs.Leading.{relations_left}
 use Rattle.djq_engine.specs.declared.parts.Parts.{Parts}
-use Rattle.djq_engine.specs.Kept.{Outdates, is_tried}
+use Rattle.djq_engine.specs.StoreModel.{Outdates, is_tried}
 use Rattle.djq_engine.specs.Changing.{KeepsRest, KeepsLogs}
 use Rattle.djq_engine.specs.Outdating.{AreReaders, BatchGivesUp, reads_held}
 use Rattle.djq_engine.specs.Watching.{CountsLines, EngineTellsChange}

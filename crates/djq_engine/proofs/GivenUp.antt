@@ -28,10 +28,10 @@ use Rattle.djq_reach.specs.Tending.{LogsCanBeShown}
 use Rattle.djq_reach.proofs.Logs.{all_none}
 use Rattle.djq_reach.proofs.PlacedQueries.{reach_none}
 use Rattle.djq_engine.specs.declared.parts.Parts.{Parts}
-use Rattle.djq_engine.specs.Kept.{Outdates, SameShape, is_tried}
+use Rattle.djq_engine.specs.StoreModel.{Outdates, SameShape, is_tried}
 use Rattle.djq_engine.specs.Places.{is_live, query_in, queries_in}
 use Rattle.djq_engine.specs.Changing.{KeepsRest, KeepsLogs}
-use Rattle.djq_engine.specs.Outdating.{AreReaders, AgesAll, BatchGivesUp, reads_held}
+use Rattle.djq_engine.specs.Outdating.{AreReaders, QueriesOutdated, BatchGivesUp, reads_held}
 use Rattle.djq_engine.specs.Watching.{EngineTellsChange}
 use Rattle.djq_engine.specs.Whole.{kept_in, EngineIsWhole, IsTended}
 use Rattle.djq_engine.proofs.AffectedQueries.{outdated_places, place_is, AreFor, deltas_with, Discards, refused_tells}
@@ -161,7 +161,7 @@ module _ (old mid new : Parts) (s : EngineIsWhole old) (t : IsTended old) (lines
     within = λ i e. (let r = k.within i e in sym (reads_there i (reader_there i (place_at old.queries.items i) refl r))
         ∙ r);
     names = names_kept old.catalog mid.catalog k.relations;
-    ages = subst (λ (n : ℕ). AgesAll outdater n mid.queries.items new.queries.items) (sym g.rest.seq) g.queries;
+    ages = subst (λ (n : ℕ). QueriesOutdated outdater n mid.queries.items new.queries.items) (sym g.rest.seq) g.queries;
     catalog = g.catalog;
     readers = g.rest.readers ∙ k.rest.readers;
     order = g.rest.order ∙ k.rest.order;

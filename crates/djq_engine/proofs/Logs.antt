@@ -20,13 +20,13 @@ use Rattle.djq_live_query.specs.Shown.{shown, AreShownAs}
 use Rattle.djq_live_query.specs.Live.{Live, IsShowable, ShowableStays, values_of, IsKept}
 use Rattle.djq_live_query.specs.Updating.{change_of, IsEmpty}
 use Rattle.djq_reach.specs.Places.{place_at, is_reader, no_log, log_at, readers_at, watched_at}
-use Rattle.djq_reach.specs.Reaching.{DoneAt, Reach, Renews, Ages, AllAt}
-use Rattle.djq_reach.specs.Tending.{LogsCanBeShown, LogTellsOver, TellsWhere, LogTellsAt, LogShows, TendedAt, Tends}
+use Rattle.djq_reach.specs.Reaching.{DoneAt, Reach, Renews, QueryOutdated, AllAt}
+use Rattle.djq_reach.specs.Tending.{LogsCanBeShown, LogTellsOver, TellsWhere, LogTellsAt, LogShows, TendedAt, LogsHold}
 use Rattle.djq_reach.specs.Tending.{Empties, cost_at, Costs}
 use Rattle.djq_reach.proofs.PlacedQueries.{place_below, everywhere}
 use Rattle.djq_reach.proofs.Logs.{all_none}
 use Rattle.djq_engine.specs.declared.cursor.QueryId.{QueryId}
-use Rattle.djq_engine.specs.Kept.{SameShape, same_query, SameTellings}
+use Rattle.djq_engine.specs.StoreModel.{SameShape, same_query, SameTellings}
 use Rattle.djq_engine.specs.Places.{query_in, told_of, told_from, id_at, Watches, kept_of}
 use Rattle.djq_engine.specs.Placing.{SameLogs}
 use Rattle.djq_engine.specs.Sound.{QueriesAreSound}
@@ -110,12 +110,12 @@ reach_alike Does ps gs hs f r i = by_place (is_reader ps i) (place_at gs i) (pla
     by_place true (Some l) (Some m) d = f l m d
 
 pub aged_alike : (d : Catalog) (name : Bytes) (n : ℕ) (ps qs : List ℕ) (gs hs ks : List (Option Live))
-    → Reach ps (Renews d) gs hs → Reach qs (Ages name n) hs ks → AreAlike gs ks
+    → Reach ps (Renews d) gs hs → Reach qs (QueryOutdated name n) hs ks → AreAlike gs ks
 aged_alike d name n ps qs gs hs ks a b i =
     alike_then (place_at gs i) (place_at hs i) (place_at ks i)
     (reach_alike (Renews d) ps gs hs
     (λ l m r. record { query = r.same.query; numbered = r.same.numbered; tree = r.same.tree }) a i)
-    (reach_alike (Ages name n) qs hs ks (λ l m r. record {
+    (reach_alike (QueryOutdated name n) qs hs ks (λ l m r. record {
       query = ap (λ (x : Live). x.query) r.outdated;
       numbered = ap (λ (x : Live). x.numbered) r.outdated;
       tree = ap (λ (x : Live). (x.reducts).tree) r.outdated;
@@ -306,7 +306,7 @@ shown_places texts gs hs old new places same h i l there kept = shown_same texts
 pub shown_tended : (Changed : Catalog → Catalog → Tuple → Type 0) (c d : Catalog) (gs : List (Option Live))
     (ps : List ℕ) (old new : List Log) (row : Tuple) → AllAt ps gs (λ l. IsKept c l) → Changed c d row → d.texts
     ≡ c.texts
-    → Tends ps (LogShows Changed) gs old new → LogsCanBeShown c.texts gs old → LogsCanBeShown c.texts gs new
+    → LogsHold ps (LogShows Changed) gs old new → LogsCanBeShown c.texts gs old → LogsCanBeShown c.texts gs new
 shown_tended Changed c d gs ps old new row kept ch texts t h i l there unlost =
     by_reader (is_reader ps i) refl
     (subst (λ (o : Option Live). TendedAt (LogShows Changed i) (is_reader ps i) o (log_at old i) (log_at new i)) there
@@ -330,7 +330,7 @@ module _ (Changed : Catalog → Catalog → Tuple → Type 0) (c d : Catalog) (g
     (readers : List (List ℕ)) (s : QueriesAreSound c gs order readers) (at : ℕ) (low : at < length c.relations)
     (ws places : List ℕ) (are : places ≡ readers_at readers at) (row : Tuple) (changed : Changed c d row)
     (rows : List CountedRow) (rel : d.relations ≡ with_rows_at c.relations at rows) where
-  pub tells_rows : (old new : List Log) → Tends places (LogTellsAt ws Changed) gs old new → (i : ℕ) (l : Live)
+  pub tells_rows : (old new : List Log) → LogsHold places (LogTellsAt ws Changed) gs old new → (i : ℕ) (l : Live)
       → is_reader (readers_at readers at) i ≡ true → watched_at ws i ≡ true
       → place_at gs i ≡ Some l → (log_at new i).lost ≡ false
       → IsDeltaWith at rows c.relations l (map (change_of d.texts l) (log_at new i).lines)

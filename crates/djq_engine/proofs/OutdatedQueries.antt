@@ -23,10 +23,10 @@ use Rattle.djq_live_query.specs.Live.{Live}
 use Rattle.djq_live_query.specs.Updating.{IsEmpty}
 use Rattle.djq_reach.specs.declared.group.Group.{Group}
 use Rattle.djq_reach.specs.Places.{place_at, reads_place, is_reader, readers_at, log_at}
-use Rattle.djq_reach.specs.Reaching.{DoneAt, Reach, Ages}
+use Rattle.djq_reach.specs.Reaching.{DoneAt, Reach, QueryOutdated}
 use Rattle.djq_reach.specs.Grouping.{group_relations, reached}
 use Rattle.djq_reach.proofs.PlacedQueries.{reader_both, reached_end}
-use Rattle.djq_engine.specs.Outdating.{AreReaders, AgesBy, AgesAt, AgesAll, ClearsLogs, reads_held}
+use Rattle.djq_engine.specs.Outdating.{AreReaders, QueryOutdatedBy, QueryOutdatedAt, QueriesOutdated, ClearsLogs, reads_held}
 use Rattle.djq_engine.specs.Outdating.{first_of_names}
 
 -- ---- What becomes of queries that read one of several relations, one relation after another.
@@ -48,15 +48,15 @@ or_first None o = o
 or_first (Some x) o = Some x
 
 ages_then : (n : ℕ) (l : Live) (p q : Option Live) (a : Option Bytes) (by : Live → Option Bytes)
-    → ((m : Live) → m.query ≡ l.query → by m ≡ by l) → AgesBy a n l p
-    → ((m : Live) → p ≡ Some m → AgesBy (by m) n m q) → AgesBy (or_first a (by l)) n l q
+    → ((m : Live) → m.query ≡ l.query → by m ≡ by l) → QueryOutdatedBy a n l p
+    → ((m : Live) → p ≡ Some m → QueryOutdatedBy (by m) n m q) → QueryOutdatedBy (or_first a (by l)) n l q
 unfolding or_first
 ages_then n l p q None by same h k = k l h
 ages_then n l None q (Some x) by same h k = absurd h
 ages_then n l (Some m) q (Some x) by same h k = by_then (by m) q (k m refl)
   where
-    by_then : (b : Option Bytes) (q : Option Live) → AgesBy b n m q → AgesBy (Some x) n l q
-    by_then None q a = subst (λ (o : Option Live). AgesBy (Some x) n l o) (sym a) h
+    by_then : (b : Option Bytes) (q : Option Live) → QueryOutdatedBy b n m q → QueryOutdatedBy (Some x) n l q
+    by_then None q a = subst (λ (o : Option Live). QueryOutdatedBy (Some x) n l o) (sym a) h
     by_then (Some y) None a = a
     by_then (Some y) (Some k) a = record {
       outdated = a.outdated
@@ -72,27 +72,27 @@ same_by outdater l m e = ap (λ (q : Query). outdater (a_query q)) e
 
 -- one outdater after another
 pub ages_both : (f g h : Listed → Option Bytes) (n : ℕ) (gs hs ks : List (Option Live))
-    → ((q : Listed) → h q ≡ or_first (f q) (g q)) → AgesAll f n gs hs → AgesAll g n hs ks → AgesAll h n gs ks
+    → ((q : Listed) → h q ≡ or_first (f q) (g q)) → QueriesOutdated f n gs hs → QueriesOutdated g n hs ks → QueriesOutdated h n gs ks
 ages_both f g h n gs hs ks both a b = record {
   long = b.long ∙ a.long;
   each = λ i. by_place (place_at gs i) (place_at hs i) (place_at ks i) (a.each i) (b.each i);
 }
   where
-    by_place : (o p q : Option Live) → AgesAt f n o p → AgesAt g n p q → AgesAt h n o q
-    by_place None p q s t = (let u : AgesAt g n None q = subst (λ (x : Option Live). AgesAt g n x q) s t in u)
+    by_place : (o p q : Option Live) → QueryOutdatedAt f n o p → QueryOutdatedAt g n p q → QueryOutdatedAt h n o q
+    by_place None p q s t = (let u : QueryOutdatedAt g n None q = subst (λ (x : Option Live). QueryOutdatedAt g n x q) s t in u)
     by_place (Some l) p q s t =
-        subst (λ (x : Option Bytes). AgesBy x n l q) (sym (both (a_query l.query)))
+        subst (λ (x : Option Bytes). QueryOutdatedBy x n l q) (sym (both (a_query l.query)))
         (ages_then n l p q (f (a_query l.query)) (λ m. g (a_query m.query)) (λ m e. same_by g l m e) s
-        (λ m e. (let u : AgesAt g n (Some m) q = subst (λ (x : Option Live). AgesAt g n x q) e t in u)))
+        (λ m e. (let u : QueryOutdatedAt g n (Some m) q = subst (λ (x : Option Live). QueryOutdatedAt g n x q) e t in u)))
 
 -- nothing becomes stale by no relation
 pub ages_none : (f : Listed → Option Bytes) (n : ℕ) (gs : List (Option Live)) → ((q : Listed) → f q ≡ None)
-    → AgesAll f n gs gs
+    → QueriesOutdated f n gs gs
 ages_none f n gs none = record { long = refl; each = λ i. by_place (place_at gs i) }
   where
-    by_place : (o : Option Live) → AgesAt f n o o
+    by_place : (o : Option Live) → QueryOutdatedAt f n o o
     by_place None = refl
-    by_place (Some l) = subst (λ (x : Option Bytes). AgesBy x n l (Some l)) (sym (none (a_query l.query))) refl
+    by_place (Some l) = subst (λ (x : Option Bytes). QueryOutdatedBy x n l (Some l)) (sym (none (a_query l.query))) refl
 
 -- the first relation of one line more
 pub first_more : (xs : List HeldLine) (h : HeldLine) (test : Bytes → Bool) (q : Listed)
@@ -113,9 +113,9 @@ first_more (x ∷ xs) h test q = step (test x.relation && listed_reads q x.relat
 -- one line more, whose relation counts
 pub outdates_next : (held : List HeldLine) (k : ℕ) (d : HeldLine) (test : Bytes → Bool) (n : ℕ)
     (gs hs ks : List (Option Live)) → k < length held
-    → test (get_or held k d).relation ≡ true → AgesAll (first_read (take k held) test) n gs hs
-    → AgesAll (by_relation (get_or held k d).relation) n hs ks
-    → AgesAll (first_read (take (k + 1) held) test) n gs ks
+    → test (get_or held k d).relation ≡ true → QueriesOutdated (first_read (take k held) test) n gs hs
+    → QueriesOutdated (by_relation (get_or held k d).relation) n hs ks
+    → QueriesOutdated (first_read (take (k + 1) held) test) n gs ks
 outdates_next held k d test n gs hs ks low counts a b =
     ages_both (first_read (take k held) test) (by_relation (get_or held k d).relation)
     (first_read (take (k + 1) held) test) n gs hs ks
@@ -139,9 +139,9 @@ names_more (y ∷ xs) x q = step (listed_reads q y) (names_more xs x q)
 
 -- one relation more
 pub outdates_name : (names : List Bytes) (k : ℕ) (d : Bytes) (n : ℕ) (gs hs ks : List (Option Live))
-    → k < length names → AgesAll (first_of_names (take k names)) n gs hs
-    → AgesAll (by_relation (get_or names k d)) n hs ks
-    → AgesAll (first_of_names (take (k + 1) names)) n gs ks
+    → k < length names → QueriesOutdated (first_of_names (take k names)) n gs hs
+    → QueriesOutdated (by_relation (get_or names k d)) n hs ks
+    → QueriesOutdated (first_of_names (take (k + 1) names)) n gs ks
 outdates_name names k d n gs hs ks low a b =
     ages_both (first_of_names (take k names)) (by_relation (get_or names k d))
     (first_of_names (take (k + 1) names)) n gs hs ks
@@ -149,28 +149,28 @@ outdates_name names k d n gs hs ks low a b =
     ∙ names_more (take k names) (get_or names k d) q) a b
 
 pub ages_as : (f g : Listed → Option Bytes) (n : ℕ) (gs hs : List (Option Live)) → ((q : Listed) → g q ≡ f q)
-    → AgesAll f n gs hs → AgesAll g n gs hs
+    → QueriesOutdated f n gs hs → QueriesOutdated g n gs hs
 ages_as f g n gs hs same a = record { long = a.long; each = λ i. by_place (place_at gs i) (place_at hs i) (a.each i) }
   where
-    by_place : (o p : Option Live) → AgesAt f n o p → AgesAt g n o p
+    by_place : (o p : Option Live) → QueryOutdatedAt f n o p → QueryOutdatedAt g n o p
     by_place None p h = h
-    by_place (Some l) p h = subst (λ (x : Option Bytes). AgesBy x n l p) (sym (same (a_query l.query))) h
+    by_place (Some l) p h = subst (λ (x : Option Bytes). QueryOutdatedBy x n l p) (sym (same (a_query l.query))) h
 
 -- ---- who reads a relation
 
-same_reads : (f : Listed → Option Bytes) (n : ℕ) (r : Bytes) (o p : Option Live) → AgesAt f n o p → reads_place r p
+same_reads : (f : Listed → Option Bytes) (n : ℕ) (r : Bytes) (o p : Option Live) → QueryOutdatedAt f n o p → reads_place r p
     ≡ reads_place r o
 same_reads f n r None p a = ap (reads_place r) a
 same_reads f n r (Some l) p a = by_outdater (f (a_query l.query)) p a
   where
-    by_outdater : (b : Option Bytes) (p : Option Live) → AgesBy b n l p → reads_place r p ≡ reads_place r (Some l)
+    by_outdater : (b : Option Bytes) (p : Option Live) → QueryOutdatedBy b n l p → reads_place r p ≡ reads_place r (Some l)
     by_outdater None p a = ap (reads_place r) a
     by_outdater (Some x) None a = absurd a
     by_outdater (Some x) (Some m) a = ap (λ (z : Live). reads z.query r) a.outdated
 
 -- the readers stay the readers
 pub readers_aged : (relations : List Relation) (readers : List (List ℕ)) (f : Listed → Option Bytes) (n : ℕ)
-    (gs hs : List (Option Live)) → AreReaders relations readers gs → AgesAll f n gs hs
+    (gs hs : List (Option Live)) → AreReaders relations readers gs → QueriesOutdated f n gs hs
     → AreReaders relations readers hs
 readers_aged relations readers f n gs hs r a = record {
   long = r.long;
@@ -182,22 +182,22 @@ readers_aged relations readers f n gs hs r a = record {
 -- what was done to the readers of one relation
 pub ages_readers : (relations : List Relation) (readers : List (List ℕ)) (at : ℕ) (name : Bytes) (n : ℕ)
     (gs hs : List (Option Live)) → AreReaders relations readers gs → at < length relations
-    → (relation_at relations at).name ≡ name → Reach (readers_at readers at) (Ages name n) gs hs
-    → AgesAll (by_relation name) n gs hs
+    → (relation_at relations at).name ≡ name → Reach (readers_at readers at) (QueryOutdated name n) gs hs
+    → QueriesOutdated (by_relation name) n gs hs
 ages_readers relations readers at name n gs hs r low named reach = record {
   long = reach.length;
   each = λ i. by_place (place_at gs i) (place_at hs i)
-      (subst (λ (b : Bool). DoneAt (Ages name n) b (place_at gs i) (place_at hs i))
+      (subst (λ (b : Bool). DoneAt (QueryOutdated name n) b (place_at gs i) (place_at hs i))
       (r.reading at i low ∙ ap (λ (x : Bytes). reads_place x (place_at gs i)) named) (reach.each i));
 }
   where
-    by_reads : (b : Bool) (l : Live) (p : Option Live) → DoneAt (Ages name n) b (Some l) p
-        → AgesBy (cond b (Some name) None) n l p
+    by_reads : (b : Bool) (l : Live) (p : Option Live) → DoneAt (QueryOutdated name n) b (Some l) p
+        → QueryOutdatedBy (cond b (Some name) None) n l p
     by_reads false l p d = d
     by_reads true l None d = d
     by_reads true l (Some m) d = d
 
-    by_place : (o p : Option Live) → DoneAt (Ages name n) (reads_place name o) o p → AgesAt (by_relation name) n o p
+    by_place : (o p : Option Live) → DoneAt (QueryOutdated name n) (reads_place name o) o p → QueryOutdatedAt (by_relation name) n o p
     by_place None p d = d
     by_place (Some l) p d = by_reads (reads l.query name) l p d
 

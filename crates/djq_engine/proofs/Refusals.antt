@@ -39,8 +39,8 @@ use Rattle.djq_reach.specs.Places.{place_at, watched_at}
 use Rattle.djq_reach.specs.Tending.{LogsCanBeShown}
 use Rattle.djq_engine.specs.declared.cursor.CursorId.{CursorId}
 use Rattle.djq_engine.specs.declared.parts.Parts.{Parts}
-use Rattle.djq_engine.specs.Kept.{HeldCursor, Registered as Enlisted, registered_of, same_query, is_watched, held_at}
-use Rattle.djq_engine.specs.Kept.{SameCursors, DropGives, TellsOfQuery}
+use Rattle.djq_engine.specs.StoreModel.{HeldCursor, Registered as Enlisted, registered_of, same_query, is_watched, held_at}
+use Rattle.djq_engine.specs.StoreModel.{SameCursors, DropGives, TellsOfQuery}
 use Rattle.djq_engine.specs.Places.{query_in, queries_in, store_of, kept_of, held_query_cursor, query_cursors_from}
 use Rattle.djq_engine.specs.Places.{query_cursor_of, is_query, places_without, id_at, query_registered_as}
 use Rattle.djq_engine.specs.Places.{registered_in, told_from, Watches}

@@ -37,8 +37,8 @@ use Rattle.djq_reach.specs.Places.{log_at}
 use Rattle.djq_reach.proofs.PlacedQueries.{apart, place_below}
 use Rattle.djq_engine.specs.declared.cursor.QueryId.{QueryId}
 use Rattle.djq_engine.specs.declared.parts.Parts.{Parts}
-use Rattle.djq_engine.specs.Kept.{Registered, same_query, registered_at, registered_of, with_watchers, is_watched}
-use Rattle.djq_engine.specs.Kept.{readers_of, affected_of, Kept, IsRegistered, told_at}
+use Rattle.djq_engine.specs.StoreModel.{Registered, same_query, registered_at, registered_of, with_watchers, is_watched}
+use Rattle.djq_engine.specs.StoreModel.{readers_of, affected_of, StoreModel, IsRegistered, told_at}
 use Rattle.djq_engine.specs.Places.{is_live, query_in, queries_in, is_query, id_at, query_registered_as, registered_in}
 use Rattle.djq_engine.specs.Places.{told_of, kept_of}
 use Rattle.djq_engine.specs.Sound.{QueriesAreSound}
@@ -534,7 +534,7 @@ module _ (p : Parts) (s : EngineIsWhole p) (id : QueryId) where
     pub watched_more : kept_of p.catalog p.queries.items p.order p.seq
         (record (watches_in p) { watchers = set p.watchers.items id.at n })
         ≡ record (kept_in p) { registered = with_watchers id f (kept_in p).registered }
-    watched_more = ap (λ (rs : List Registered). (let k : Kept = record (kept_in p) { registered = rs } in k))
+    watched_more = ap (λ (rs : List Registered). (let k : StoreModel = record (kept_in p) { registered = rs } in k))
         (watchers_with p.queries.items p.watchers.items (set p.watchers.items id.at n) id f
         (get_or-set_same p.watchers.items id.at n 0 low ∙ is)
         (λ j d. get_or-set_other p.watchers.items id.at j n 0 d) p.order s.once (s.listed id.at ∙ ap is_some t.is))

@@ -17,9 +17,9 @@ use Rattle.djq_answer_laws.proofs.Lists.{or_false, not_false}
 use Rattle.djq_live_query.specs.Cursors.{Progress, slot_at, are_vacant, outdated_slots}
 use Rattle.djq_live_query.specs.Live.{Live, IsLive}
 use Rattle.djq_reach.specs.Places.{place_at, is_reader, readers_at, reads_place, AreOnce}
-use Rattle.djq_reach.specs.Reaching.{DoneAt, Reach, Ages}
+use Rattle.djq_reach.specs.Reaching.{DoneAt, Reach, QueryOutdated}
 use Rattle.djq_reach.proofs.PlacedQueries.{apart, reader_more, or_true, everywhere, place_below}
-use Rattle.djq_engine.specs.Kept.{SameCursors}
+use Rattle.djq_engine.specs.StoreModel.{SameCursors}
 use Rattle.djq_engine.specs.Places.{is_live, query_in, queries_in, held_query_cursor, query_cursor_of}
 use Rattle.djq_engine.specs.Places.{query_cursors_from, places_without}
 use Rattle.djq_engine.specs.Sound.{QueriesAreSound}
@@ -328,7 +328,7 @@ none_outdated name n (Some p ∷ slots) e = absurd
     (omega (arith, e, sum_by-cons (λ (o : Option Progress). cond (is_some o) 1 0) (Some p) slots))
 
 -- a query without a cursor is as it was
-ages_idle : (name : Bytes) (n : ℕ) (l : Live) → are_vacant l.cursors ≡ true → Ages name n l l
+ages_idle : (name : Bytes) (n : ℕ) (l : Live) → are_vacant l.cursors ≡ true → QueryOutdated name n l l
 ages_idle name n l e =
     let none : count_by is_some l.cursors ≡ 0 = eqb-true (count_by is_some l.cursors) 0 e in
     record {
@@ -352,13 +352,13 @@ none_at p (j ∷ places) i none h = by (p j) refl (j == i) refl none h (λ n g. 
 
 -- Where no cursor is over a query in these places, all queries are as they were.
 pub all_idle : (name : Bytes) (n : ℕ) (places : List ℕ) (gs : List (Option Live))
-    → list_any (λ i. has_cursor (place_at gs i)) places ≡ false → Reach places (Ages name n) gs gs
+    → list_any (λ i. has_cursor (place_at gs i)) places ≡ false → Reach places (QueryOutdated name n) gs gs
 all_idle name n places gs none = record {
   length = refl;
   each = λ i. by (is_reader places i) (place_at gs i) (none_at (λ k. has_cursor (place_at gs k)) places i none);
 }
   where
-    by : (b : Bool) (o : Option Live) → (b ≡ true → has_cursor o ≡ false) → DoneAt (Ages name n) b o o
+    by : (b : Bool) (o : Option Live) → (b ≡ true → has_cursor o ≡ false) → DoneAt (QueryOutdated name n) b o o
     by false o h = refl
     by true None h = tt
     by true (Some l) h = ages_idle name n l (not_false (are_vacant l.cursors) (h refl))

@@ -18,10 +18,10 @@ use Rattle.djq_live_query.specs.Cursors.{Progress, slot_at, SetsSlot, outdated_p
 use Rattle.djq_live_query.specs.Live.{Live, IsLive, position_of}
 use Rattle.djq_live_query.specs.Staying.{StaysOver}
 use Rattle.djq_reach.specs.Places.{place_at, reads_place, watchers_at, is_reader, readers_at}
-use Rattle.djq_reach.specs.Reaching.{DoneAt, Reach, AllAt, Ages, Renews}
+use Rattle.djq_reach.specs.Reaching.{DoneAt, Reach, AllAt, QueryOutdated, Renews}
 use Rattle.djq_reach.proofs.PlacedQueries.{apart, everywhere, place_below}
 use Rattle.djq_engine.specs.declared.cursor.CursorId.{CursorId}
-use Rattle.djq_engine.specs.Kept.{same_id, held_at, Registered, OtherCursorsStay, HeldCursor, outdated_held}
+use Rattle.djq_engine.specs.StoreModel.{same_id, held_at, Registered, OtherCursorsStay, HeldCursor, outdated_held}
 use Rattle.djq_engine.specs.Places.{held_query_cursor, query_cursors_in, query_cursors_from, query_cursor_of, is_live}
 use Rattle.djq_engine.specs.Places.{query_in, queries_in, store_of, id_at, query_registered_as, registered_in}
 use Rattle.djq_engine.specs.Sound.{QueriesAreSound}
@@ -246,13 +246,13 @@ pub record Turns (d : Catalog) (name : Bytes) (n : ℕ) (l m : Live) : Type 0 wh
   pub live : IsLive d m
 
 pub turned : (d : Catalog) (name : Bytes) (n : ℕ) (ps : List ℕ) (gs hs ks : List (Option Live))
-    → Reach ps (Renews d) gs hs → Reach ps (Ages name n) hs ks → Reach ps (Turns d name n) gs ks
+    → Reach ps (Renews d) gs hs → Reach ps (QueryOutdated name n) hs ks → Reach ps (Turns d name n) gs ks
 turned d name n ps gs hs ks a b = record {
   length = b.length ∙ a.length;
   each = λ i. both (is_reader ps i) (place_at gs i) (place_at hs i) (place_at ks i) (a.each i) (b.each i);
 }
   where
-    both : (e : Bool) (o p q : Option Live) → DoneAt (Renews d) e o p → DoneAt (Ages name n) e p q
+    both : (e : Bool) (o p q : Option Live) → DoneAt (Renews d) e o p → DoneAt (QueryOutdated name n) e p q
         → DoneAt (Turns d name n) e o q
     both false o p q t u = u ∙ t
     both true None None None t u = tt

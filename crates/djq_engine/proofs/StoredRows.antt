@@ -31,7 +31,7 @@ use Rattle.djq_live_query.specs.Live.{Live, IsKept}
 use Rattle.djq_live_query.specs.Staying.{StaysOver, LiveStays, CamePasses, WentPasses}
 use Rattle.djq_live_query.proofs.TestDeltas.{same_catalog as catalog_same}
 use Rattle.djq_reach.specs.Places.{place_at, readers_at, AreOnce}
-use Rattle.djq_reach.specs.Reaching.{Reach, AllAt, CanCome, CanGo, TakesIn, LetsOut, GivesBack, Carries}
+use Rattle.djq_reach.specs.Reaching.{Reach, AllAt, CanCome, CanGo, QueryInserts, QueryDeletes, GivesBack, Carries}
 use Rattle.djq_engine.specs.declared.change.AddRefusal.{AddRefusal}
 use Rattle.djq_engine.specs.declared.change.AddRefusal.TheVariants.{Full as RowFull, NoMem as NoMemForRow}
 use Rattle.djq_engine.specs.declared.parts.Parts.{Parts}
@@ -198,11 +198,11 @@ module _ (c d : Catalog) (at : ℕ) (low : at < length c.relations) (cells : Lis
           (readers_kept c gs order readers s at low);
     }
 
-    pub put_carries : AddedCame → CamePasses → (hs : List (Option Live)) → Reach places (TakesIn at cells) gs hs
+    pub put_carries : AddedCame → CamePasses → (hs : List (Option Live)) → Reach places (QueryInserts at cells) gs hs
         → Carries (readers_at readers at) c gs d hs
     put_carries law passes hs r =
         came_carries c d gs hs order readers s at low cells row passes (came law)
-        (subst (λ (ps : List ℕ). Reach ps (TakesIn at cells) gs hs) read r)
+        (subst (λ (ps : List ℕ). Reach ps (QueryInserts at cells) gs hs) read r)
 
     pub wait_carries : AddedCame → DeletedWent → (hs : List (Option Live)) → Reach places (GivesBack at cells) gs hs
         → (e : Catalog) → e ≡ c → Carries (readers_at readers at) c gs e hs
@@ -242,11 +242,11 @@ module _ (c d : Catalog) (at : ℕ) (low : at < length c.relations) (cells : Lis
     kept = subst (λ (ps : List ℕ). AllAt ps gs (λ l. IsKept c l)) (sym read) (readers_kept c gs order readers s at low);
   }
 
-  pub drop_carries : WentPasses → (hs : List (Option Live)) → Reach places (LetsOut at cells) gs hs
+  pub drop_carries : WentPasses → (hs : List (Option Live)) → Reach places (QueryDeletes at cells) gs hs
       → Carries (readers_at readers at) c gs d hs
   drop_carries passes hs r =
       went_carries c d gs hs order readers s at low cells row passes went
-      (subst (λ (ps : List ℕ). Reach ps (LetsOut at cells) gs hs) read r)
+      (subst (λ (ps : List ℕ). Reach ps (QueryDeletes at cells) gs hs) read r)
 
 -- ---- a row whose texts became known before
 

@@ -17,7 +17,7 @@ use Rattle.djq_live_query.specs.Updating.{HasFewRows, IsDeltaOf, change_of}
 use Rattle.djq_reach.specs.declared.group.Group.{Group}
 use Rattle.djq_reach.specs.Places.{place_at, is_reader, log_at, watched_at}
 use Rattle.djq_reach.specs.Reaching.{AllAt, Reach, Renews}
-use Rattle.djq_reach.specs.Tending.{Tends}
+use Rattle.djq_reach.specs.Tending.{LogsHold}
 use Rattle.djq_reach.specs.Grouping.{batch_cost_at, group_relations, group_work, reached, rows_of_groups}
 use Rattle.djq_queries.specs.Changing.{EmptiesWatched, GroupsChange, TellsChangeAt, touched}
 use Rattle.djq_queries.specs.Going.{gone_group_work}
@@ -28,7 +28,7 @@ use Rattle.djq_transaction.specs.Leading.{catalog_between}
 use Rattle.djq_transaction.specs.Grouped.{AreItsGroups, inserted_groups, deleted_groups}
 use Rattle.djq_engine.specs.declared.parts.Parts.{Parts}
 use Rattle.djq_engine.specs.Changing.{KeepsLogs, KeepsRest}
-use Rattle.djq_engine.specs.Outdating.{AgesAll, first_of_names}
+use Rattle.djq_engine.specs.Outdating.{QueriesOutdated, first_of_names}
 
 -- ---- what is planned
 
@@ -68,7 +68,7 @@ pub record ChangesQueries (come gone : List Group) (old new : Parts) : Type 0 wh
       → Reach (places_changed old come gone) (Renews d) old.queries.items new.queries.items
   pub tells : (c e d : Catalog) → GroupsChange old.readers.items come gone old.queries.items c e d
       → AllAt (places_changed old come gone) old.queries.items (λ l. IsKept c l)
-      → Tends (places_changed old come gone) (TellsChangeAt old.watchers.items c e d) old.queries.items
+      → LogsHold (places_changed old come gone) (TellsChangeAt old.watchers.items c e d) old.queries.items
       old.logs.items new.logs.items
 
 -- Out of memory: they stay as they were, and the logs of the watched ones are empty.
@@ -143,7 +143,7 @@ WorksHalves lines come gone p before now = (n m : ℕ)
 -- The number of changes is one more, the queries that read a relation of the groups are the affected ones, and open
 -- cursors are stale by the first of these relations that their query reads.
 pub record SettlesChange (names : List Bytes) (come gone : List Group) (old new : Parts) : Type 0 where
-  pub ages : AgesAll (first_of_names names) new.seq old.queries.items new.queries.items
+  pub ages : QueriesOutdated (first_of_names names) new.seq old.queries.items new.queries.items
   pub catalog : new.catalog ≡ old.catalog
   pub logs : new.logs.items ≡ old.logs.items
   pub readers : new.readers.items ≡ old.readers.items

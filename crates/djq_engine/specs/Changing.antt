@@ -24,7 +24,7 @@ use Rattle.djq_live_query.specs.Updating.{change_of}
 use Rattle.djq_live_query.specs.Staying.{StaysOver}
 use Rattle.djq_engine.specs.declared.parts.Parts.{Parts}
 use Rattle.djq_reach.specs.Places.{place_at, is_reader, readers_at, watched_at, log_at}
-use Rattle.djq_reach.specs.Reaching.{Reach, Ages, Carries}
+use Rattle.djq_reach.specs.Reaching.{Reach, QueryOutdated, Carries}
 use Rattle.djq_reach.specs.Tending.{Works, cost_at}
 
 -- The cells represent a row.
@@ -199,8 +199,8 @@ IfNoneWent (Left n) Holds = Holds
 IfNoneWent Absent Holds = Holds
 
 -- The open cursors over a relation became stale, by a change of the present number.
-pub record AgesReaders (at : ℕ) (name : Bytes) (old new : Parts) : Type 0 where
-  pub reach : Reach (readers_at old.readers.items at) (Ages name old.seq) old.queries.items
+pub record ReadersOutdated (at : ℕ) (name : Bytes) (old new : Parts) : Type 0 where
+  pub reach : Reach (readers_at old.readers.items at) (QueryOutdated name old.seq) old.queries.items
       new.queries.items
   pub catalog : new.catalog ≡ old.catalog
   pub logs : new.logs.items ≡ old.logs.items

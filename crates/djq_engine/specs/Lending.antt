@@ -10,12 +10,12 @@ use Rattle.djq_live_query.specs.Cursors.{slot_at}
 use Rattle.djq_live_query.specs.Live.{Live, IsLive, position_of}
 use Rattle.djq_live_query.specs.Shown.{IsShownIn}
 use Rattle.djq_engine.specs.declared.cursor.QueryId.{QueryId}
-use Rattle.djq_engine.specs.Kept.{Kept, registered_at, held_at}
+use Rattle.djq_engine.specs.StoreModel.{StoreModel, registered_at, held_at}
 
 -- The query of an id, as it is lent. It is live over a catalog with the relations and the texts of
 -- the store, so its tables are those of its tree over the rows as they are: a tuple is an answer if
 -- and only if they have its projections. Its cursors are as far as those of the engine.
-pub record LendsQuery (k : Kept) (id : QueryId) (l : Live) : Type 0 where
+pub record LendsQuery (k : StoreModel) (id : QueryId) (l : Live) : Type 0 where
   pub query : IsSomeAnd (registered_at k.registered id) (λ r. r.query ≡ a_query l.query)
   pub place : slice_index_or k.places id.at None ≡ Some l
   pub catalog : Catalog

@@ -1,5 +1,5 @@
 pub mod Finding
-pub mod Kept
+pub mod StoreModel
 pub mod Places
 pub mod Sound
 pub mod Placing

@@ -12,7 +12,7 @@ use Rattle.djq_database.specs.Catalog.{relation_at}
 use Rattle.djq_live_query.specs.Live.{Live}
 use Rattle.djq_live_query.specs.Updating.{IsEmpty}
 use Rattle.djq_reach.specs.Places.{place_at, reads_place, is_reader, readers_at, log_at, AreOnce}
-use Rattle.djq_reach.specs.Reaching.{Ages}
+use Rattle.djq_reach.specs.Reaching.{QueryOutdated}
 use Rattle.djq_engine.specs.declared.parts.Parts.{Parts}
 use Rattle.djq_engine.specs.Changing.{KeepsRest}
 
@@ -25,21 +25,21 @@ pub record AreReaders (relations : List Relation) (readers : List (List ℕ)) (g
       ≡ reads_place (relation_at relations r).name (place_at gs i)
 
 -- The open cursors of a query become stale by this relation, if there is one.
-abbrev pub AgesBy : Option Bytes → ℕ → Live → Option Live → Type 0
-AgesBy None n l new = new ≡ Some l
-AgesBy (Some relation) n l (Some m) = Ages relation n l m
-AgesBy (Some relation) n l None = ⊥
+abbrev pub QueryOutdatedBy : Option Bytes → ℕ → Live → Option Live → Type 0
+QueryOutdatedBy None n l new = new ≡ Some l
+QueryOutdatedBy (Some relation) n l (Some m) = QueryOutdated relation n l m
+QueryOutdatedBy (Some relation) n l None = ⊥
 
 -- So it is in a place.
-abbrev pub AgesAt : (Listed → Option Bytes) → ℕ → Option Live → Option Live → Type 0
-AgesAt outdater n None new = new ≡ None
-AgesAt outdater n (Some l) new = AgesBy (outdater (a_query l.query)) n l new
+abbrev pub QueryOutdatedAt : (Listed → Option Bytes) → ℕ → Option Live → Option Live → Type 0
+QueryOutdatedAt outdater n None new = new ≡ None
+QueryOutdatedAt outdater n (Some l) new = QueryOutdatedBy (outdater (a_query l.query)) n l new
 
 -- So it is in all places.
-pub record AgesAll (outdater : Listed → Option Bytes) (n : ℕ) (gs hs : List (Option Live)) : Type 0
+pub record QueriesOutdated (outdater : Listed → Option Bytes) (n : ℕ) (gs hs : List (Option Live)) : Type 0
   where
     pub long : length hs ≡ length gs
-    pub each : (i : ℕ) → AgesAt outdater n (place_at gs i) (place_at hs i)
+    pub each : (i : ℕ) → QueryOutdatedAt outdater n (place_at gs i) (place_at hs i)
 
 -- the first of these relations that a query reads
 abbrev pub first_of_names : List Bytes → Listed → Option Bytes
@@ -59,6 +59,6 @@ pub record ClearsLogs (passes : ℕ → Bool) (old new : List Log) : Type 0 wher
 -- their open cursors become stale by the first of these relations that a query reads.
 pub record BatchGivesUp (held : List HeldLine) (old new : Parts) : Type 0 where
   pub logs : ClearsLogs (λ i. reads_held held (place_at old.queries.items i)) old.logs.items new.logs.items
-  pub queries : AgesAll (first_read held (λ name. true)) old.seq old.queries.items new.queries.items
+  pub queries : QueriesOutdated (first_read held (λ name. true)) old.seq old.queries.items new.queries.items
   pub catalog : new.catalog ≡ old.catalog
   pub rest : KeepsRest old new

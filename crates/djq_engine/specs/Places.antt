@@ -15,7 +15,7 @@ use Rattle.djq_enumeration.specs.Log.{Log}
 use Rattle.djq_reach.specs.Places.{place_at, watchers_at}
 use Rattle.djq_engine.specs.declared.cursor.CursorId.{CursorId}
 use Rattle.djq_engine.specs.declared.cursor.QueryId.{QueryId}
-use Rattle.djq_engine.specs.Kept.{HeldCursor, Registered, Kept}
+use Rattle.djq_engine.specs.StoreModel.{HeldCursor, Registered, StoreModel}
 
 -- whether one is
 abbrev pub is_live : List (Option Live) → ℕ → Bool
@@ -112,7 +112,7 @@ pub record Watches : Type 0 where
   pub affected : List ℕ
 
 -- what contracts see
-abbrev pub kept_of : Catalog → List (Option Live) → List ℕ → ℕ → Watches → Kept
+abbrev pub kept_of : Catalog → List (Option Live) → List ℕ → ℕ → Watches → StoreModel
 kept_of c gs order seq w = record {
   store = store_of c gs order seq;
   cursors = query_cursors_from c.texts zero gs;

@@ -27,15 +27,15 @@ use Rattle.djq_store_spec.specs.Transaction.{has_inserted, has_deleted, lines_ch
 use Rattle.djq_store_spec.specs.Asking.{IsShapeOf}
 use Rattle.djq_store_spec.specs.DeltaCost.{Delta, ListsDeltas, deltas_steps}
 use Rattle.djq_engine.specs.declared.cursor.QueryId.{QueryId}
-use Rattle.djq_engine.specs.Kept.{Kept, Registered, registered_at, registered_of, TellsOfQuery}
-use Rattle.djq_engine.specs.Kept.{is_watched, readers_of, affected_of, told_at}
+use Rattle.djq_engine.specs.StoreModel.{StoreModel, Registered, registered_at, registered_of, TellsOfQuery}
+use Rattle.djq_engine.specs.StoreModel.{is_watched, readers_of, affected_of, told_at}
 
 -- The log of a query has a delta, or was lost.
-abbrev pub LogTells : Kept → Registered → Delta → Type 0
+abbrev pub LogTells : StoreModel → Registered → Delta → Type 0
 LogTells k r d = (told_at k r.id ≡ None) ⊎ (told_at k r.id ≡ Some d.changes)
 
 -- The logs of queries have deltas, one by one.
-abbrev pub LogsTell : Kept → List Registered → List Delta → Type 0
+abbrev pub LogsTell : StoreModel → List Registered → List Delta → Type 0
 LogsTell k [] [] = ⊤
 LogsTell k (r ∷ rs) (d ∷ ds) = LogTells k r d × LogsTell k rs ds
 LogsTell k [] (d ∷ ds) = ⊥
@@ -61,17 +61,17 @@ reaches (out_of_memory change) r = is_outdated change r.query
 reaches unchanged r = false
 
 -- the watched queries that a change outdates
-abbrev pub queries_affected : Kept → RowsChange → List Listed
+abbrev pub queries_affected : StoreModel → RowsChange → List Listed
 queries_affected k change = map (λ r. r.query) (affected_of k.registered change)
 
 -- A change that was accepted affects the queries that it outdates. Else the affected are as before.
-abbrev pub Affects : RowsOutcome → Kept → Kept → Type 0
+abbrev pub Affects : RowsOutcome → StoreModel → StoreModel → Type 0
 Affects (accepted change) old new = new.affected ≡ map (λ r. r.id) (readers_of old.registered change)
 Affects (out_of_memory change) old new = new.affected ≡ old.affected
 Affects unchanged old new = new.affected ≡ old.affected
 
 -- What a change of rows, made or tried, makes known of the watched queries that it outdates.
-pub record EngineTellsChange (old : Kept) (outcome : RowsOutcome) (new : Kept) (before now : ℕ) : Type 0
+pub record EngineTellsChange (old : StoreModel) (outcome : RowsOutcome) (new : StoreModel) (before now : ℕ) : Type 0
   where
     pub deltas : List Delta
     pub listed : ListsDeltas (old.store).relations (queries_affected old) (tried outcome) deltas
@@ -95,7 +95,7 @@ Enrols old q (Ok (HasRegistered most)) new =
 Enrols old q _ new = new ≡ old
 
 -- A query that was registered has no change yet. Else the deltas are as before; and so are the affected queries.
-abbrev pub EnrolsTelling : Kept → Query → Result QueryOutcome Refusal → Kept → Type 0
+abbrev pub EnrolsTelling : StoreModel → Query → Result QueryOutcome Refusal → StoreModel → Type 0
 EnrolsTelling old q (Ok (HasRegistered most)) new = (new.affected ≡ old.affected)
     × IsSomeAnd (registered_of new.registered q.name) (λ r. TellsOfQuery old r.id (Some []) new)
 EnrolsTelling old q _ new =
@@ -132,14 +132,14 @@ IsBoundedBy relations n false q = (relation : Bytes) → listed_reads q relation
     → length (rows_of relations relation) ≤ n
 
 -- So it is of each query that a change outdates, as it is chosen for the query.
-abbrev pub AreBounded : Kept → RowsChange → ℕ → (Listed → Bool) → Type 0
+abbrev pub AreBounded : StoreModel → RowsChange → ℕ → (Listed → Bool) → Type 0
 AreBounded k change n as_flat = (id : QueryId) (r : Registered)
     → registered_at k.registered id ≡ Some r → is_outdated change r.query ≡ true
     → IsBoundedBy (k.store).relations n (as_flat r.query) r.query
 
 -- A change counts so many times at most what the updates of the queries do that it outdates, each of
 -- them bounded as a flat one or by its rows, as one likes.
-pub record CountsUpdates (times : ℕ) (old : Kept) (change : RowsChange) (before now : ℕ) : Type 0
+pub record CountsUpdates (times : ℕ) (old : StoreModel) (change : RowsChange) (before now : ℕ) : Type 0
   where
     pub counted : (n : ℕ) (as_flat : Listed → Bool) → AreBounded old change n as_flat → now ≤ before
         + sum_by (λ r. bounded_steps change times n (as_flat r.query) r.query)
@@ -157,7 +157,7 @@ lines_steps relations lines n (Err NoneLeft) q = (length lines + 2)
 lines_steps relations lines n (Err _) q = 0
 
 -- The lines of a transaction count at most what they do of each query that reads a relation which they change.
-pub record CountsLines (result : Result ℕ DoneRefusal) (old : Kept) (lines : List HeldLine) (before now : ℕ) : Type 0
+pub record CountsLines (result : Result ℕ DoneRefusal) (old : StoreModel) (lines : List HeldLine) (before now : ℕ) : Type 0
   where
     pub counted : (n : ℕ) → AreBounded old (lines_change (old.store).relations lines) n (λ q. false)
         → now ≤ before + sum_by (λ r. lines_steps (old.store).relations lines n result r.query)

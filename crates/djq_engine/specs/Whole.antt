@@ -1,7 +1,7 @@
 -- The parts of an engine together.
 use Rattle.std.specs.Prelude.{◌≡◌, ◌≤◌, length, vec_capacity}
 use Rattle.djq_engine.specs.declared.parts.Parts.{Parts}
-use Rattle.djq_engine.specs.Kept.{Kept}
+use Rattle.djq_engine.specs.StoreModel.{StoreModel}
 use Rattle.djq_engine.specs.Places.{Watches, kept_of}
 use Rattle.djq_engine.specs.Sound.{QueriesAreSound}
 use Rattle.djq_reach.specs.Tending.{LogsCanBeShown}
@@ -16,7 +16,7 @@ watches_in p = record {
 }
 
 -- what contracts see
-abbrev pub kept_in : Parts → Kept
+abbrev pub kept_in : Parts → StoreModel
 kept_in p = kept_of p.catalog p.queries.items p.order p.seq (watches_in p)
 
 -- what holds between any two calls

@@ -2,7 +2,7 @@
 ghost use Rattle.std.specs.Prelude.{◌+◌, ◌≤◌};
 ghost use Rattle.djq_model.specs.Listed.{listed_of};
 ghost use Rattle.djq_store_spec.specs.Asking.{TellsShape, TellsWhether, has_steps};
-ghost use Rattle.djq_engine.specs.Kept.{QueryExplainGives, IsRegistered, IsShown, AnswerIs};
+ghost use Rattle.djq_engine.specs.StoreModel.{QueryExplainGives, IsRegistered, IsShown, AnswerIs};
 ghost use Rattle.djq_engine.specs.Lending.{LendsQuery};
 
 use crate::cursor::{CursorId, QueryId};

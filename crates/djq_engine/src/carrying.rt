@@ -14,7 +14,7 @@ ghost use Rattle.djq_reach.specs.Tending.{AreUnwatched};
 ghost use Rattle.djq_reach.specs.Grouping.{CostsBy, WorksBy, group_relations, rows_of_groups, times_back};
 ghost use Rattle.djq_queries.specs.Changing.{CanChangeBy, CostsChange, WorksChange};
 ghost use Rattle.djq_engine.specs.Changing.{KeepsRest};
-ghost use Rattle.djq_engine.specs.Kept.{IsUnwatched};
+ghost use Rattle.djq_engine.specs.StoreModel.{IsUnwatched};
 ghost use Rattle.djq_engine.specs.Outdating.{AreReaders};
 ghost use Rattle.djq_engine.specs.Transacting.{changed_relations};
 ghost use Rattle.djq_engine.specs.Whole.{kept_in, EngineIsWhole, IsTended};
@@ -23,7 +23,7 @@ ghost use Rattle.djq_engine.specs.Carrying.{ChangesRows, LeavesRows};
 ghost use Rattle.djq_engine.specs.Carrying.{come_of, gone_of, AreGroupsFor, CountsHalves, CountsInserts};
 ghost use Rattle.djq_engine.specs.Carrying.{WorksHalves, SettlesChange, JoinsNames};
 
-use crate::outdating::{affect_reached, outdate_changed};
+use crate::outdating::{affect_reached, mark_cursors_stale_by_change};
 use crate::parts::Parts;
 use djq_counters::{Ledgers, Steps};
 use djq_database::{Catalog, RelationId};
@@ -270,7 +270,7 @@ pub fn settle(parts: &mut Parts, groups: &Groups, relations: &[Name])
     let gone = groups.gone.as_slice();
     affect_reached(&mut parts.affected, order, &parts.readers, come, gone);
     let seq = parts.seq;
-    outdate_changed(
+    mark_cursors_stale_by_change(
         &mut parts.queries,
         &parts.readers,
         &parts.catalog,

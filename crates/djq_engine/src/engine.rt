@@ -20,9 +20,9 @@ pub struct Engine {
 }
 
 impl Model for Engine {
-    ghost use Rattle.djq_engine.specs.Kept.{Kept};
+    ghost use Rattle.djq_engine.specs.StoreModel.{StoreModel};
 
-    ghost Value = { Kept };
+    ghost Value = { StoreModel };
 
     ghost use Rattle.djq_engine.specs.Whole.{kept_in, EngineIsWhole, IsTended};
 

@@ -8,7 +8,7 @@
 //! [`Engine::has`] and [`Engine::explain`] ask. Each is refused by the first condition that holds, or
 //! does what djq_machine states (djq_store_spec, of a transaction `Transaction.antt`). After a change
 //! [`Engine::affected`] returns which queries read its relations, and [`Engine::delta_line`] the
-//! answers of each that were added or removed. Contracts see one record, `Kept` (`specs/Kept.antt`).
+//! answers of each that were added or removed. Contracts see one record, `StoreModel` (`specs/StoreModel.antt`).
 //!
 //! It knows no session, no bytes and no names of cursors, and it sends nothing. It counts how many
 //! watch a query, and not who. How a query is judged is djq_binder's, and how it is updated and listed

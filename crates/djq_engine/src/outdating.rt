@@ -9,7 +9,7 @@ ghost use Rattle.djq_live_query.specs.Live.{Live};
 ghost use Rattle.djq_reach.specs.Places.{place_at, reads_place, is_reader, readers_at};
 ghost use Rattle.djq_reach.specs.Grouping.{reached};
 ghost use Rattle.djq_queries.specs.Changing.{touched};
-ghost use Rattle.djq_engine.specs.Outdating.{AreReaders, AgesAll, ClearsLogs, BatchGivesUp, reads_held};
+ghost use Rattle.djq_engine.specs.Outdating.{AreReaders, QueriesOutdated, ClearsLogs, BatchGivesUp, reads_held};
 ghost use Rattle.djq_engine.specs.Outdating.{first_of_names};
 
 use crate::parts::Parts;
@@ -64,7 +64,7 @@ fn empty_held(
 }
 
 /// The open cursors of all queries that read a relation become stale by it.
-fn outdate_named(
+fn mark_cursors_stale_by(
     queries: &mut Vec<Option<LiveQuery>>,
     readers: &Vec<QueryPlaces>,
     catalog: &Catalog,
@@ -73,7 +73,7 @@ fn outdate_named(
 )
     requires readers { AreReaders catalog.now.relations readers.now.items queries.old.items }
     requires found { IsSome (relation_of catalog.now.relations relation.now) }
-    ensures { AgesAll (by_relation relation.now) seq queries.old.items queries.new.items }
+    ensures { QueriesOutdated (by_relation relation.now) seq queries.old.items queries.new.items }
 {
     match catalog.id(relation) {
         Some(id) => outdate(queries, readers[id.at].as_slice(), *relation, seq),
@@ -83,7 +83,7 @@ fn outdate_named(
 
 /// The open cursors of all queries that read a relation of these lines become stale, by the first of
 /// these relations that a query reads.
-fn outdate_held(
+fn mark_cursors_stale_by_lines(
     queries: &mut Vec<Option<LiveQuery>>,
     readers: &Vec<QueryPlaces>,
     catalog: &Catalog,
@@ -92,17 +92,17 @@ fn outdate_held(
 )
     requires readers { AreReaders catalog.now.relations readers.now.items queries.old.items }
     requires found { All (λ h. IsSome (relation_of catalog.now.relations h.relation)) held.now.lines }
-    ensures { AgesAll (first_read held.now.lines (λ name. true)) seq
+    ensures { QueriesOutdated (first_read held.now.lines (λ name. true)) seq
         queries.old.items queries.new.items }
 {
     for at in 0..held.len() {
-        outdate_named(queries, readers, catalog, &held.relation(at), seq);
+        mark_cursors_stale_by(queries, readers, catalog, &held.relation(at), seq);
     }
 }
 
 /// The open cursors of all queries that read one of these relations become stale, by the first of
 /// them that a query reads.
-pub fn outdate_changed(
+pub fn mark_cursors_stale_by_change(
     queries: &mut Vec<Option<LiveQuery>>,
     readers: &Vec<QueryPlaces>,
     catalog: &Catalog,
@@ -111,10 +111,10 @@ pub fn outdate_changed(
 )
     requires readers { AreReaders catalog.now.relations readers.now.items queries.old.items }
     requires found { All (λ name. IsSome (relation_of catalog.now.relations name)) relations.now }
-    ensures { AgesAll (first_of_names relations.now) seq queries.old.items queries.new.items }
+    ensures { QueriesOutdated (first_of_names relations.now) seq queries.old.items queries.new.items }
 {
     for at in 0..relations.len() {
-        outdate_named(queries, readers, catalog, &relations[at], seq);
+        mark_cursors_stale_by(queries, readers, catalog, &relations[at], seq);
     }
 }
 
@@ -164,7 +164,7 @@ pub fn affect_reached(
 
 /// Memory lacks for these rows: the logs of the queries that read a relation of them are empty, and
 /// their open cursors become stale, by a change of the present number.
-pub fn give_up(parts: &mut Parts, held: &Transaction)
+pub fn discard_deltas(parts: &mut Parts, held: &Transaction)
     requires readers { AreReaders parts.old.catalog.relations parts.old.readers.items
         parts.old.queries.items }
     requires logged { (r i : ℕ) → is_reader (readers_at parts.old.readers.items r) i ≡ true
@@ -175,7 +175,7 @@ pub fn give_up(parts: &mut Parts, held: &Transaction)
 {
     empty_held(&mut parts.logs, &parts.readers, &parts.catalog, held);
     let seq = parts.seq;
-    outdate_held(
+    mark_cursors_stale_by_lines(
         &mut parts.queries,
         &parts.readers,
         &parts.catalog,

@@ -81,7 +81,7 @@ pub fn leave_out(places: &mut QueryPlaces, at: usize)
 }
 
 /// Removes a place from a list of affected ones.
-pub fn unaffect(places: &mut Vec<usize>, at: usize)
+pub fn remove_affected(places: &mut Vec<usize>, at: usize)
     ensures items { places.new.items ≡ places_without at places.old.items }
     ensures room { vec_capacity places.new ≡ vec_capacity places.old }
 {

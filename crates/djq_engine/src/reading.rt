@@ -1,8 +1,8 @@
 //! Cursors: opening, reading and closing them.
 ghost use Rattle.std.specs.Prelude.{◌≡◌, ⊤, IsSomeAnd, IfOk, OnErr};
 ghost use Rattle.djq_reach.specs.Places.{place_at};
-ghost use Rattle.djq_engine.specs.Kept.{IsHeld, IsFresh, CursorOpenGives, EngineNextGives, MoreGives, ClosesCursor};
-ghost use Rattle.djq_engine.specs.Kept.{KeepsTables};
+ghost use Rattle.djq_engine.specs.StoreModel.{IsHeld, IsFresh, CursorOpenGives, EngineNextGives, MoreGives, ClosesCursor};
+ghost use Rattle.djq_engine.specs.StoreModel.{KeepsTables};
 ghost use Rattle.djq_engine.specs.Moving.{Moves, IsReadableInSlot, IsFreshInSlot, OpensAt, ClosesAt, ReadsAt};
 ghost use Rattle.djq_engine.specs.Moving.{TellsMore};
 

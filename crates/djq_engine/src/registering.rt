@@ -4,7 +4,7 @@ ghost use Rattle.djq_protocol.specs.declared.limits.TheConstants.{QUERIES};
 ghost use Rattle.djq_store_spec.specs.Stale.{reads};
 ghost use Rattle.djq_store_spec.specs.Registering.{RegistersQuery, query_refusal};
 ghost use Rattle.djq_live_query.specs.Cursors.{are_vacant};
-ghost use Rattle.djq_engine.specs.Kept.{SameCursors, DropGives, DropsPlace, KeepsTables};
+ghost use Rattle.djq_engine.specs.StoreModel.{SameCursors, DropGives, DropsPlace, KeepsTables};
 ghost use Rattle.djq_reach.specs.Places.{place_at};
 ghost use Rattle.djq_engine.specs.Placing.{JoinsReaders, JoinsSome};
 ghost use Rattle.djq_engine.specs.Registering.{Registers, SameParts};
@@ -13,7 +13,7 @@ ghost use Rattle.djq_engine.specs.Whole.{kept_in, EngineIsWhole, IsTended};
 
 use crate::engine::Engine;
 use crate::parts::Parts;
-use crate::places::{find_query, leave_all, leave_out, unaffect, vacant_place};
+use crate::places::{find_query, leave_all, leave_out, remove_affected, vacant_place};
 use djq_binder::{Unplanned, intern_constants, plan_query, query_fault_of};
 use djq_counters::{Ledgers, Steps};
 use djq_database::{Catalog, RelationId};
@@ -216,7 +216,7 @@ impl Engine {
         }
         leave_all(&mut self.parts.readers, at);
         leave_out(&mut self.parts.order, at);
-        unaffect(&mut self.parts.affected, at);
+        remove_affected(&mut self.parts.affected, at);
         self.parts.logs[at].clear();
         self.parts.queries[at] = None;
         Ok(())

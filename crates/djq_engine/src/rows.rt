@@ -5,10 +5,10 @@ ghost use Rattle.djq_store_spec.specs.Relations.{MakesRelation};
 ghost use Rattle.djq_store_spec.specs.Rows.{AddsRow, DeletesRow};
 ghost use Rattle.djq_store_spec.specs.Changes.{row_in, row_out, add_outcome, delete_outcome};
 ghost use Rattle.djq_store_spec.specs.Changes.{tried};
-ghost use Rattle.djq_engine.specs.Kept.{IsUnwatched, Outdates, SameCursors, SameTellings, KeepsPlaces, is_tried};
+ghost use Rattle.djq_engine.specs.StoreModel.{IsUnwatched, Outdates, SameCursors, SameTellings, KeepsPlaces, is_tried};
 ghost use Rattle.djq_reach.specs.Places.{place_at, readers_at, AreOnce};
 ghost use Rattle.djq_reach.specs.Reaching.{AllAt};
-ghost use Rattle.djq_engine.specs.Changing.{AgesReaders};
+ghost use Rattle.djq_engine.specs.Changing.{ReadersOutdated};
 ghost use Rattle.djq_engine.specs.Cursors.{has_cursor};
 ghost use Rattle.djq_engine.specs.Watching.{EngineTellsChange, CountsUpdates, add_times, delete_times};
 
@@ -59,27 +59,27 @@ fn some_cursor(queries: &[Option<LiveQuery>], places: &[usize]) -> bool
 /// The open cursors over a relation become stale, by a change of the present number. Its name is copied
 /// here alone.
 #[inline(never)]
-fn outdate_open(parts: &mut Parts, id: RelationId, name: &Name)
+fn mark_open_cursors_stale(parts: &mut Parts, id: RelationId, name: &Name)
     requires within { id.at < length parts.old.readers.items }
     requires once { AreOnce (readers_at parts.old.readers.items id.at) }
     requires there { AllAt (readers_at parts.old.readers.items id.at) parts.old.queries.items
         (λ l. ⊤) }
-    ensures { AgesReaders id.at name.now parts.old parts.new }
+    ensures { ReadersOutdated id.at name.now parts.old parts.new }
 {
     let places = parts.readers[id.at].as_slice();
     outdate(&mut parts.queries, places, *name, parts.seq);
 }
 
 /// The same, if a cursor is open there.
-fn outdate_readers(parts: &mut Parts, id: RelationId, name: &Name)
+fn mark_cursors_stale(parts: &mut Parts, id: RelationId, name: &Name)
     requires within { id.at < length parts.old.readers.items }
     requires once { AreOnce (readers_at parts.old.readers.items id.at) }
     requires there { AllAt (readers_at parts.old.readers.items id.at) parts.old.queries.items
         (λ l. ⊤) }
-    ensures { AgesReaders id.at name.now parts.old parts.new }
+    ensures { ReadersOutdated id.at name.now parts.old parts.new }
 {
     if some_cursor(parts.queries.as_slice(), parts.readers[id.at].as_slice()) {
-        outdate_open(parts, id, name);
+        mark_open_cursors_stale(parts, id, name);
     }
 }
 
@@ -171,13 +171,13 @@ impl Engine {
             Err(AddRefusal::Full) => return Err(Refusal::Limit),
             Err(AddRefusal::NoMem) => {
                 empty_logs(&mut self.parts.logs, self.parts.readers[id.at].as_slice());
-                outdate_readers(&mut self.parts, id, name);
+                mark_cursors_stale(&mut self.parts, id, name);
                 return Err(Refusal::NoMemory);
             }
         }
         self.parts.seq += 1;
         affect(&mut self.parts.affected, &self.parts.readers, id);
-        outdate_readers(&mut self.parts, id, name);
+        mark_cursors_stale(&mut self.parts, id, name);
         Ok(AddOutcome::First)
     }
 
@@ -231,7 +231,7 @@ impl Engine {
         }
         self.parts.seq += 1;
         affect(&mut self.parts.affected, &self.parts.readers, relation);
-        outdate_readers(&mut self.parts, relation, name);
+        mark_cursors_stale(&mut self.parts, relation, name);
         Ok(DeleteOutcome::Last)
     }
 }

@@ -5,7 +5,7 @@ ghost use Rattle.djq_store_spec.specs.Changes.{tried};
 ghost use Rattle.djq_store_spec.specs.Transaction.{TellsSuits, SuitAll, DoesAll, lines_change, lines_tried};
 ghost use Rattle.djq_store_spec.specs.Transaction.{lines_outcome};
 ghost use Rattle.djq_answer_laws.specs.Growing.{SparesOthers};
-ghost use Rattle.djq_engine.specs.Kept.{IsUnwatched, Outdates, KeepsPlaces, is_tried};
+ghost use Rattle.djq_engine.specs.StoreModel.{IsUnwatched, Outdates, KeepsPlaces, is_tried};
 ghost use Rattle.djq_engine.specs.Watching.{CountsLines, EngineTellsChange};
 ghost use Rattle.djq_engine.specs.Transacting.{rows_done, changed_relations, lacks_memory_for};
 ghost use Rattle.djq_engine.specs.Outdating.{AreReaders, BatchGivesUp};
@@ -14,7 +14,7 @@ ghost use Rattle.djq_reach.specs.Places.{is_reader, readers_at};
 use crate::carrying::{Carried, carry_out, settle};
 use crate::engine::Engine;
 use crate::judge::relation_for_row;
-use crate::outdating::give_up;
+use crate::outdating::discard_deltas;
 use crate::parts::Parts;
 use djq_counters::{Ledgers, Steps};
 use djq_model::{Name, Value};
@@ -54,7 +54,7 @@ fn refuse(parts: &mut Parts, held: &Transaction, refusal: DoneRefusal)
     ensures other { lacks_memory_for refusal ≡ false → parts.new ≡ parts.old }
 {
     if lacks_memory(refusal) {
-        give_up(parts, held);
+        discard_deltas(parts, held);
     }
 }
 
@@ -137,7 +137,7 @@ impl Engine {
         let Carried { groups, relations } = match carry_out(&mut self.parts, held, &net, steps) {
             Ok(carried) => carried,
             Err(_error) => {
-                give_up(&mut self.parts, held);
+                discard_deltas(&mut self.parts, held);
                 return Err(DoneRefusal::NoMemory);
             }
         };

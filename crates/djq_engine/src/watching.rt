@@ -2,8 +2,8 @@
 ghost use Rattle.std.specs.Prelude.{◌≡◌, ◌<◌, ◌+◌, ◌-◌, Some, IsSomeAnd, option_map};
 ghost use Rattle.std.specs.Prelude.{length, slice_get};
 ghost use Rattle.djq_model.specs.Listed.{listed_name};
-ghost use Rattle.djq_engine.specs.Kept.{registered_of, registered_at, IsRegistered, with_watchers};
-ghost use Rattle.djq_engine.specs.Kept.{told_at, TellsChangeCells};
+ghost use Rattle.djq_engine.specs.StoreModel.{registered_of, registered_at, IsRegistered, with_watchers};
+ghost use Rattle.djq_engine.specs.StoreModel.{told_at, TellsChangeCells};
 ghost use Rattle.djq_engine.specs.Laws.{IsEngine};
 ghost use Rattle.djq_engine.specs.Lending.{sign_of};
 

@@ -134,7 +134,7 @@ fn fill<C: Choices, L: Ledger>(
 
 /// Moves to the next answer: the last choice that has a next tuple moves to it, and every later one
 /// starts again. What earlier choices wrote into the answer stays.
-fn go_on<C: Choices, L: Ledger>(
+fn next_after<C: Choices, L: Ledger>(
     choices: &C,
     reducts: &Reducts,
     places: &mut Places,
@@ -250,7 +250,7 @@ pub fn advance_by<C: Choices, L: Ledger>(
     match cursor.state {
         State::Start => begin(choices, reducts, cursor, listing),
         State::At => {
-            if go_on(
+            if next_after(
                 choices,
                 reducts,
                 &mut cursor.places,

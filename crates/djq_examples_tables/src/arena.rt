@@ -3,11 +3,11 @@ use std::alloc::{AllocError, Global};
 use std::test::Fail;
 
 /// Moves a row of two cells to the end.
-fn renew(arena: &mut Arena, cells: &[u64]) -> bool {
+fn move_to_end(arena: &mut Arena, cells: &[u64]) -> bool {
     match arena.find(cells) {
         None => false,
         Some(slot) => {
-            arena.renew(slot);
+            arena.move_to_end(slot);
             true
         }
     }
@@ -52,7 +52,7 @@ fn keeps_rows_in_order(rt: HostRuntime) -> Result<(), Fail> {
     let mut arena = filled(rt.alloc(), 100)?;
     assert!(rt; arena.len() == 100 && arena.room() == 100 && arena.is_full());
     assert!(rt; neighbours(&arena, &[50, 50]) == Some((Some(49), Some(51))));
-    assert!(rt; renew(&mut arena, &[50, 50]));
+    assert!(rt; move_to_end(&mut arena, &[50, 50]));
     assert!(rt; neighbours(&arena, &[50, 50]) == Some((Some(99), None)));
     assert!(rt; neighbours(&arena, &[51, 51]) == Some((Some(49), Some(52))));
     Ok(())

@@ -171,7 +171,7 @@ fn first_cell(pattern: &Pattern, row: &[u64]) -> Option<u64> {
         return None;
     }
     let mut room = Cells::new(0);
-    let tuple = pattern.lend(row, &mut room)?;
+    let tuple = pattern.project(row, &mut room)?;
     tuple.first().copied()
 }
 

@@ -19,7 +19,7 @@ fn line_in_front(session: &Numbered) -> Option<(usize, usize)> {
 
 /// Removes bytes from the front, if so many are held.
 fn take(session: &mut Numbered, count: usize) -> bool {
-    let there = session.held().len() >= count;
+    let there = session.input().len() >= count;
     if there {
         session.take_line(count);
     }
@@ -30,7 +30,7 @@ fn take(session: &mut Numbered, count: usize) -> bool {
 fn took(session: &mut Numbered, count: usize) -> bool {
     let there = session.pending().len() >= count;
     if there {
-        session.took(count);
+        session.advance(count);
     }
     there
 }
@@ -40,7 +40,7 @@ fn lines_come_and_bytes_go(rt: HostRuntime) -> Result<(), Fail> {
     let mut session = Numbered::new(rt.alloc())?;
     session.feed(b"add r 1\r\nst")?;
     assert!(rt; line_in_front(&session) == Some((7, 9)));
-    assert!(rt; take(&mut session, 9) && session.held() == b"st".as_slice());
+    assert!(rt; take(&mut session, 9) && session.input() == b"st".as_slice());
     session.queue(b"= 12345\n")?;
     assert!(rt; took(&mut session, 4) && session.pending() == b"345\n".as_slice());
     Ok(())
@@ -58,7 +58,7 @@ fn sessions_end(rt: HostRuntime) -> Result<(), Fail> {
     for (cause, last) in ENDS {
         let mut session = Numbered::new(rt.alloc())?;
         session.feed(b"ad")?;
-        session.keep(REPLY_BYTES)?;
+        session.reserve(REPLY_BYTES)?;
         match cause {
             EndCause::Input => session.end_input(),
             EndCause::Slow => session.end_by(EndLine::Slow, cause),
@@ -71,21 +71,21 @@ fn sessions_end(rt: HostRuntime) -> Result<(), Fail> {
 
 /// Appends a reply of each kind to the others.
 fn answers(session: &mut Numbered) -> Result<(), NoMem> {
-    session.keep(REPLY_BYTES)?;
+    session.reserve(REPLY_BYTES)?;
     session.refuse(Refusal::Arity);
-    session.keep(REPLY_BYTES)?;
+    session.reserve(REPLY_BYTES)?;
     session.answer_done(Ok(()));
-    session.keep(REPLY_BYTES)?;
+    session.reserve(REPLY_BYTES)?;
     session.answer_added(Ok(AddOutcome::More(2)), 7);
-    session.keep(REPLY_BYTES)?;
+    session.reserve(REPLY_BYTES)?;
     session.answer_deleted(Ok(DeleteOutcome::Absent), 8);
-    session.keep(REPLY_BYTES)?;
+    session.reserve(REPLY_BYTES)?;
     session.answer_registered(&Ok(QueryOutcome::Registered(5)))?;
-    session.keep(REPLY_BYTES)?;
+    session.reserve(REPLY_BYTES)?;
     session.answer_united(Ok(12));
-    session.keep(REPLY_BYTES)?;
+    session.reserve(REPLY_BYTES)?;
     session.answer_opened(Ok(()));
-    session.keep(REPLY_BYTES)?;
+    session.reserve(REPLY_BYTES)?;
     session.answer_stale(&Name::new(b"c"), &Name::new(b"rel"), 3);
     Ok(())
 }
@@ -144,7 +144,7 @@ fn watch(session: &mut Numbered, query: u32) -> Result<bool, NoMem> {
 
 /// Holds the line in front, of so many bytes, if a batch is open that has room for it.
 fn hold(session: &mut Numbered, row: &Row, end: usize) -> Result<bool, NoMem> {
-    if !session.has_batch() || !session.may_hold(end) || session.held().len() < end {
+    if !session.has_batch() || !session.may_hold(end) || session.input().len() < end {
         return Ok(false);
     }
     session.hold(Verb::Add, name_of(1), row.as_slice(), end)?;
@@ -194,7 +194,7 @@ fn end(session: &mut Numbered, is_leave: bool) -> Result<bool, NoMem> {
         return Ok(false);
     }
     if is_leave {
-        session.keep(REPLY_BYTES)?;
+        session.reserve(REPLY_BYTES)?;
         session.end_bye(EndCause::Quit);
     } else {
         session.end_input();

@@ -8,7 +8,7 @@ use Rattle.std.proofs.lemmas.List.{get_or_append_left, get_or-append_right, get_
 use Rattle.std.proofs.lemmas.List.{append-nil}
 use Rattle.djq_arena.specs.Chains.{IsOut, AreDistinctSlots, AreBelow}
 use Rattle.djq_arena.specs.Buckets.{link_at, Chained, StandsInChain, IsBehind, relinked, IsBucket, AreBuckets, IsUnlisted}
-use Rattle.djq_arena.specs.Store.{class, HoldsSlot}
+use Rattle.djq_arena.specs.Store.{bucket_number, HoldsSlot}
 use Rattle.djq_arena.specs.declared.link.TheConstants.{SLOTS}
 use Rattle.djq_arena.proofs.Chains.{in_or_out, holds_in, held_not_out, out_first, out_rest, out_more, out_middle, out_less}
 use Rattle.djq_arena.proofs.Chains.{out_front, out_back, out_here, ends_with, different_out, different_here, below_unlike, below_more}
@@ -139,7 +139,7 @@ set_taken ts x u y within h none =
 
 falls_set : (m : ℕ) (ts : Tuples) (x y : ℕ) (o : Option (List ℕ)) → (y ≡ x → ⊥)
     → key_bucket m (slice_set ts x o) y ≡ key_bucket m ts y
-falls_set m ts x y o other = ap (λ (t : Option (List ℕ)). class m (tuple_cells t)) (set_there ts x y o other)
+falls_set m ts x y o other = ap (λ (t : Option (List ℕ)). bucket_number m (tuple_cells t)) (set_there ts x y o other)
 
 taken_below : (ts : Tuples) (xs : List ℕ) (n : ℕ) → AreTaken ts xs → length ts ≤ n → AreBelow n xs
 taken_below ts xs n t long = from_out n xs (λ x l. t.only x (get_or_past ts x None (omega (arith, l, long))))
@@ -158,7 +158,7 @@ pub record Seeking (links : List (Option ℕ)) (ts : Tuples) (u : List ℕ) (at 
   pub room : length ahead ≤ length links
 
 pub seeking : (i : Index) (ts : Tuples) (u : List ℕ) (k : ℕ) (at : Option ℕ) → IsIndexOf i ts
-    → k ≡ class (length i.heads.items) u → k < length i.heads.items → at ≡ link_at i.heads.items k
+    → k ≡ bucket_number (length i.heads.items) u → k < length i.heads.items → at ≡ link_at i.heads.items k
     → Seeking i.links.items ts u at
 seeking i ts u k at h its inside head =
     let b = h.buckets.each k inside in
@@ -167,7 +167,7 @@ seeking i ts u k at h its inside head =
       chained = rw head b.chained;
       taken = λ x none. b.only x (h.are_taken.only x none);
       misses = λ x out same. some_none u (sym same ∙ h.are_taken.all x
-          (b.all x (ap (λ (t : Option (List ℕ)). class (length i.heads.items) (tuple_cells t)) same ∙ sym its) out));
+          (b.all x (ap (λ (t : Option (List ℕ)). bucket_number (length i.heads.items) (tuple_cells t)) same ∙ sym its) out));
       room = omega (
         arith,
         bucket_short (key_bucket (length i.heads.items) ts) k i.links.items (link_at i.heads.items k) h.taken b,
@@ -305,7 +305,7 @@ pub record Inserts (a b : Index) (x k : ℕ) : Type 0 where
   pub used : b.used ≡ used_after a.free a.used
 
 pub inserts : (a b : Index) (ts : Tuples) (x k : ℕ) (u : List ℕ) → IsIndexOf a ts → IsFreeSlot ts x → Inserts a b x k
-    → k < length a.heads.items → k ≡ class (length a.heads.items) u → IsIndexOf b (slice_set ts x (Some u))
+    → k < length a.heads.items → k ≡ bucket_number (length a.heads.items) u → IsIndexOf b (slice_set ts x (Some u))
 inserts a b ts x k u h f r inside its = record {
   taken = x ∷ h.taken;
   are_taken = record {
@@ -355,7 +355,7 @@ inserts a b ts x k u h f r inside its = record {
         (λ same. held (subst (λ (n : ℕ). IsOut n h.taken) (sym same) out_x)))
         (keeps_self a.links.items h.taken))
         out_x (omega (arith, f.0, h.long)) inside
-        (ap (λ (t : Option (List ℕ)). class (length a.heads.items) (tuple_cells t)) (set_here ts x (Some u) f.0)
+        (ap (λ (t : Option (List ℕ)). bucket_number (length a.heads.items) (tuple_cells t)) (set_here ts x (Some u) f.0)
         ∙ sym its))
 
 -- ---- an entry goes
@@ -387,13 +387,13 @@ pub record Removes (a b : Index) (x k : ℕ) : Type 0 where
 
 -- an entry's slot stands in its bucket
 pub stands : (i : Index) (ts : Tuples) (x k : ℕ) (u : List ℕ) → IsIndexOf i ts → tuple_in_slot ts x ≡ Some u
-    → k < length i.heads.items → k ≡ class (length i.heads.items) u
+    → k < length i.heads.items → k ≡ bucket_number (length i.heads.items) u
     → StandsInChain i.links.items (link_at i.heads.items k) x
 stands i ts x k u h here inside its =
     let below = taken_below ts h.taken (length i.links.items) h.are_taken h.long in
     bucket_stands (key_bucket (length i.heads.items) ts) k i.links.items (link_at i.heads.items k) h.taken x
     (h.buckets.each k inside) (held_there ts h.taken x h.are_taken (λ none. some_none u (sym here ∙ none)))
-    (ap (λ (t : Option (List ℕ)). class (length i.heads.items) (tuple_cells t)) here ∙ sym its) below
+    (ap (λ (t : Option (List ℕ)). bucket_number (length i.heads.items) (tuple_cells t)) here ∙ sym its) below
     (few_below (length i.links.items) h.taken h.are_taken.once below)
 
 -- the slot is the first of the free ones then
@@ -429,7 +429,7 @@ free_more ts links more free used x f within inside there keeps =
     }
 
 pub removes : (a b : Index) (ts : Tuples) (x k : ℕ) (u : List ℕ) → IsIndexOf a ts → tuple_in_slot ts x ≡ Some u
-    → Removes a b x k → k < length a.heads.items → k ≡ class (length a.heads.items) u
+    → Removes a b x k → k < length a.heads.items → k ≡ bucket_number (length a.heads.items) u
     → IsIndexOf b (slice_set ts x None)
 removes a b ts x k u h here r inside its = record {
   taken = place.front ++ place.back;
@@ -502,7 +502,7 @@ removes a b ts x k u h here r inside its = record {
     less : AreBuckets falls r.more b.heads.items (place.front ++ place.back)
     less = unlisted_buckets falls a.links.items r.more a.heads.items b.heads.items (place.front ++ place.back) x k first
         out_x inside
-        (ap (λ (t : Option (List ℕ)). class (length a.heads.items) (tuple_cells t)) here ∙ sym its) r.unlisted
+        (ap (λ (t : Option (List ℕ)). bucket_number (length a.heads.items) (tuple_cells t)) here ∙ sym its) r.unlisted
 
     listed : AreBuckets (key_bucket (length a.heads.items) (slice_set ts x None)) (slice_set r.more x a.free) b.heads.items
         (place.front ++ place.back)
@@ -692,7 +692,7 @@ more_slots i ts m h long few = record {
   buckets = buckets_kept (key_bucket (length i.heads.items) ts)
       (key_bucket (length i.heads.items) (ts ++ replicate m None)) i.links.items i.links.items i.heads.items h.taken
       h.buckets
-      (λ x held. ap (λ (t : Option (List ℕ)). class (length i.heads.items) (tuple_cells t)) (more_at ts m x))
+      (λ x held. ap (λ (t : Option (List ℕ)). bucket_number (length i.heads.items) (tuple_cells t)) (more_at ts m x))
       (keeps_self i.links.items h.taken);
   free = record {
     slots = h.free.slots;

@@ -3,7 +3,7 @@
 use Rattle.std.specs.Prelude.{◌≡◌, ◌≢◌, ℕ, suc, ◌<◌, ◌≤◌, List, length, slice_index_or, Option, Some, None}
 use Rattle.djq_arena.specs.Chains.{IsOut, AreDistinctSlots, AreBelow}
 use Rattle.djq_arena.specs.Buckets.{link_at, Chained, AreBuckets}
-use Rattle.djq_arena.specs.Store.{class}
+use Rattle.djq_arena.specs.Store.{bucket_number}
 use Rattle.djq_arena.specs.declared.link.TheConstants.{SLOTS}
 use Rattle.djq_forest.specs.declared.index.Index.{Index}
 use Rattle.djq_forest.specs.Forest.{tuple_cells}
@@ -37,7 +37,7 @@ pub record IsWanted (ts : List (Option (List ℕ))) (count : ℕ) : Type 0 where
 
 -- the bucket, of m, into which slot x falls by the tuple in it
 abbrev pub key_bucket : ℕ → List (Option (List ℕ)) → ℕ → ℕ
-key_bucket m ts x = class m (tuple_cells (tuple_in_slot ts x))
+key_bucket m ts x = bucket_number m (tuple_cells (tuple_in_slot ts x))
 
 -- these slots have entries, and no others
 pub record AreTaken (ts : List (Option (List ℕ))) (xs : List ℕ) : Type 0 where

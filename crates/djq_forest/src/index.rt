@@ -1,7 +1,7 @@
 ghost use Rattle.std.specs.Prelude.{◌≡◌, ◌≢◌, ◌↔◌, ◌<◌, ◌≤◌, ◌-◌, ◌++◌, ℕ, List, [], length, replicate, slice_set};
 ghost use Rattle.std.specs.Prelude.{IsTrue, false, Some, None, IfOk, OnErr, MatchOption};
 ghost use Rattle.djq_arena.specs.Buckets.{link_at, StandsInChain, IsBehind, IsUnlisted};
-ghost use Rattle.djq_arena.specs.Store.{class, hash};
+ghost use Rattle.djq_arena.specs.Store.{bucket_number, hash};
 ghost use Rattle.djq_arena.specs.declared.link.TheConstants.{SLOTS};
 ghost use Rattle.djq_forest.specs.Index.{HasNoEntry, IsFreeSlot, HasFreeSlot, AreAllTaken, IsIndexOf, AreListed, IsWanted};
 ghost use Rattle.djq_forest.specs.Index.{key_bucket, first_free, free_after, used_after};
@@ -26,10 +26,10 @@ pub struct Index {
 }
 
 /// The bucket of a tuple with this hash.
-#[tactic(auto, unfolding(djq_arena::specs::Store::class))]
+#[tactic(auto, unfolding(djq_arena::specs::Store::bucket_number))]
 fn bucket_in(heads: &Vec<Link>, code: u64) -> usize
     requires { 0 < length heads.now.items }
-    ensures class { (u : List ℕ) → code ≡ hash u → result ≡ class (length heads.now.items) u }
+    ensures bucket_number { (u : List ℕ) → code ≡ hash u → result ≡ bucket_number (length heads.now.items) u }
     ensures within { result < length heads.now.items }
 {
     code as usize & (heads.len() - 1)
@@ -70,15 +70,15 @@ fn are_same(cells: &[u64], others: &[u64]) -> bool
 }
 
 /// Puts a slot at the head of its bucket.
-fn push_bucket(links: &mut Vec<Link>, heads: &mut Vec<Link>, class: usize, slot: u32)
-    requires class { class < length heads.old.items }
+fn push_bucket(links: &mut Vec<Link>, heads: &mut Vec<Link>, bucket_number: usize, slot: u32)
+    requires bucket_number { bucket_number < length heads.old.items }
     requires slot { slot < length links.old.items }
     requires number { slot < SLOTS }
-    ensures links { links.new.items ≡ slice_set links.old.items slot (link_at heads.old.items class) }
-    ensures heads { heads.new.items ≡ slice_set heads.old.items class (Some slot) }
+    ensures links { links.new.items ≡ slice_set links.old.items slot (link_at heads.old.items bucket_number) }
+    ensures heads { heads.new.items ≡ slice_set heads.old.items bucket_number (Some slot) }
 {
-    links[slot as usize] = link_of(heads, class);
-    heads[class] = Link::to(slot);
+    links[slot as usize] = link_of(heads, bucket_number);
+    heads[bucket_number] = Link::to(slot);
 }
 
 /// The slot before this one in its bucket, if any. A bucket is short.
@@ -104,14 +104,14 @@ fn before(links: &Vec<Link>, head: Link, slot: u32) -> Link
 }
 
 /// Removes a slot from its bucket.
-fn unlist(links: &mut Vec<Link>, heads: &mut Vec<Link>, class: usize, slot: u32)
-    requires class { class < length heads.old.items }
-    requires stands { StandsInChain links.old.items (link_at heads.old.items class) slot }
-    ensures unlisted { IsUnlisted links.old.items links.new.items heads.old.items heads.new.items class slot }
+fn unlist(links: &mut Vec<Link>, heads: &mut Vec<Link>, bucket_number: usize, slot: u32)
+    requires bucket_number { bucket_number < length heads.old.items }
+    requires stands { StandsInChain links.old.items (link_at heads.old.items bucket_number) slot }
+    ensures unlisted { IsUnlisted links.old.items links.new.items heads.old.items heads.new.items bucket_number slot }
 {
     let after = link_of(links, slot as usize);
-    match before(links, link_of(heads, class), slot).get() {
-        None => heads[class] = after,
+    match before(links, link_of(heads, bucket_number), slot).get() {
+        None => heads[bucket_number] = after,
         Some(prev) => links[prev as usize] = after,
     }
 }
@@ -183,8 +183,8 @@ fn list_all(links: &mut Vec<Link>, heads: &mut Vec<Link>, slots: &Slots)
 {
     for at in 0..slots.len() {
         let slot = at as u32;
-        let class = bucket_in(heads, hash_of(slots.tuple(slot)));
-        push_bucket(links, heads, class, slot);
+        let bucket_number = bucket_in(heads, hash_of(slots.tuple(slot)));
+        push_bucket(links, heads, bucket_number, slot);
     }
 }
 
@@ -228,9 +228,9 @@ impl Index {
         ensures free { IsFreeSlot slots.old.tuples result }
         ensures inserted { slots.new ≡ with_entry slots.old result tuple.now missing }
     {
-        let class = bucket_in(&self.heads, hash_of(tuple));
+        let bucket_number = bucket_in(&self.heads, hash_of(tuple));
         let slot = take_free(&self.links, &mut self.free, &mut self.used);
-        push_bucket(&mut self.links, &mut self.heads, class, slot);
+        push_bucket(&mut self.links, &mut self.heads, bucket_number, slot);
         slots.put(slot, tuple, missing);
         slot
     }
@@ -242,8 +242,8 @@ impl Index {
         ensures index { IsIndexOf self.new slots.new.tuples }
         ensures removed { slots.new ≡ with_free slots.old slot }
     {
-        let class = bucket_in(&self.heads, hash_of(slots.tuple(slot)));
-        unlist(&mut self.links, &mut self.heads, class, slot);
+        let bucket_number = bucket_in(&self.heads, hash_of(slots.tuple(slot)));
+        unlist(&mut self.links, &mut self.heads, bucket_number, slot);
         self.links[slot as usize] = self.free;
         self.free = Link::to(slot);
         slots.free(slot);

@@ -31,7 +31,7 @@ use Rattle.djq_live_query.specs.Member.{has_cells, head_types, in_tree, query_at
 use Rattle.djq_live_query.specs.Updating.{change_of}
 use Rattle.djq_live_query.proofs.Catalogs.{as_many}
 use Rattle.djq_engine.specs.Lending.{sign_of}
-use Rattle.djq_engine.specs.Kept.{Kept}
+use Rattle.djq_engine.specs.StoreModel.{StoreModel}
 use Rattle.djq_answer_laws.specs.Net.{opposite, opposite_sign, IsMemberDelta, MemberAgrees, IsReportedByMembers}
 use Rattle.djq_answer_laws.proofs.Net.{unions_report}
 use Rattle.djq_gains.specs.Gathered.{Gain, Mark, in_delta, with_sign, has_mark, IsMarkOf, IsIn, AtSlot, slots_in, Stand}
@@ -125,10 +125,10 @@ tells_all ls gains at j lines lost all last kept l first =
 -- ---- The lines that are told tell what is to be told, and so the delta of the members' union.
 
 -- the change that a tuple is told as
-abbrev change_for : Kept → Live → Gain → Change
+abbrev change_for : StoreModel → Live → Gain → Change
 change_for k first g = change_of (k.store).texts first (line_of first g)
 
-abbrev told_of : Kept → List ℕ → List Gain → List Gain
+abbrev told_of : StoreModel → List ℕ → List Gain → List Gain
 told_of k members gains = filter (is_told (queries_at k.places members)) gains
 
 -- the changes that lines tell
@@ -146,7 +146,7 @@ apart_gains gains apart i j d less low same =
     (get_or-map (λ (y : Gain). y.cells) gains i d [] (omega (arith, less, low)) ∙ same
     ∙ sym (get_or-map (λ (y : Gain). y.cells) gains j d [] low))
 
-values_differ : (k : Kept) (members touched : List ℕ) (gains : List Gain) (first : Live)
+values_differ : (k : StoreModel) (members touched : List ℕ) (gains : List Gain) (first : Live)
     → Setting k members touched gains first
     → AreDifferent (map (value k first) (told_of k members gains))
 values_differ k members touched gains first s i j d less low same =
@@ -172,20 +172,20 @@ values_differ k members touched gains first s i j d less low same =
 -- ---- The members, as parts of the union's delta.
 
 -- the query of the member in a place
-abbrev query_of : Kept → Live → ℕ → Query
+abbrev query_of : StoreModel → Live → ℕ → Query
 query_of k first i = (unwrap_or (query_at k.places i) first).query
 
-abbrev part_at : Kept → List ℕ → Live → ℕ → Part
+abbrev part_at : StoreModel → List ℕ → Live → ℕ → Part
 part_at k touched first i = record { query = query_of k first i; changes = delta_at k touched i; listed = 0 }
 
-abbrev parts_of : Kept → List ℕ → Live → List ℕ → List Part
+abbrev parts_of : StoreModel → List ℕ → Live → List ℕ → List Part
 parts_of k touched first members = map (part_at k touched first) members
 
-query_is : (k : Kept) (first : Live) (i : ℕ) (l : Live) → query_at k.places i ≡ Some l
+query_is : (k : StoreModel) (first : Live) (i : ℕ) (l : Live) → query_at k.places i ≡ Some l
     → query_of k first i ≡ l.query
 query_is k first i l at = ap (λ (o : Option Live). (unwrap_or o first).query) at
 
-queries_are : (k : Kept) (first : Live) (members : List ℕ)
+queries_are : (k : StoreModel) (first : Live) (members : List ℕ)
     → AllByRecursion (λ i. IsSomeAnd (query_at k.places i) (λ l. ⊤)) members
     → map (query_of k first) members ≡ members_at k members
 queries_are k first [] have = refl
@@ -198,7 +198,7 @@ queries_are k first (i ∷ members) have =
     by None h rest = absurd h
     by (Some l) h rest = ap (λ (qs : List Query). l.query ∷ qs) rest
 
-of_parts : (k : Kept) (members touched : List ℕ) (first : Live) → HaveQueries k.places members
+of_parts : (k : StoreModel) (members touched : List ℕ) (first : Live) → HaveQueries k.places members
     → map (λ (p : Part). p.query) (parts_of k touched first members) ≡ members_at k members
 of_parts k members touched first have =
     twice_mapped (λ (p : Part). p.query) (part_at k touched first) members
@@ -219,7 +219,7 @@ none_changed Before After same = record {
     by Went t h = absurd (h.1 ((same t).0 h.0))
 
 -- the delta of a member is what is told of it
-member_delta : (k : Kept) (members touched : List ℕ) (gains : List Gain) (first : Live)
+member_delta : (k : StoreModel) (members touched : List ℕ) (gains : List Gain) (first : Live)
     (before : List Relation) → Setting k members touched gains first
     → HaveChanged before k members touched → (i : ℕ) → Contains members i
     → IsMemberDelta before (k.store).relations (part_at k touched first i)
@@ -251,7 +251,7 @@ member_delta k members touched gains first before s changed i there =
 -- ---- What is told is what the members report.
 
 -- the members report a tuple that is told
-reports : (k : Kept) (members touched : List ℕ) (gains : List Gain) (first : Live)
+reports : (k : StoreModel) (members touched : List ℕ) (gains : List Gain) (first : Live)
     → Setting k members touched gains first → (g : Gain) → Contains gains g
     → is_told (queries_at k.places members) g ≡ true
     → IsReportedByMembers (k.store).relations (parts_of k touched first members) (change_for k first g)
@@ -322,7 +322,7 @@ reports k members touched gains first s g there told = (gained, agree)
         subst (MemberAgrees now c) (sym i.is) (each i.of i.there))
 
 -- what is to be told is gathered, and is told
-record IsListed (k : Kept) (members : List ℕ) (gains : List Gain) (first : Live) (c : Change) : Type 0
+record IsListed (k : StoreModel) (members : List ℕ) (gains : List Gain) (first : Live) (c : Change) : Type 0
   where
     gain : Gain
     there : Contains (told_of k members gains) gain
@@ -345,7 +345,7 @@ kept_there {A = A} p (y ∷ xs) x passes there =
     step false e (inl same) rest = absurd (false≢true (sym e ∙ ap p same ∙ passes))
     step false e (inr later) rest = rest later
 
-is_listed : (k : Kept) (members touched : List ℕ) (gains : List Gain) (first : Live)
+is_listed : (k : StoreModel) (members touched : List ℕ) (gains : List Gain) (first : Live)
     → Setting k members touched gains first → (c : Change)
     → IsReportedByMembers (k.store).relations (parts_of k touched first members) c
     → IsListed k members gains first c
@@ -463,7 +463,7 @@ is_listed k members touched gains first s c (gained, all) = record {
         by (inr lacks) = by_cells lacks (has_cells p g.cells) refl
 
 -- The lines of what is told tell the delta of the members' union.
-pub tells_union : (k : Kept) (members touched : List ℕ) (gains : List Gain) (first : Live)
+pub tells_union : (k : StoreModel) (members touched : List ℕ) (gains : List Gain) (first : Live)
     → Setting k members touched gains first
     → TellUnion k members touched (gain_lines (queries_at k.places members) first gains) first
 tells_union k members touched gains first s = record {

@@ -18,7 +18,7 @@ use Rattle.djq_arena.proofs.Chains.{different_here, out_front, out_back, below_h
 use Rattle.djq_arena.proofs.Rows.{slots-append}
 use Rattle.djq_union.proofs.Merges.{head_or_tail}
 use Rattle.djq_leaves.proofs.TreeAnswers.{in_image, image_of}
-use Rattle.djq_engine.specs.Kept.{Kept}
+use Rattle.djq_engine.specs.StoreModel.{StoreModel}
 use Rattle.djq_gains.specs.Gains.{count_in}
 use Rattle.djq_gains.specs.Gathering.{is_among, gain_count}
 use Rattle.djq_protocol.specs.declared.answer.Sign.{Sign}
@@ -119,7 +119,7 @@ sum_within f (x ∷ xs) ys different within =
     omega arith
 
 -- what is told of the members that were touched is no more than what is told of all that were
-pub count_within : (k : Kept) (members touched : List ℕ) → AllPairs (λ i j. i ≡ j → ⊥) members
+pub count_within : (k : StoreModel) (members touched : List ℕ) → AllPairs (λ i j. i ≡ j → ⊥) members
     → gain_count k members touched ≤ sum_by (count_in k) touched
 count_within k members touched different =
     sum_within (count_in k) (filter (is_among touched) members) touched

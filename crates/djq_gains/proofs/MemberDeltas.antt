@@ -18,7 +18,7 @@ use Rattle.djq_leaves.proofs.Fills.{fits_long}
 use Rattle.djq_live_query.specs.Member.{head_types, query_at, queries_at, HaveQueries, HeadTypesAre, AreAlike}
 use Rattle.djq_live_query.specs.Live.{Live, IsKept, IsKeptSomewhere}
 use Rattle.djq_live_query.proofs.Catalogs.{nth_is, nth_has, are_kept}
-use Rattle.djq_engine.specs.Kept.{Kept, TellsChangeCells, CellsAre, PlacesAreKept}
+use Rattle.djq_engine.specs.StoreModel.{StoreModel, TellsChangeCells, CellsAre, PlacesAreKept}
 use Rattle.djq_gains.specs.Gains.{told_of_member, changes_in, count_in, AtFirstMember}
 use Rattle.djq_engine.specs.Lending.{sign_of}
 use Rattle.djq_gains.specs.Gathered.{Gain, Mark, IsMarkOf, Stand}
@@ -61,14 +61,14 @@ stand_long texts types cells t stand =
     ap (λ (u : List ℕ). length u) stand.are ∙ length-map t (cell_for texts) ∙ fits_long types t stand.of
 
 -- the line at a number
-pub record IsLine (k : Kept) (place n width : ℕ) (came : Bool) (cells : List ℕ) : Type 0 where
+pub record IsLine (k : StoreModel) (place n width : ℕ) (came : Bool) (cells : List ℕ) : Type 0 where
   pub change : Change
   pub at : slice_get (changes_in k place) n ≡ Some change
   pub sign : sign_of came ≡ change.sign
   pub is : cells_of (k.store).texts change.answer ≡ cells
   pub wide : length cells ≡ width
 
-told_line : (k : Kept) (place n width : ℕ) (came : Bool) (cells : List ℕ) (changes : List Change)
+told_line : (k : StoreModel) (place n width : ℕ) (came : Bool) (cells : List ℕ) (changes : List Change)
     → IsSomeAnd (query_at k.places place) (λ l. length (head_types l) ≡ width)
     → told_of_member k place ≡ Some changes
     → TellsChangeCells k (record { at = place }) n (sign_of came) cells → IsLine k place n width came cells
@@ -90,14 +90,14 @@ told_line k place n width came cells changes query told tells =
     }
 
 -- Tuples of the nth delta are taken in.
-abbrev pub TakesIn : List Bytes → List Gain → List Gain → ℕ → List Change → Type 0
-TakesIn texts old new nth changes = (mark : Mark) (t : List ℕ)
+abbrev pub QueryInserts : List Bytes → List Gain → List Gain → ℕ → List Change → Type 0
+QueryInserts texts old new nth changes = (mark : Mark) (t : List ℕ)
     → Stand new mark t ↔ (Stand old mark t ⊎ HasMarkBy texts changes nth mark t)
 
 pub nothing_there : (c : Change) → Contains [] c → ⊥
 nothing_there c h = let low = h.1 in omega arith
 
-pub takes_none : (texts : List Bytes) (old : List Gain) (nth : ℕ) → TakesIn texts old old nth []
+pub takes_none : (texts : List Bytes) (old : List Gain) (nth : ℕ) → QueryInserts texts old old nth []
 takes_none texts old nth mark t = (λ s. inl s, from)
   where
     from : Stand old mark t ⊎ HasMarkBy texts [] nth mark t → Stand old mark t
@@ -105,9 +105,9 @@ takes_none texts old nth mark t = (λ s. inl s, from)
     from (inr by) = absurd (nothing_there by.change by.there)
 
 pub takes_more : (texts : List Bytes) (old mid new : List Gain) (nth : ℕ) (changes : List Change) (n : ℕ)
-    (came : Bool) (cells : List ℕ) (c : Change) → TakesIn texts old mid nth (take n changes)
+    (came : Bool) (cells : List ℕ) (c : Change) → QueryInserts texts old mid nth (take n changes)
     → TakesMark mid new nth came cells → slice_get changes n ≡ Some c → sign_of came ≡ c.sign
-    → cells_of texts c.answer ≡ cells → TakesIn texts old new nth (take (n + 1) changes)
+    → cells_of texts c.answer ≡ cells → QueryInserts texts old new nth (take (n + 1) changes)
 takes_more texts old mid new nth changes n came cells c before one at sign is mark t = (to, from)
   where
     more : take (n + 1) changes ≡ take n changes ++ c ∷ []
@@ -155,12 +155,12 @@ takes_more texts old mid new nth changes n came cells c before one at sign is ma
     from (inr by) = there by (Contains-push_cases (take n changes) c by.change
         (subst (λ (cs : List Change). Contains cs by.change) more by.there))
 
-pub all_counted : (k : Kept) (place : ℕ) (changes : List Change) → told_of_member k place ≡ Some changes
+pub all_counted : (k : StoreModel) (place : ℕ) (changes : List Change) → told_of_member k place ≡ Some changes
     → count_in k place ≡ length changes
 all_counted k place changes told = ap (λ (o : Option (List Change)). length (unwrap_or o [])) told
 
 -- the line at a number of a delta that is there
-pub line_below : (k : Kept) (place n width len : ℕ) (came : Bool) (cells : List ℕ)
+pub line_below : (k : StoreModel) (place n width len : ℕ) (came : Bool) (cells : List ℕ)
     → IsSomeAnd (query_at k.places place) (λ l. length (head_types l) ≡ width)
     → Some len ≡ option_map (λ cs. length cs) (told_of_member k place)
     → TellsChangeCells k (record { at = place }) n (sign_of came) cells → IsLine k place n width came cells
@@ -171,14 +171,14 @@ line_below k place n width len came cells query are tells =
 -- ---- What is told of the members is gathered, member by member.
 
 -- what is told of the first n members is gathered
-pub record Collects (k : Kept) (members touched : List ℕ) (n : ℕ) (gains : List Gain) : Type 0 where
+pub record Collects (k : StoreModel) (members touched : List ℕ) (n : ℕ) (gains : List Gain) : Type 0 where
   pub stand : (mark : Mark) (t : List ℕ) → Stand gains mark t
       ↔ ((by : HasMarkOfMember k members touched mark t) × (by.m < n))
   pub told : (i : ℕ) → Contains (take n members) i → is_among touched i ≡ true
       → told_of_member k i ≡ None → ⊥
   pub few : length gains ≤ sum_by (count_in k) (filter (is_among touched) (take n members))
 
-pub collects_none : (k : Kept) (members touched : List ℕ) → Collects k members touched 0 []
+pub collects_none : (k : StoreModel) (members touched : List ℕ) → Collects k members touched 0 []
 collects_none k members touched = record {
   stand = λ mark t. (
     λ s. absurd (let low = s.there.1 in omega arith),
@@ -188,7 +188,7 @@ collects_none k members touched = record {
   few = omega arith;
 }
 
-more_kept : (members touched : List ℕ) (n : ℕ) (k : Kept) → n < length members → (b : Bool)
+more_kept : (members touched : List ℕ) (n : ℕ) (k : StoreModel) → n < length members → (b : Bool)
     → is_among touched (slice_index_or members n 0) ≡ b
     → sum_by (count_in k) (filter (is_among touched) (take (n + 1) members))
     ≡ sum_by (count_in k) (filter (is_among touched) (take n members))
@@ -205,7 +205,7 @@ more_kept members touched n k low false is =
     ∙ append-nil (filter (is_among touched) (take n members))) in
     omega (arith, same)
 
-told_more : (k : Kept) (members touched : List ℕ) (n : ℕ) → n < length members
+told_more : (k : StoreModel) (members touched : List ℕ) (n : ℕ) → n < length members
     → ((i : ℕ) → Contains (take n members) i → is_among touched i ≡ true → told_of_member k i ≡ None → ⊥)
     → (is_among touched (slice_index_or members n 0) ≡ true
     → told_of_member k (slice_index_or members n 0) ≡ None → ⊥)
@@ -229,10 +229,10 @@ last_or_less m n low = elim (cases_lt m n) [
   | inr more ↦ inr (omega arith)
 ]
 
-pub collects_touched : (k : Kept) (members touched : List ℕ) (n : ℕ) (old new : List Gain)
+pub collects_touched : (k : StoreModel) (members touched : List ℕ) (n : ℕ) (old new : List Gain)
     → Collects k members touched n old → n < length members
     → is_among touched (slice_index_or members n 0) ≡ true
-    → TakesIn (k.store).texts old new n (changes_in k (slice_index_or members n 0))
+    → QueryInserts (k.store).texts old new n (changes_in k (slice_index_or members n 0))
     → (told_of_member k (slice_index_or members n 0) ≡ None → ⊥)
     → length new ≤ length old + count_in k (slice_index_or members n 0)
     → Collects k members touched (n + 1) new
@@ -280,7 +280,7 @@ collects_touched k members touched n old new before low among takes told few = r
             (sym (place_is members n h.0.m h.0.place low same h.0.member))
             (subst (λ (m : ℕ). HasMarkBy texts (changes_in k h.0.place) m mark t) same h.0.by)))
 
-pub collects_other : (k : Kept) (members touched : List ℕ) (n : ℕ) (gains : List Gain)
+pub collects_other : (k : StoreModel) (members touched : List ℕ) (n : ℕ) (gains : List Gain)
     → Collects k members touched n gains → n < length members
     → is_among touched (slice_index_or members n 0) ≡ false → Collects k members touched (n + 1) gains
 collects_other k members touched n gains before low other = record {
@@ -306,7 +306,7 @@ collects_other k members touched n gains before low other = record {
         by (inr same) = absurd (false≢true (sym other
             ∙ ap (is_among touched) (place_is members n h.0.m h.0.place low same h.0.member) ∙ h.0.touched_it))
 
-pub collects_all : (k : Kept) (members touched : List ℕ) (n : ℕ) (gains : List Gain)
+pub collects_all : (k : StoreModel) (members touched : List ℕ) (n : ℕ) (gains : List Gain)
     → Collects k members touched n gains → length members ≤ n → GathersGains k members touched gains
 collects_all k members touched n gains all last =
     let whole = take_all n members last in
@@ -335,7 +335,7 @@ all_got P xs i x all is =
     subst P (get_or_from_slice_get xs i x x is) (all i x (slice_get_within xs i x is))
 
 -- they are kept
-pub all_kept : (k : Kept) → PlacesAreKept k → (members : List ℕ) → All IsKeptSomewhere (queries_at k.places members)
+pub all_kept : (k : StoreModel) → PlacesAreKept k → (members : List ℕ) → All IsKeptSomewhere (queries_at k.places members)
 all_kept k over members =
     are_kept k.places (λ i l is. (over.catalog, (over.live i l is).kept)) members
 
@@ -346,12 +346,12 @@ head_long c l types kept =
     ap (λ ts. length ts) (types c l kept) ∙ length-map l.query.head (variable_type c.relations l.query.atoms)
 
 -- the member at a number
-pub record IsMember (k : Kept) (members : List ℕ) (n : ℕ) : Type 0 where
+pub record IsMember (k : StoreModel) (members : List ℕ) (n : ℕ) : Type 0 where
   pub live : Live
   pub at : query_at k.places (slice_index_or members n 0) ≡ Some live
   pub nth : slice_get (queries_at k.places members) n ≡ Some live
 
-pub member_at : (k : Kept) (members : List ℕ) (n : ℕ) → HaveQueries k.places members → n < length members
+pub member_at : (k : StoreModel) (members : List ℕ) (n : ℕ) → HaveQueries k.places members → n < length members
     → IsMember k members n
 member_at k members n have low =
     let q = some_with (query_at k.places (slice_index_or members n 0)) _
@@ -359,7 +359,7 @@ member_at k members n have low =
     record { live = q.value; at = q.is; nth = nth_is k.places members n have.each low ∙ q.is }
 
 -- each has heads as wide as the first
-pub wide_member : (k : Kept) (members : List ℕ) (n width : ℕ) → HeadTypesAre → PlacesAreKept k
+pub wide_member : (k : StoreModel) (members : List ℕ) (n width : ℕ) → HeadTypesAre → PlacesAreKept k
     → HaveQueries k.places members → AreAlike (queries_at k.places members)
     → AtFirstMember k members (λ f. width ≡ length f.query.head) → n < length members
     → IsSomeAnd (query_at k.places (slice_index_or members n 0)) (λ l. length (head_types l) ≡ width)

@@ -20,7 +20,7 @@ use Rattle.djq_live_query.specs.Live.{Live, IsKept, IsShowable, values_of}
 use Rattle.djq_live_query.specs.Member.{has_cells, head_types, in_tree, query_at, queries_at, HaveQueries, HeadTypesAre}
 use Rattle.djq_live_query.specs.Member.{CellsInTreeStand, AnswersAreHad, CellsTellValues, IsShownInTree, AreAlike}
 use Rattle.djq_live_query.proofs.Catalogs.{as_many}
-use Rattle.djq_engine.specs.Kept.{Kept, PlacesAreKept, CellsAre, ToldCellsFit as AreShown}
+use Rattle.djq_engine.specs.StoreModel.{StoreModel, PlacesAreKept, CellsAre, ToldCellsFit as AreShown}
 use Rattle.djq_engine.specs.Lending.{sign_of}
 use Rattle.djq_answer_laws.specs.Net.{opposite_sign}
 use Rattle.djq_gains.specs.declared.marks.Marks.{Marks}
@@ -92,7 +92,7 @@ pub some : {M : Type 0} (P : M → Type 0) (ms : List M) (m : M) → Contains ms
 some P ms m there p = (there.0, m, there.1, there.2, p)
 
 -- What is gathered of the members, and the laws of those that keep them.
-pub record Setting (k : Kept) (members touched : List ℕ) (gains : List Gain) (first : Live) : Type 0
+pub record Setting (k : StoreModel) (members touched : List ℕ) (gains : List Gain) (first : Live) : Type 0
   where
     pub have : HaveQueries k.places members
     pub alike : AreAlike (queries_at k.places members)
@@ -108,12 +108,12 @@ pub record Setting (k : Kept) (members touched : List ℕ) (gains : List Gain) (
     pub tell : CellsTellValues
 
 -- the member at a place
-pub record IsAt (k : Kept) (members : List ℕ) (n place : ℕ) : Type 0 where
+pub record IsAt (k : StoreModel) (members : List ℕ) (n place : ℕ) : Type 0 where
   pub live : Live
   pub at : query_at k.places place ≡ Some live
   pub nth : slice_get (queries_at k.places members) n ≡ Some live
 
-pub at_place : (k : Kept) (members : List ℕ) (n place : ℕ) → HaveQueries k.places members
+pub at_place : (k : StoreModel) (members : List ℕ) (n place : ℕ) → HaveQueries k.places members
     → slice_get members n ≡ Some place → IsAt k members n place
 at_place k members n place have is =
     let low = slice_get_within members n place is in
@@ -126,12 +126,12 @@ pub nth_of : (members : List ℕ) (place : ℕ) (n : ℕ) → n < length members
     → slice_index_or members n place ≡ place → slice_get members n ≡ Some place
 nth_of members place n low is = slice_get-get_or members n place low ∙ ap Some is
 
-pub kept_at : (k : Kept) (over : PlacesAreKept k) (i : ℕ) (l : Live) → query_at k.places i ≡ Some l
+pub kept_at : (k : StoreModel) (over : PlacesAreKept k) (i : ℕ) (l : Live) → query_at k.places i ≡ Some l
     → IsKept over.catalog l
 kept_at k over i l is = (over.live i l is).kept
 
 -- what is told of a query stands for what it tells
-told_stands : (k : Kept) (i : ℕ) (l : Live) (c : Change) → AreShown k → query_at k.places i ≡ Some l
+told_stands : (k : StoreModel) (i : ℕ) (l : Live) (c : Change) → AreShown k → query_at k.places i ≡ Some l
     → Contains (changes_in k i) c
     → StandFor (k.store).texts (head_types l) (cells_of (k.store).texts c.answer) c.answer
 told_stands k i l c shown is there = by (told_of_member k i) refl there
@@ -150,7 +150,7 @@ told_stands k i l c shown is there = by (told_of_member k i) refl there
         subst (λ (u : List ℕ). StandFor texts (head_types l) u c.answer) (s.1).are s.1
 
 -- a query has cells that stand for a tuple exactly where the tuple is an answer
-pub has_is : (k : Kept) (over : PlacesAreKept k) (l : Live) → AnswersAreHad → HeadTypesAre → IsKept over.catalog l
+pub has_is : (k : StoreModel) (over : PlacesAreKept k) (l : Live) → AnswersAreHad → HeadTypesAre → IsKept over.catalog l
     → (u : List ℕ) (v : Tuple) → StandFor (k.store).texts (head_types l) u v
     → (has_cells l u ≡ true) ↔ IsAnswer (k.store).relations l.query v
 has_is k over l had types kept u v stand =
@@ -160,7 +160,7 @@ has_is k over l had types kept u v stand =
     (subst (λ (ts : List Bytes). StandFor ts (head_types l) u v) (sym over.texts) stand)))
 
 -- cells that stand for a tuple show it
-shows_it : (k : Kept) (over : PlacesAreKept k) (l : Live) → CellsInTreeStand → IsKept over.catalog l
+shows_it : (k : StoreModel) (over : PlacesAreKept k) (l : Live) → CellsInTreeStand → IsKept over.catalog l
     → (u : List ℕ) (v : Tuple) → StandFor (k.store).texts (head_types l) u v
     → IsShownInTree (k.store).texts l u v
 shows_it k over l law kept u v stand =
@@ -169,7 +169,7 @@ shows_it k over l law kept u v stand =
     (subst (λ (ts : List Bytes). StandFor ts (head_types l) u v) (sym over.texts) stand))
 
 -- they stand for one tuple
-pub one_value : (k : Kept) (over : PlacesAreKept k) (l : Live) → CellsTellValues → HeadTypesAre
+pub one_value : (k : StoreModel) (over : PlacesAreKept k) (l : Live) → CellsTellValues → HeadTypesAre
     → IsKept over.catalog l → (u : List ℕ) (v w : Tuple)
     → StandFor (k.store).texts (head_types l) u v → StandFor (k.store).texts (head_types l) u w → v ≡ w
 one_value k over l tell types kept u v w a b =
@@ -180,7 +180,7 @@ one_value k over l tell types kept u v w a b =
     (tell c l l refl u u v w (moved v a) (moved w b)).0 refl
 
 -- a tuple that has a mark, by a change that a member's delta has
-pub record IsFor (k : Kept) (members touched : List ℕ) (first : Live) (mark : Mark) (u : List ℕ) : Type 0
+pub record IsFor (k : StoreModel) (members touched : List ℕ) (first : Live) (mark : Mark) (u : List ℕ) : Type 0
   where
     pub m : ℕ
     pub place : ℕ
@@ -191,7 +191,7 @@ pub record IsFor (k : Kept) (members touched : List ℕ) (first : Live) (mark : 
     pub marks : IsMarkOf mark m change.sign
     pub stand : StandFor (k.store).texts (head_types first) u change.answer
 
-alike_stand : (k : Kept) (members touched : List ℕ) (gains : List Gain) (first : Live)
+alike_stand : (k : StoreModel) (members touched : List ℕ) (gains : List Gain) (first : Live)
     → Setting k members touched gains first → (m place : ℕ) → slice_get members m ≡ Some place
     → (c : Change) → Contains (changes_in k place) c
     → StandFor (k.store).texts (head_types first) (cells_of (k.store).texts c.answer) c.answer
@@ -202,7 +202,7 @@ alike_stand k members touched gains first s m place is c there =
     (s.alike.each a.live first (got ls m a.live a.nth) (got ls 0 first s.is_first))
     (told_stands k place a.live c s.shown a.at there)
 
-pub is_for : (k : Kept) (members touched : List ℕ) (gains : List Gain) (first : Live)
+pub is_for : (k : StoreModel) (members touched : List ℕ) (gains : List Gain) (first : Live)
     → Setting k members touched gains first → (mark : Mark) (u : List ℕ) → Stand gains mark u
     → IsFor k members touched first mark u
 is_for k members touched gains first s mark u stand =
@@ -222,23 +222,23 @@ is_for k members touched gains first s mark u stand =
     }
 
 -- what a member's delta is
-abbrev pub delta_at : Kept → List ℕ → ℕ → List Change
+abbrev pub delta_at : StoreModel → List ℕ → ℕ → List Change
 delta_at k touched i = cond (is_among touched i) (changes_in k i) []
 
-pub delta_yes : (k : Kept) (touched : List ℕ) (i : ℕ) → is_among touched i ≡ true
+pub delta_yes : (k : StoreModel) (touched : List ℕ) (i : ℕ) → is_among touched i ≡ true
     → delta_at k touched i ≡ changes_in k i
 delta_yes k touched i among = ap (λ (b : Bool). cond b (changes_in k i) []) among
 
-pub delta_no : (k : Kept) (touched : List ℕ) (i : ℕ) → is_among touched i ≡ false
+pub delta_no : (k : StoreModel) (touched : List ℕ) (i : ℕ) → is_among touched i ≡ false
     → delta_at k touched i ≡ []
 delta_no k touched i among = ap (λ (b : Bool). cond b (changes_in k i) []) among
 
 -- a change that a member's delta has is gathered
-pub record IsGathered (k : Kept) (gains : List Gain) (first : Live) (mark : Mark) (t : Tuple) : Type 0 where
+pub record IsGathered (k : StoreModel) (gains : List Gain) (first : Live) (mark : Mark) (t : Tuple) : Type 0 where
   pub stand : Stand gains mark (cells_of (k.store).texts t)
   pub cells : StandFor (k.store).texts (head_types first) (cells_of (k.store).texts t) t
 
-pub is_gathered : (k : Kept) (members touched : List ℕ) (gains : List Gain) (first : Live)
+pub is_gathered : (k : StoreModel) (members touched : List ℕ) (gains : List Gain) (first : Live)
     → Setting k members touched gains first → (m i : ℕ) (c : Change) (mark : Mark) → slice_get members m ≡ Some i
     → Contains (delta_at k touched i) c → IsMarkOf mark m c.sign → IsGathered k gains first mark c.answer
 is_gathered k members touched gains first s m i c mark is there marks = by (is_among touched i) refl
@@ -290,15 +290,15 @@ same_gain gains apart g h at_g at_h same = elim (cases_order at_g.0 at_h.0) [
         ∙ slice_get-get_or gains n h (omega (arith, e, low)))
 
 -- the value that a tuple shows by the first member
-abbrev pub value : Kept → Live → Gain → Tuple
+abbrev pub value : StoreModel → Live → Gain → Tuple
 value k first g = values_of (k.store).texts first (in_tree first g.cells)
 
 -- what is known of a tuple that is gathered
-pub record IsKnown (k : Kept) (first : Live) (g : Gain) : Type 0 where
+pub record IsKnown (k : StoreModel) (first : Live) (g : Gain) : Type 0 where
   pub showable : IsShowable (k.store).texts first (in_tree first g.cells)
   pub cells : StandFor (k.store).texts (head_types first) g.cells (value k first g)
 
-pub first_kept : (k : Kept) (members touched : List ℕ) (gains : List Gain) (first : Live)
+pub first_kept : (k : StoreModel) (members touched : List ℕ) (gains : List Gain) (first : Live)
     → (s : Setting k members touched gains first) → IsKept (s.over).catalog first
 first_kept k members touched gains first s =
     let ls = queries_at k.places members in
@@ -308,7 +308,7 @@ first_kept k members touched gains first s =
     kept_at k s.over (slice_index_or members 0 0) first
     (m.at ∙ ap Some (same_Some m.live first (sym m.nth ∙ s.is_first)))
 
-pub known : (k : Kept) (members touched : List ℕ) (gains : List Gain) (first : Live)
+pub known : (k : StoreModel) (members touched : List ℕ) (gains : List Gain) (first : Live)
     → Setting k members touched gains first → (g : Gain) → Contains gains g → IsKnown k first g
 known k members touched gains first s g there =
     let by = s.somewhere g there in
@@ -325,7 +325,7 @@ known k members touched gains first s g there =
 -- ---- The marks of a tuple, and the members' deltas that have its value.
 
 -- a tuple has a mark by this change of a member's delta
-pub record IsByMember (k : Kept) (members touched : List ℕ) (first : Live) (g : Gain) (mark : Mark) : Type 0
+pub record IsByMember (k : StoreModel) (members touched : List ℕ) (first : Live) (g : Gain) (mark : Mark) : Type 0
   where
     pub m : ℕ
     pub place : ℕ
@@ -334,7 +334,7 @@ pub record IsByMember (k : Kept) (members touched : List ℕ) (first : Live) (g 
     pub there : Contains (delta_at k touched place) (record { sign = sign; answer = value k first g })
     pub marks : IsMarkOf mark m sign
 
-pub by_member : (k : Kept) (members touched : List ℕ) (gains : List Gain) (first : Live)
+pub by_member : (k : StoreModel) (members touched : List ℕ) (gains : List Gain) (first : Live)
     → Setting k members touched gains first → (g : Gain) → Contains gains g → (mark : Mark)
     → has_mark g.marks mark ≡ true → IsByMember k members touched first g mark
 by_member k members touched gains first s g there mark marked =
@@ -355,7 +355,7 @@ by_member k members touched gains first s g there mark marked =
       marks = f.marks;
     }
 
-pub marked_by : (k : Kept) (members touched : List ℕ) (gains : List Gain) (first : Live)
+pub marked_by : (k : StoreModel) (members touched : List ℕ) (gains : List Gain) (first : Live)
     → Setting k members touched gains first → (g : Gain) → Contains gains g → (m place : ℕ)
     → slice_get members m ≡ Some place → (sign : Sign)
     → Contains (delta_at k touched place) (record { sign = sign; answer = value k first g }) → (mark : Mark)

@@ -29,7 +29,7 @@ use Rattle.djq_enumeration.specs.declared.log.Line.{Line}
 use Rattle.djq_database.specs.Cells.{cells_of}
 use Rattle.djq_live_query.specs.Live.{Live}
 use Rattle.djq_live_query.specs.Member.{has_cells, in_tree}
-use Rattle.djq_engine.specs.Kept.{Kept}
+use Rattle.djq_engine.specs.StoreModel.{StoreModel}
 use Rattle.djq_gains.specs.Gains.{told_of_member, changes_in, count_in}
 use Rattle.djq_gains.specs.Gathered.{Gain, Mark, IsMarkOf, Stand}
 
@@ -38,7 +38,7 @@ abbrev pub is_among : List ℕ → ℕ → Bool
 is_among places i = list_any (λ j. j == i) places
 
 -- how many answers are in the deltas of those members that were touched
-abbrev pub gain_count : Kept → List ℕ → List ℕ → ℕ
+abbrev pub gain_count : StoreModel → List ℕ → List ℕ → ℕ
 gain_count k members touched = sum_by (count_in k) (filter (is_among touched) members)
 
 -- A change of the nth delta gives a mark to the tuple with these cells.
@@ -50,7 +50,7 @@ pub record HasMarkBy (texts : List Bytes) (changes : List Change) (nth : ℕ) (m
   pub marks : IsMarkOf mark nth change.sign
 
 -- A change of the mth member's delta does, and this member was touched.
-pub record HasMarkOfMember (k : Kept) (members touched : List ℕ) (mark : Mark) (cells : List ℕ) : Type 0
+pub record HasMarkOfMember (k : StoreModel) (members touched : List ℕ) (mark : Mark) (cells : List ℕ) : Type 0
   where
     pub m : ℕ
     pub place : ℕ
@@ -59,7 +59,7 @@ pub record HasMarkOfMember (k : Kept) (members touched : List ℕ) (mark : Mark)
     pub by : HasMarkBy (k.store).texts (changes_in k place) m mark cells
 
 -- All answers in the deltas of the members that were touched are gathered; none of these is lost.
-pub record GathersGains (k : Kept) (members touched : List ℕ) (gains : List Gain) : Type 0 where
+pub record GathersGains (k : StoreModel) (members touched : List ℕ) (gains : List Gain) : Type 0 where
   pub stand : (mark : Mark) (cells : List ℕ) → Stand gains mark cells
       ↔ HasMarkOfMember k members touched mark cells
   pub told : (i : ℕ) → Contains members i → is_among touched i ≡ true → told_of_member k i ≡ None → ⊥

@@ -85,7 +85,7 @@ fn unmark(marks: &mut Vec<Marks>, slot: u32)
 }
 
 /// Writes a tuple into a slot, which has no mark. Out of memory, nothing changes.
-fn lay(tuples: &mut Arena, marks: &mut Vec<Marks>, cells: &[u64]) -> Result<u32, AllocError>
+fn insert_at(tuples: &mut Arena, marks: &mut Vec<Marks>, cells: &[u64]) -> Result<u32, AllocError>
     requires wide { length cells.now ≡ tuples.old.width }
     requires room { tuples.old.room ≤ length marks.old.items }
     ensures width { tuples.new.width ≡ tuples.old.width }
@@ -109,7 +109,11 @@ fn lay(tuples: &mut Arena, marks: &mut Vec<Marks>, cells: &[u64]) -> Result<u32,
 }
 
 /// The slot of a tuple; it is inserted if there is none.
-fn seat(tuples: &mut Arena, marks: &mut Vec<Marks>, cells: &[u64]) -> Result<u32, AllocError>
+fn find_or_insert(
+    tuples: &mut Arena,
+    marks: &mut Vec<Marks>,
+    cells: &[u64],
+) -> Result<u32, AllocError>
     requires wide { length cells.now ≡ tuples.old.width }
     requires room { tuples.old.room ≤ length marks.old.items }
     ensures width { tuples.new.width ≡ tuples.old.width }
@@ -123,7 +127,7 @@ fn seat(tuples: &mut Arena, marks: &mut Vec<Marks>, cells: &[u64]) -> Result<u32
 {
     match tuples.find(cells) {
         Some(slot) => Ok(slot),
-        None => lay(tuples, marks, cells),
+        None => insert_at(tuples, marks, cells),
     }
 }
 
@@ -176,7 +180,7 @@ impl Gains {
             ↔ (Stand self.old.gains m t ⊎ (IsMarkOf m nth (sign_of came) × (t ≡ cells.now)))) }
         ensures few { IfOk result (λ _. length self.new.gains ≤ length self.old.gains + 1) }
     {
-        let slot = seat(&mut self.tuples, &mut self.marks, cells.as_slice())?;
+        let slot = find_or_insert(&mut self.tuples, &mut self.marks, cells.as_slice())?;
         self.tuples.laws();
         mark(&mut self.marks, slot, nth, came);
         Ok(())

@@ -10,7 +10,7 @@ ghost use Rattle.djq_index.specs.Raw.{ends_at};
 ghost use Rattle.djq_arena.specs.declared.link.TheConstants.{SLOTS};
 
 use crate::raw::KEY;
-use djq_arena::{Arena, Ends, Link, Pair, ends_after_push, enter, leave, pair_of};
+use djq_arena::{Arena, Ends, Link, Pair, ends_after_push, link_back, pair_of, remove_link};
 use smallvec::SmallVec;
 use std::alloc::AllocError;
 
@@ -32,7 +32,7 @@ pub fn join(links: &mut Vec<Pair>, ends: &mut Vec<Ends>, slot: u32, head: u32)
     ensures ends { ends.new.items ≡ slice_set ends.old.items head (extended slot (ends_at ends.old.items head)) }
 {
     let known = known_ends(ends, head);
-    enter(links, known.last, slot);
+    link_back(links, known.last, slot);
     ends[head as usize] = ends_after_push(&known, slot);
 }
 
@@ -47,7 +47,7 @@ pub fn unlink(links: &mut Vec<Pair>, ends: &mut Vec<Ends>, slot: u32, head: u32)
         (shrunk (pair_at links.old.items slot) (ends_at ends.old.items head)) }
 {
     let pair = pair_of(links, slot);
-    leave(links, &mut ends[head as usize], &pair);
+    remove_link(links, &mut ends[head as usize], &pair);
 }
 
 /// Removes a head if its group is empty.

@@ -59,7 +59,7 @@ pub fn touch_keyed(raw: &mut Raw, place: Place)
     let note = note_of(&raw.notes, slot);
     unlink(&mut raw.links, &mut raw.ends, slot, note.head);
     join(&mut raw.links, &mut raw.ends, slot, note.head);
-    raw.rows.renew(slot);
+    raw.rows.move_to_end(slot);
     raw.rows.laws();
     mark(raw, slot);
 }
@@ -76,7 +76,7 @@ pub fn touch_bare(raw: &mut Raw, place: Place)
     ensures width { raw.new.rows.width ≡ raw.old.rows.width }
 {
     let slot = place.slot();
-    raw.rows.renew(slot);
+    raw.rows.move_to_end(slot);
     raw.rows.laws();
     mark(raw, slot);
 }

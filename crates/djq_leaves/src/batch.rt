@@ -62,7 +62,7 @@ fn are_tuples(pattern: &Pattern, rows: &[Cells]) -> bool
     let mut room = Cells::new(0);
     'rows: for i in 0..rows.len() {
         let row = rows[i].as_slice();
-        let Some(tuple) = pattern.lend(row, &mut room) else {
+        let Some(tuple) = pattern.project(row, &mut room) else {
             return false;
         };
         if !are_same(tuple, row) {
@@ -81,7 +81,7 @@ fn tuples_of(alloc: Global, pattern: &Pattern, rows: &[Cells]) -> Result<Sequenc
     let mut tuples = Sequence::new(alloc);
     let mut room = Cells::new(0);
     'rows: for i in 0..rows.len() {
-        let Some(tuple) = pattern.lend(rows[i].as_slice(), &mut room) else {
+        let Some(tuple) = pattern.project(rows[i].as_slice(), &mut room) else {
             continue;
         };
         tuples.push(Cells::from_slice(tuple))?;

@@ -39,7 +39,7 @@ fn insert_row<U: Ledger>(
     ensures { IfOk result (λ _. TakesRow pattern.now leaf row.now reducts.old reducts.new) }
 {
     let mut room = Cells::new(0);
-    let Some(tuple) = pattern.lend(row, &mut room) else {
+    let Some(tuple) = pattern.project(row, &mut room) else {
         return Ok(());
     };
     add_leaf(reducts, leaf, tuple, update)?;

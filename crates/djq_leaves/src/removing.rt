@@ -45,7 +45,7 @@ fn mark_rows<L: Ledger>(
     reducts.laws();
     let mut room = Cells::new(0);
     'rows: for i in 0..rows.len() {
-        let Some(tuple) = pattern.lend(rows[i].as_slice(), &mut room) else {
+        let Some(tuple) = pattern.project(rows[i].as_slice(), &mut room) else {
             continue;
         };
         mark_tuple(reducts, leaf, tuple, update);

@@ -91,7 +91,7 @@ fn add_to_leaf<L: Ledgers>(
 {
     reducts.laws();
     let mut room = Cells::new(0);
-    let Some(tuple) = pattern.lend(cells, &mut room) else {
+    let Some(tuple) = pattern.project(cells, &mut room) else {
         return Ok(());
     };
     if wanted {
@@ -129,7 +129,7 @@ fn delete_from_leaf<L: Ledgers>(
 {
     reducts.laws();
     let mut room = Cells::new(0);
-    let Some(tuple) = pattern.lend(cells, &mut room) else {
+    let Some(tuple) = pattern.project(cells, &mut room) else {
         return;
     };
     if wanted {

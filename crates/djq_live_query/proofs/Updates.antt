@@ -44,7 +44,7 @@ use Rattle.djq_leaves.proofs.LeafUpdates.{part_few}
 use Rattle.djq_leaves.proofs.Batches.{times_in}
 use Rattle.djq_live_query.specs.Shown.{shown}
 use Rattle.djq_live_query.specs.Live.{Live, IsKept, SameQuery, values_of}
-use Rattle.djq_live_query.specs.Updating.{CanAdd, CanDelete, KeptAfter, IsDeltaOf, LogsWhere, CountsDelta, atoms_over}
+use Rattle.djq_live_query.specs.Updating.{CanAdd, CanDelete, LiveAfter, IsDeltaOf, LogsWhere, CountsDelta, atoms_over}
 use Rattle.djq_live_query.specs.Updating.{change_of, CanAddAll}
 use Rattle.djq_live_query.proofs.TreeAnswers.{tree_answer}
 use Rattle.djq_live_query.proofs.LeafRows.{leaf_few, leaves_of, none_there, all_there, added_kept, lost_kept}
@@ -166,7 +166,7 @@ pub follows_came : (l self : Live) (s : Reducts) (at : ℕ) (cells : List (List 
     (atoms : List NumberedAtom) (ps : List Shape) → l ≡ self → atoms ≡ (l.numbered).atoms
     → ps ≡ l.patterns
     → ChangesBelow (λ p old new. GainsAll p cells old new) at atoms ps (length atoms) l.reducts s
-    → KeptAfter (λ c d. CameAll c d at cells) self (record l { reducts = s })
+    → LiveAfter (λ c d. CameAll c d at cells) self (record l { reducts = s })
 follows_came l self s at cells atoms ps e a p change = λ c d rows h came.
     added_kept c d l s at cells rows (subst (λ (x : Live). IsKept c x) (sym e) h) came
     (outside (λ x y. ChangesBelow (λ q old new. GainsAll q cells old new) at x y (length x)
@@ -177,7 +177,7 @@ pub follows_went : (l self : Live) (s : Reducts) (at : ℕ) (cells : List (List 
     (atoms : List NumberedAtom) (ps : List Shape) → l ≡ self → atoms ≡ (l.numbered).atoms
     → ps ≡ l.patterns
     → ChangesBelow (λ p old new. LosesAll p cells old new) at atoms ps (length atoms) l.reducts s
-    → KeptAfter (λ c d. WentAll c d at cells) self (record l { reducts = s })
+    → LiveAfter (λ c d. WentAll c d at cells) self (record l { reducts = s })
 follows_went l self s at cells atoms ps e a p change = λ c d gone h went.
     lost_kept c d l s at cells gone (subst (λ (x : Live). IsKept c x) (sym e) h) went
     (outside (λ x y. ChangesBelow (λ q old new. LosesAll q cells old new) at x y (length x) l.reducts
@@ -462,8 +462,8 @@ counts_went wanted l self s at cells atoms ps log new x y e a p more change list
 
 -- ---- one row
 
-pub follows_one : (Changed : Catalog → Catalog → List Tuple → Type 0) (l m : Live) → KeptAfter Changed l m
-    → KeptAfter (λ c d row. Changed c d (row ∷ [])) l m
+pub follows_one : (Changed : Catalog → Catalog → List Tuple → Type 0) (l m : Live) → LiveAfter Changed l m
+    → LiveAfter (λ c d row. Changed c d (row ∷ [])) l m
 follows_one Changed l m h = λ c d row kept changed. h c d (row ∷ []) kept changed
 
 pub logs_one : (Changed : Catalog → Catalog → List Tuple → Type 0) (wanted : Bool) (l : Live) (log new : Log)

@@ -53,8 +53,8 @@ pub record CanDeleteAll (l : Live) (at : ℕ) (cells : List (List ℕ)) : Type 0
   pub went : WentAll before after at cells rows
 
 -- The query is maintained over the later catalog, too, whatever changed: a row or some rows.
-abbrev pub KeptAfter : {R : Type 0} → (Catalog → Catalog → R → Type 0) → Live → Live → Type 0
-KeptAfter {R} Changed old new = (c d : Catalog) (what : R) → IsKept c old → Changed c d what
+abbrev pub LiveAfter : {R : Type 0} → (Catalog → Catalog → R → Type 0) → Live → Live → Type 0
+LiveAfter {R} Changed old new = (c d : Catalog) (what : R) → IsKept c old → Changed c d what
     → IsKept d new
 
 -- the change of a line of a log

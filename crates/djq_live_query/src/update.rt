@@ -13,7 +13,7 @@ ghost use Rattle.djq_live_query.specs.Updating.{
   CanAddAll,
   CanDelete,
   CanDeleteAll,
-  KeptAfter,
+  LiveAfter,
   LogsWhere,
   IsEmpty,
   CountsBatchAt,
@@ -58,7 +58,7 @@ impl LiveQuery {
         steps: &mut Steps<L>,
     ) -> Result<(), NoMem>
         requires { CanAdd self.old relation.at cells.now }
-        ensures added { OnOk result (KeptAfter (λ c d. Came c d relation.at cells.now)
+        ensures added { OnOk result (LiveAfter (λ c d. Came c d relation.at cells.now)
             self.old self.new) }
         ensures refused { OnErr result ((c : CatalogModel) → IsKept c self.old
             → IsKept c self.new) }
@@ -134,7 +134,7 @@ impl LiveQuery {
         steps: &mut Steps<L>,
     ) -> Result<(), NoMem>
         requires { CanAddAll self.old relation.at rows.now }
-        ensures added { OnOk result (KeptAfter (λ c d. CameAll c d relation.at rows.now)
+        ensures added { OnOk result (LiveAfter (λ c d. CameAll c d relation.at rows.now)
             self.old self.new) }
         ensures refused { OnErr result ((c : CatalogModel) → IsKept c self.old
             → IsKept c self.new) }
@@ -201,7 +201,7 @@ impl LiveQuery {
         steps: &mut Steps<L>,
     )
         requires { CanDelete self.old relation.at cells.now }
-        ensures deleted { KeptAfter (λ c d. Went c d relation.at cells.now) self.old self.new }
+        ensures deleted { LiveAfter (λ c d. Went c d relation.at cells.now) self.old self.new }
         ensures same { SameQuery self.old self.new }
         ensures fewer { HasMore self.new.reducts self.old.reducts }
         ensures log { LogsWhere wanted (λ c d. Went c d relation.at cells.now)
@@ -248,7 +248,7 @@ impl LiveQuery {
         steps: &mut Steps<L>,
     )
         requires { CanDeleteAll self.old relation.at rows.now }
-        ensures deleted { KeptAfter (λ c d. WentAll c d relation.at rows.now) self.old self.new }
+        ensures deleted { LiveAfter (λ c d. WentAll c d relation.at rows.now) self.old self.new }
         ensures same { SameQuery self.old self.new }
         ensures fewer { HasMore self.new.reducts self.old.reducts }
         ensures log { LogsWhere wanted (λ c d. WentAll c d relation.at rows.now)
@@ -284,7 +284,7 @@ impl LiveQuery {
         steps: &mut Steps<L>,
     )
         requires { CanDelete self.old relation.at cells.now }
-        ensures deleted { KeptAfter (λ c d. Went c d relation.at cells.now) self.old self.new }
+        ensures deleted { LiveAfter (λ c d. Went c d relation.at cells.now) self.old self.new }
         ensures same { SameQuery self.old self.new }
         ensures fewer { HasMore self.new.reducts self.old.reducts }
         ensures counted { steps.new.listing ≡ steps.old.listing }

@@ -25,7 +25,7 @@ use Rattle.djq_reach.specs.Growing.{Grows}
 use Rattle.djq_reach.proofs.CatalogChains.{Names, ReadsNone, reach_on, reads_of}
 use Rattle.djq_reach.proofs.PlacedQueries.{reached_one, taken_all, same_refl, same_then}
 use Rattle.djq_reach.proofs.RowChanges.{all_front}
-use Rattle.djq_queries.specs.Going.{RowsWentOut, GoesBy, GroupsGo, CanGoOutBy, CanGoOutAll, LetsGoAll}
+use Rattle.djq_queries.specs.Going.{RowsWentOut, GoesBy, GroupsGo, CanGoOutBy, CanGoOutAll, QueryDeletesRows}
 use Rattle.djq_queries.specs.Going.{BoundedAt}
 use Rattle.djq_queries.specs.Netting.{GroupsOnlyCome, GroupsOnlyGo}
 use Rattle.djq_queries.proofs.Catalogs.{names_went, rows_fewer, rows_more, went_past}
@@ -176,17 +176,17 @@ module _ (readers : List (List ℕ)) (groups : List Group) (gs : List (Option Li
 -- ---- the queries, group after group
 
 -- A query that was kept before the first of the groups is kept behind them.
-pub record LetsGoBy (readers : List (List ℕ)) (groups : List Group) (gs : List (Option Live)) (k : ℕ) (l m : Live) :
+pub record QueryDeletesBy (readers : List (List ℕ)) (groups : List Group) (gs : List (Option Live)) (k : ℕ) (l m : Live) :
     Type 0 where
   pub follows : (c d : Catalog) → IsKept c l → GroupsGo readers (take k groups) gs c d → IsKept d m
   pub same : SameQuery l m
 
 pub lets_none : (readers : List (List ℕ)) (groups : List Group) (gs : List (Option Live))
-    → Reach (reached readers groups) (LetsGoBy readers groups gs 0) gs gs
+    → Reach (reached readers groups) (QueryDeletesBy readers groups gs 0) gs gs
 lets_none readers groups gs = record
     { length = refl; each = λ i. by (is_reader (reached readers groups) i) (place_at gs i) }
   where
-    by : (b : Bool) (p : Option Live) → DoneAt (LetsGoBy readers groups gs 0) b p p
+    by : (b : Bool) (p : Option Live) → DoneAt (QueryDeletesBy readers groups gs 0) b p p
     by false p = refl
     by true None = tt
     by true (Some l) = record {
@@ -195,25 +195,25 @@ lets_none readers groups gs = record
     }
 
 pub all_kept_gone : (ps : List ℕ) (readers : List (List ℕ)) (groups : List Group) (gs now : List (Option Live)) (k : ℕ)
-    (c d : Catalog) → Reach ps (LetsGoBy readers groups gs k) gs now
+    (c d : Catalog) → Reach ps (QueryDeletesBy readers groups gs k) gs now
     → AllAt ps gs (λ l. IsKept c l) → GroupsGo readers (take k groups) gs c d → AllAt ps now (λ m. IsKept d m)
 all_kept_gone ps readers groups gs now k c d r kept leads i e =
     by (place_at gs i) (place_at now i)
-    (subst (λ (b : Bool). DoneAt (LetsGoBy readers groups gs k) b (place_at gs i) (place_at now i)) e (r.each i))
+    (subst (λ (b : Bool). DoneAt (QueryDeletesBy readers groups gs k) b (place_at gs i) (place_at now i)) e (r.each i))
     (kept i e)
   where
-    by : (p q : Option Live) → DoneAt (LetsGoBy readers groups gs k) true p q → IsSomeAnd p (λ l. IsKept c l)
+    by : (p q : Option Live) → DoneAt (QueryDeletesBy readers groups gs k) true p q → IsSomeAnd p (λ l. IsKept c l)
         → IsSomeAnd q (λ m. IsKept d m)
     by None q t h = absurd h
     by (Some l) None t h = absurd t
     by (Some l) (Some m) t h = t.follows c d h leads
 
 pub lets_same : (ps : List ℕ) (readers : List (List ℕ)) (groups : List Group) (gs now : List (Option Live)) (k : ℕ)
-    → Reach ps (LetsGoBy readers groups gs k) gs now → Reach ps SameQuery gs now
+    → Reach ps (QueryDeletesBy readers groups gs k) gs now → Reach ps SameQuery gs now
 lets_same ps readers groups gs now k r = record
     { length = r.length; each = λ i. by (is_reader ps i) (place_at gs i) (place_at now i) (r.each i) }
   where
-    by : (b : Bool) (p q : Option Live) → DoneAt (LetsGoBy readers groups gs k) b p q → DoneAt SameQuery b p q
+    by : (b : Bool) (p q : Option Live) → DoneAt (QueryDeletesBy readers groups gs k) b p q → DoneAt SameQuery b p q
     by false p q e = e
     by true None None t = tt
     by true None (Some m) t = absurd t
@@ -241,12 +241,12 @@ module _ (readers : List (List ℕ)) (groups : List Group) (gs : List (Option Li
         (sym (s.front.reading g.relation.at i s.inside) ∙ subst (λ (ps : List ℕ). is_reader ps i ≡ false) are e)
 
     pub lets_more : (now new : List (Option Live))
-        → Reach (reached readers groups) (LetsGoBy readers groups gs k) gs now
-        → Reach places (LetsGoAll g.relation.at cells) now new
-        → Reach (reached readers groups) (LetsGoBy readers groups gs (k + 1)) gs new
+        → Reach (reached readers groups) (QueryDeletesBy readers groups gs k) gs now
+        → Reach places (QueryDeletesRows g.relation.at cells) now new
+        → Reach (reached readers groups) (QueryDeletesBy readers groups gs (k + 1)) gs new
     lets_more now new a b =
-        reach_on (reached readers groups) places (LetsGoBy readers groups gs k) (LetsGoAll g.relation.at cells)
-        (LetsGoBy readers groups gs (k + 1)) gs now new place_reached a b
+        reach_on (reached readers groups) places (QueryDeletesBy readers groups gs k) (QueryDeletesRows g.relation.at cells)
+        (QueryDeletesBy readers groups gs (k + 1)) gs now new place_reached a b
         (λ i l m n there now e f t u. record {
           follows = λ c d kept leads.
               let s = one_gone readers groups gs k g c d low is leads in
@@ -265,7 +265,7 @@ module _ (readers : List (List ℕ)) (groups : List Group) (gs : List (Option Li
 
     -- what the group needs
     pub group_leaves : (now : List (Option Live)) → CanGoOutBy readers groups gs
-        → Reach (reached readers groups) (LetsGoBy readers groups gs k) gs now
+        → Reach (reached readers groups) (QueryDeletesBy readers groups gs k) gs now
         → CanGoOutAll places g.relation.at cells now
     group_leaves now h r =
         let far = leads_first readers groups gs h.before h.after (k + 1) h.leads in
@@ -281,8 +281,8 @@ module _ (readers : List (List ℕ)) (groups : List Group) (gs : List (Option Li
 
     -- what bounds the queries bounds them still
     pub bounded_still : (now new : List (Option Live)) (n : ℕ) (flat : ℕ → Bool) → CanGoOutBy readers groups gs
-        → Reach (reached readers groups) (LetsGoBy readers groups gs k) gs now
-        → Reach places (LetsGoAll g.relation.at cells) now new
+        → Reach (reached readers groups) (QueryDeletesBy readers groups gs k) gs now
+        → Reach places (QueryDeletesRows g.relation.at cells) now new
         → BoundedAt (reached readers groups) now n flat → BoundedAt (reached readers groups) new n flat
     bounded_still now new n flat h r b few i e =
         by (is_reader places i) refl (place_at now i) refl (place_at new i) (b.each i) (few i e)
@@ -290,14 +290,14 @@ module _ (readers : List (List ℕ)) (groups : List Group) (gs : List (Option Li
         can : CanGoOutAll places g.relation.at cells now
         can = group_leaves now h r
 
-        still : (f : Bool) (m x : Live) → IsKept can.before m → LetsGoAll g.relation.at cells m x → IsBounded n f m
+        still : (f : Bool) (m x : Live) → IsKept can.before m → QueryDeletesRows g.relation.at cells m x → IsBounded n f m
             → IsBounded n f x
         still true m x kept t few = subst (λ (q : Query). IsFlat (edges_of q) (head_of q)) (sym t.same.query) few
         still false m x kept t few = fewer_stay x.reducts m.reducts n
             (t.follows can.before can.after can.rows kept can.goes.went).over.reducts t.fewer few
 
         by : (f : Bool) → is_reader places i ≡ f → (p : Option Live) → place_at now i ≡ p → (q : Option Live)
-            → DoneAt (LetsGoAll g.relation.at cells) f p q → IsSomeAnd p (IsBounded n (flat i))
+            → DoneAt (QueryDeletesRows g.relation.at cells) f p q → IsSomeAnd p (IsBounded n (flat i))
             → IsSomeAnd q (IsBounded n (flat i))
         by f ef None ep q t few = absurd few
         by true ef (Some m) ep None t few = absurd t

@@ -16,7 +16,7 @@ use Rattle.djq_live_query.specs.Updating.{IsDeltaOf, IsEmpty, LogsDelta, LogsWhe
 use Rattle.djq_reach.specs.declared.group.Group.{Group}
 use Rattle.djq_reach.specs.Places.{place_at, is_reader, log_at, watched_at}
 use Rattle.djq_reach.specs.Reaching.{DoneAt, Reach, AllAt, Renews}
-use Rattle.djq_reach.specs.Tending.{Empties, LogTellsAt, LogTellsOver, TellsWhere, TendedAt, Tends}
+use Rattle.djq_reach.specs.Tending.{Empties, LogTellsAt, LogTellsOver, TellsWhere, TendedAt, LogsHold}
 use Rattle.djq_reach.specs.Batching.{LogsAt}
 use Rattle.djq_reach.specs.Grouping.{Clears, GroupsLead, reached}
 use Rattle.djq_reach.proofs.CatalogChains.{unread_by}
@@ -119,9 +119,9 @@ module _ (readers : List (List ℕ)) (come gone : List Group) (gs mid : List (Op
 
   pub tends_halves : (ws : List ℕ) (first empty some new : List Log)
       → Clears (λ i. is_reader (reached readers gone) i && watched_at ws i) first empty
-      → Tends (reached readers come) (LogTellsAt ws (λ x y (w : ⊤). GroupsLead readers come gs x y)) gs empty some
-      → Tends (reached readers gone) (LogsAt ws (λ x y (w : ⊤). GroupsGo readers gone mid x y)) mid some new
-      → Tends (touched readers come gone) (TellsHalvesAt ws c e d) gs first new
+      → LogsHold (reached readers come) (LogTellsAt ws (λ x y (w : ⊤). GroupsLead readers come gs x y)) gs empty some
+      → LogsHold (reached readers gone) (LogsAt ws (λ x y (w : ⊤). GroupsGo readers gone mid x y)) mid some new
+      → LogsHold (touched readers come gone) (TellsHalvesAt ws c e d) gs first new
   tends_halves ws first empty some new clear a b = record {
     long = b.long ∙ a.long ∙ clear.long;
     each = λ i. subst (λ (f : Bool). TendedAt (TellsHalvesWhere (watched_at ws i) c e d) f (place_at gs i)

@@ -28,7 +28,7 @@ use Rattle.djq_reach.proofs.Logs.{behind, sums_both}
 use Rattle.djq_reach.proofs.PlacedQueries.{apart, reader_more}
 use Rattle.djq_queries.specs.Going.{GroupsGo}
 use Rattle.djq_queries.proofs.Catalogs.{went_falls}
-use Rattle.djq_queries.proofs.Chains.{LetsGoBy, OneGone, all_kept_gone, falls_by, goes_so, one_gone, place_reached}
+use Rattle.djq_queries.proofs.Chains.{QueryDeletesBy, OneGone, all_kept_gone, falls_by, goes_so, one_gone, place_reached}
 use Rattle.djq_queries.proofs.Deltas.{first_gone, first_falls, gone_long, last_gone, last_falls}
 
 -- ---- sums over some of the places
@@ -140,7 +140,7 @@ costs_start readers groups gs ws n c d f order leads kept deltas among = omega a
 point : (readers : List (List ℕ)) (groups : List Group) (gs : List (Option Live)) (k : ℕ) (ats more : List ℕ) (at : ℕ)
     (e : Catalog) (zs : List Change)
     → more ≡ ats ++ at ∷ [] → is_reader ats at ≡ false → (w r : Bool) (p q : Option Live)
-    → DoneAt (LetsGoBy readers groups gs k) true p q
+    → DoneAt (QueryDeletesBy readers groups gs k) true p q
     → cond w (batch_cost ats (firsts e p zs) p) 0 + cond r (cond w (listing_cost at (seconds e p zs) q) 0) 0 ≤ cond w
     (batch_cost more zs p) 0
 point readers groups gs k ats more at e zs is out false true p q t = omega arith
@@ -198,7 +198,7 @@ module _ (readers : List (List ℕ)) (groups : List Group) (gs : List (Option Li
     (places : List ℕ) (cells : List (List ℕ)) (are : places ≡ readers_at readers g.relation.at) (rows : cells ≡ g.rows)
     (once : AreOnce places)
     (fresh : is_reader (group_relations (take k groups)) g.relation.at ≡ false) (now : List (Option Live))
-    (r : Reach (reached readers groups) (LetsGoBy readers groups gs k) gs now) where
+    (r : Reach (reached readers groups) (QueryDeletesBy readers groups gs k) gs now) where
   pub costs_more : (before mid after : ℕ) → CostsGoneSo readers groups gs ws k before mid
       → Costs (λ c d. WentAll c d g.relation.at cells) places ws now g.relation.at mid after
       → CostsGoneSo readers groups gs ws (k + 1) before after
@@ -221,7 +221,7 @@ module _ (readers : List (List ℕ)) (groups : List Group) (gs : List (Option Li
       (λ i h. point readers groups gs k (group_relations (take k groups)) (group_relations (take (k + 1) groups))
       g.relation.at e (f i)
       (relations_more groups k g low is) fresh (watched_at ws i) (is_reader places i) (place_at gs i) (place_at now i)
-      (subst (λ (b : Bool). DoneAt (LetsGoBy readers groups gs k) b (place_at gs i) (place_at now i))
+      (subst (λ (b : Bool). DoneAt (QueryDeletesBy readers groups gs k) b (place_at gs i) (place_at now i))
       (passes_filter (is_reader (reached readers groups)) order i h) (r.each i))) in
       omega (arith, first, second, part, both)
     where
@@ -249,11 +249,11 @@ module _ (readers : List (List ℕ)) (groups : List Group) (gs : List (Option Li
       late : (i : ℕ) (m : Live) → is_reader places i ≡ true → watched_at ws i ≡ true → place_at now i ≡ Some m
           → IsDeltaOf m step.middle d (seconds step.middle (place_at gs i) (f i))
       late i m h w there = by (place_at gs i) refl
-          (subst (λ (o : Option Live). DoneAt (LetsGoBy readers groups gs k) true (place_at gs i) o) there
-          (subst (λ (b : Bool). DoneAt (LetsGoBy readers groups gs k) b (place_at gs i) (place_at now i)) (inside i h)
+          (subst (λ (o : Option Live). DoneAt (QueryDeletesBy readers groups gs k) true (place_at gs i) o) there
+          (subst (λ (b : Bool). DoneAt (QueryDeletesBy readers groups gs k) b (place_at gs i) (place_at now i)) (inside i h)
           (r.each i)))
         where
-          by : (p : Option Live) → place_at gs i ≡ p → DoneAt (LetsGoBy readers groups gs k) true p (Some m)
+          by : (p : Option Live) → place_at gs i ≡ p → DoneAt (QueryDeletesBy readers groups gs k) true p (Some m)
               → IsDeltaOf m step.middle d (seconds step.middle p (f i))
           by None e t = absurd t
           by (Some l) e t =

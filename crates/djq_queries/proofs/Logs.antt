@@ -19,7 +19,7 @@ use Rattle.djq_live_query.specs.Updating.{IsDeltaOf, LogsDelta, LogsWhere, chang
 use Rattle.djq_reach.specs.declared.group.Group.{Group}
 use Rattle.djq_reach.specs.Places.{place_at, is_reader, readers_at, log_at, watched_at}
 use Rattle.djq_reach.specs.Reaching.{DoneAt, Reach}
-use Rattle.djq_reach.specs.Tending.{TendedAt, Tends}
+use Rattle.djq_reach.specs.Tending.{TendedAt, LogsHold}
 use Rattle.djq_reach.specs.Batching.{LogsAt}
 use Rattle.djq_reach.specs.Grouping.{reached}
 use Rattle.djq_reach.proofs.Groups.{delta_same, showable_same}
@@ -27,7 +27,7 @@ use Rattle.djq_reach.proofs.Logs.{all_none}
 use Rattle.djq_reach.proofs.RowChanges.{delta_as, delta_none}
 use Rattle.djq_queries.specs.Going.{GroupsGo}
 use Rattle.djq_queries.proofs.Catalogs.{names_went, went_falls, went_rests}
-use Rattle.djq_queries.proofs.Chains.{LetsGoBy, falls_by, goes_so, none_gone, one_gone, place_reached}
+use Rattle.djq_queries.proofs.Chains.{QueryDeletesBy, falls_by, goes_so, none_gone, one_gone, place_reached}
 use Rattle.djq_queries.proofs.Chains.{unread_gone}
 use Rattle.djq_queries.proofs.Deltas.{deltas_fall}
 
@@ -53,7 +53,7 @@ logs_none readers groups gs l log = record {
 
 pub tends_start : (readers : List (List ℕ)) (groups : List Group) (gs : List (Option Live)) (ws : List ℕ)
     (logs : List Log)
-    → Tends (reached readers groups) (LogsAt ws (λ c d (w : ⊤). GroupsGo readers (take 0 groups) gs c d)) gs logs logs
+    → LogsHold (reached readers groups) (LogsAt ws (λ c d (w : ⊤). GroupsGo readers (take 0 groups) gs c d)) gs logs logs
 tends_start readers groups gs ws logs = record {
   long = refl;
   each = λ i. by i (is_reader (reached readers groups) i) (place_at gs i) (watched_at ws i);
@@ -72,7 +72,7 @@ module _ (readers : List (List ℕ)) (groups : List Group) (gs : List (Option Li
     (places : List ℕ) (cells : List (List ℕ)) (are : places ≡ readers_at readers g.relation.at) (rows : cells ≡ g.rows)
   where
     -- a group of a relation that the query reads
-    logs_read : (l m : Live) (first old new : Log) → LetsGoBy readers groups gs k l m
+    logs_read : (l m : Live) (first old new : Log) → QueryDeletesBy readers groups gs k l m
         → LogsDelta (λ c d (w : ⊤). GroupsGo readers (take k groups) gs c d) l first old
         → LogsDelta (λ c d. WentAll c d g.relation.at cells) m old new
         → LogsDelta (λ c d (w : ⊤). GroupsGo readers (take (k + 1) groups) gs c d) l first new
@@ -140,11 +140,11 @@ module _ (readers : List (List ℕ)) (groups : List Group) (gs : List (Option Li
     }
 
     pub tends_more : (ws : List ℕ) (now : List (Option Live)) (first old new : List Log)
-        → Reach (reached readers groups) (LetsGoBy readers groups gs k) gs now
-        → Tends (reached readers groups)
+        → Reach (reached readers groups) (QueryDeletesBy readers groups gs k) gs now
+        → LogsHold (reached readers groups)
         (LogsAt ws (λ c d (w : ⊤). GroupsGo readers (take k groups) gs c d)) gs first old
-        → Tends places (LogsAt ws (λ c d. WentAll c d g.relation.at cells)) now old new
-        → Tends (reached readers groups)
+        → LogsHold places (LogsAt ws (λ c d. WentAll c d g.relation.at cells)) now old new
+        → LogsHold (reached readers groups)
         (LogsAt ws (λ c d (w : ⊤). GroupsGo readers (take (k + 1) groups) gs c d)) gs first new
     tends_more ws now first old new r a b = record {
       long = b.long ∙ a.long;
@@ -154,7 +154,7 @@ module _ (readers : List (List ℕ)) (groups : List Group) (gs : List (Option Li
       where
         by : (i : ℕ) (f : Bool) → is_reader (reached readers groups) i ≡ f → (h : Bool) → is_reader places i ≡ h
             → (p : Option Live) → place_at gs i ≡ p → (q : Option Live) → (v : Bool)
-            → DoneAt (LetsGoBy readers groups gs k) f p q
+            → DoneAt (QueryDeletesBy readers groups gs k) f p q
             → TendedAt (LogsWhere v (λ c d (w : ⊤). GroupsGo readers (take k groups) gs c d)) f p (log_at first i)
             (log_at old i)
             → TendedAt (LogsWhere v (λ c d. WentAll c d g.relation.at cells)) h q (log_at old i) (log_at new i)

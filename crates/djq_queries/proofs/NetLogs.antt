@@ -35,7 +35,7 @@ use Rattle.djq_reach.specs.declared.group.Group.{Group}
 use Rattle.djq_reach.specs.Growing.{Grows}
 use Rattle.djq_reach.specs.Places.{place_at, is_reader, log_at, watched_at}
 use Rattle.djq_reach.specs.Reaching.{AllAt}
-use Rattle.djq_reach.specs.Tending.{TendedAt, Tends}
+use Rattle.djq_reach.specs.Tending.{TendedAt, LogsHold}
 use Rattle.djq_reach.specs.Grouping.{reached}
 use Rattle.djq_reach.proofs.PlacedQueries.{reader_both}
 use Rattle.djq_reach.proofs.RowChanges.{delta_as}
@@ -237,7 +237,7 @@ module _ (readers : List (List ℕ)) (come gone : List Group) (gs : List (Option
   -- ---- all of them
 
   module _ (kept : AllAt (touched readers come gone) gs (λ l. IsKept c l)) (ws : List ℕ) (first told : List Log)
-      (t : Tends (touched readers come gone) (TellsHalvesAt ws c e d) gs first told) where
+      (t : LogsHold (touched readers come gone) (TellsHalvesAt ws c e d) gs first told) where
     -- a place that a deletion reaches is touched
     is_touched_by : (i : ℕ) → is_reader (reached readers gone) i ≡ true → is_reader (touched readers come gone) i ≡ true
     is_touched_by i g = reader_both (reached readers come) (reached readers gone) i
@@ -267,7 +267,7 @@ module _ (readers : List (List ℕ)) (come gone : List Group) (gs : List (Option
     -- and then tell the net
     pub tends_net : (new : List Log)
         → SettlesLogs (λ i. is_reader (reached readers gone) i && watched_at ws i) told new
-        → Tends (touched readers come gone) (TellsChangeAt ws c e d) gs first new
+        → LogsHold (touched readers come gone) (TellsChangeAt ws c e d) gs first new
     tends_net new s = record {
       long = s.long ∙ t.long;
       each = λ i. by i (is_reader (touched readers come gone) i) refl (is_reader (reached readers gone) i) refl

@@ -8,7 +8,7 @@ use Rattle.djq_database.specs.Catalog.{Catalog, relation_at, rows_at}
 use Rattle.djq_leaves.specs.Changes.{IsLater, WentAll}
 use Rattle.djq_leaves.specs.Stepping.{HasMore}
 use Rattle.djq_live_query.specs.Live.{Live, IsKept, SameQuery}
-use Rattle.djq_live_query.specs.Updating.{KeptAfter, atoms_over, flat_bound, update_bound}
+use Rattle.djq_live_query.specs.Updating.{LiveAfter, atoms_over, flat_bound, update_bound}
 use Rattle.djq_reach.specs.declared.group.Group.{Group}
 use Rattle.djq_reach.specs.Places.{place_at, reads_place, is_reader, readers_at}
 use Rattle.djq_reach.specs.Reaching.{AllAt}
@@ -58,8 +58,8 @@ pub record CanGoOutAll (places : List ℕ) (at : ℕ) (cells : List (List ℕ)) 
   pub kept : AllAt places gs (λ l. IsKept before l)
 
 -- Rows that their relation lost are deleted from a query.
-pub record LetsGoAll (at : ℕ) (cells : List (List ℕ)) (l m : Live) : Type 0 where
-  pub follows : KeptAfter (λ c d rows. WentAll c d at cells rows) l m
+pub record QueryDeletesRows (at : ℕ) (cells : List (List ℕ)) (l m : Live) : Type 0 where
+  pub follows : LiveAfter (λ c d rows. WentAll c d at cells rows) l m
   pub same : SameQuery l m
   pub fewer : HasMore m.reducts l.reducts
 

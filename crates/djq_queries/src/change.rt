@@ -4,7 +4,7 @@ ghost use Rattle.djq_database.specs.Catalog.{Catalog as CatalogModel};
 ghost use Rattle.djq_live_query.specs.Live.{IsKept};
 ghost use Rattle.djq_reach.specs.Places.{readers_at, AreOnce};
 ghost use Rattle.djq_reach.specs.Reaching.{Reach, AllAt, Renews};
-ghost use Rattle.djq_reach.specs.Tending.{Tends, AreUnwatched};
+ghost use Rattle.djq_reach.specs.Tending.{LogsHold, AreUnwatched};
 ghost use Rattle.djq_reach.specs.Grouping.{group_relations, rows_of_groups, times_back, CostsBy, WorksBy};
 ghost use Rattle.djq_queries.specs.Changing.{touched, CanChangeBy, GroupsChange, TellsChangeAt};
 ghost use Rattle.djq_queries.specs.Changing.{EmptiesWatched, CostsChange, WorksChange};
@@ -55,7 +55,7 @@ pub fn change_readers<L: Ledgers>(
     ensures tells { OnOk result ((c e d : CatalogModel)
         → GroupsChange readers.now come.now gone.now queries.old.items c e d
         → AllAt (touched readers.now come.now gone.now) queries.old.items (λ l. IsKept c l)
-        → Tends (touched readers.now come.now gone.now) (TellsChangeAt watchers.now c e d)
+        → LogsHold (touched readers.now come.now gone.now) (TellsChangeAt watchers.now c e d)
         queries.old.items logs.old.items logs.new.items) }
     ensures emptied { OnErr result (EmptiesWatched (touched readers.now come.now gone.now) watchers.now
         logs.old.items logs.new.items) }

@@ -7,10 +7,10 @@ ghost use Rattle.djq_live_query.specs.Live.{IsKept};
 ghost use Rattle.djq_live_query.specs.Updating.{CanDeleteAll};
 ghost use Rattle.djq_reach.specs.Places.{place_at, readers_at, watched_at, AreOnce};
 ghost use Rattle.djq_reach.specs.Reaching.{Reach, AllAt, Renews};
-ghost use Rattle.djq_reach.specs.Tending.{Tends, Costs, AreUnwatched};
+ghost use Rattle.djq_reach.specs.Tending.{LogsHold, Costs, AreUnwatched};
 ghost use Rattle.djq_reach.specs.Batching.{LogsAt};
 ghost use Rattle.djq_reach.specs.Grouping.{group_relations, reached};
-ghost use Rattle.djq_queries.specs.Going.{CanGoOutAll, CanGoOutBy, LetsGoAll, GroupsGo};
+ghost use Rattle.djq_queries.specs.Going.{CanGoOutAll, CanGoOutBy, QueryDeletesRows, GroupsGo};
 ghost use Rattle.djq_queries.specs.Going.{CostsGoneBy, WorksGone, WorksGoneBy};
 
 use djq_counters::{Ledgers, Steps};
@@ -43,9 +43,9 @@ fn delete_rows_at<L: Ledgers>(
         (λ l. CanDeleteAll l relation.at rows.now) }
     requires watched { at < length watchers.now }
     requires logged { at < length logs.old.items }
-    ensures gone { Reach (at ∷ []) (LetsGoAll relation.at rows.now)
+    ensures gone { Reach (at ∷ []) (QueryDeletesRows relation.at rows.now)
         queries.old.items queries.new.items }
-    ensures tells { Tends (at ∷ [])
+    ensures tells { LogsHold (at ∷ [])
         (LogsAt watchers.now (λ c d. WentAll c d relation.at rows.now))
         queries.old.items logs.old.items logs.new.items }
     ensures counted { Costs (λ c d. WentAll c d relation.at rows.now) (at ∷ []) watchers.now
@@ -77,9 +77,9 @@ fn delete_all_from_readers<L: Ledgers>(
     requires can { CanGoOutAll places.now relation.at rows.now queries.old.items }
     requires watched { length watchers.now ≡ length queries.old.items }
     requires logged { length logs.old.items ≡ length queries.old.items }
-    ensures gone { Reach places.now (LetsGoAll relation.at rows.now)
+    ensures gone { Reach places.now (QueryDeletesRows relation.at rows.now)
         queries.old.items queries.new.items }
-    ensures tells { Tends places.now
+    ensures tells { LogsHold places.now
         (LogsAt watchers.now (λ c d. WentAll c d relation.at rows.now))
         queries.old.items logs.old.items logs.new.items }
     ensures counted { Costs (λ c d. WentAll c d relation.at rows.now) places.now watchers.now
@@ -118,7 +118,7 @@ pub fn delete_batch_from_readers<L: Ledgers>(
     ensures gone { (c d : CatalogModel) → GroupsGo readers.now groups.now queries.old.items c d
         → AllAt (reached readers.now groups.now) queries.old.items (λ l. IsKept c l)
         → Reach (reached readers.now groups.now) (Renews d) queries.old.items queries.new.items }
-    ensures tells { Tends (reached readers.now groups.now)
+    ensures tells { LogsHold (reached readers.now groups.now)
         (LogsAt watchers.now (λ c d (what : ⊤).
         GroupsGo readers.now groups.now queries.old.items c d))
         queries.old.items logs.old.items logs.new.items }

@@ -11,7 +11,7 @@
 //! [`number`] gives the query over numbers: relations by their numbers in [`Relations`], variables
 //! in the order in which they first occur in atoms, each `_` one of its own. [`NumberedAtom::bind`]
 //! turns an atom into a [`Pattern`], whose constants are cells and whose [`Test`]s are the body's
-//! comparisons of its variables, and [`Pattern::lend`] a row into the tuple over the atom's
+//! comparisons of its variables, and [`Pattern::project`] a row into the tuple over the atom's
 //! variables.
 //!
 //! It reads no text, holds no relation and no row, and makes no text known: relations are asked of

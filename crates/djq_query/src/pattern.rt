@@ -195,7 +195,7 @@ impl Pattern {
     /// The tuple of a row: its cells at the variables, if its constants are the atom's, a variable
     /// that occurs twice has one cell, and each comparison holds. `None` if no tuple gives the row.
     /// Most often the tuple is the row itself; else it is written into the room. It needs no memory.
-    pub fn lend<'a>(&self, row: &'a [u64], room: &'a mut Cells) -> Option<&'a [u64]>
+    pub fn project<'a>(&self, row: &'a [u64], room: &'a mut Cells) -> Option<&'a [u64]>
         requires { length row.now ≡ length self.now.slots }
         ensures wide { IfSome result (λ t. length t.now ≡ self.now.width) }
         ensures few { IfSome result (λ t. length t.now ≤ CELLS) }
@@ -207,7 +207,7 @@ impl Pattern {
         }
         self.write(row, room);
         let tuple = room.as_slice();
-        if self.fills(tuple, row) && self.passes(tuple) {
+        if self.matches_back(tuple, row) && self.passes(tuple) {
             Some(tuple)
         } else {
             None
@@ -228,7 +228,7 @@ impl Pattern {
     }
 
     /// Whether a tuple put into the atom gives a row.
-    fn fills(&self, tuple: &[u64], row: &[u64]) -> bool
+    fn matches_back(&self, tuple: &[u64], row: &[u64]) -> bool
         requires long { length row.now ≡ length self.now.slots }
         requires wide { length tuple.now ≡ self.now.width }
         ensures { (result ≡ true) ↔ (filled tuple.now self.now.slots ≡ row.now) }

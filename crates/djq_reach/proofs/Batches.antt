@@ -22,15 +22,15 @@ use Rattle.djq_leaves.specs.Changes.{HasSameRows, Went}
 use Rattle.djq_leaves.specs.Stepping.{HasMore}
 use Rattle.djq_leaves.proofs.Costs.{fewer_stay}
 use Rattle.djq_live_query.specs.Live.{Live, IsKept, SameQuery}
-use Rattle.djq_live_query.specs.Updating.{CanAddAll, CanDelete, CountsBatchAt, CountsUpdate, KeptAfter, atoms_over}
+use Rattle.djq_live_query.specs.Updating.{CanAddAll, CanDelete, CountsBatchAt, CountsUpdate, LiveAfter, atoms_over}
 use Rattle.djq_live_query.specs.Updating.{update_bound}
 use Rattle.djq_live_query.proofs.Catalogs.{over_stays}
 use Rattle.djq_reach.specs.declared.group.Group.{Group}
 use Rattle.djq_reach.specs.Places.{place_at, is_reader, log_at, no_log, AreOnce, readers_at}
 use Rattle.djq_reach.specs.Reaching.{DoneAt, Reach, AllAt}
-use Rattle.djq_reach.specs.Tending.{Tends, TendedAt, work_of, work_at}
-use Rattle.djq_reach.specs.Batching.{RowsCameIn, CanComeAll, CanGoAll, CanGiveAll, TakesInAll, StaysUnchanged}
-use Rattle.djq_reach.specs.Batching.{LetsOutAll, GivesAllBack, OtherLogsStay, WorksBatch}
+use Rattle.djq_reach.specs.Tending.{LogsHold, TendedAt, work_of, work_at}
+use Rattle.djq_reach.specs.Batching.{RowsCameIn, CanComeAll, CanGoAll, CanGiveAll, QueryInsertsAll, StaysUnchanged}
+use Rattle.djq_reach.specs.Batching.{QueryDeletesAll, GivesAllBack, OtherLogsStay, WorksBatch}
 use Rattle.djq_reach.specs.Grouping.{group_work}
 use Rattle.djq_reach.proofs.PlacedQueries.{apart, reader_more, or_true, some_as, only, once_at, reader_there}
 use Rattle.djq_reach.proofs.PlacedQueries.{reader_front, same_then, same_refl, front_kept, done_back}
@@ -142,7 +142,7 @@ last_goes c at cells cell l a =
 
 pub last_gone : (c : Catalog) (at : ℕ) (cells : List (List ℕ)) (cell : List ℕ) (l m : Live)
     → Among c at (cells ++ cell ∷ []) l
-    → KeptAfter (λ x y row. Went x y at cell row) l m → Among c at cells m
+    → LiveAfter (λ x y row. Went x y at cell row) l m → Among c at cells m
 last_gone c at cells cell l m a gone =
     let less = one_less c a.now at cells cell a.rows a.comes in
     record {
@@ -218,7 +218,7 @@ all_go_out places at cells gs h i e = some_as (place_at gs i) (λ l. IsKept h.af
 
 module _ (places : List ℕ) (k d at : ℕ) (cells : List (List ℕ)) (old now mid : List (Option Live)) (o : AreOnce places)
     (low : k < length places)
-    (took : Reach (take k places) (TakesInAll at cells) old now)
+    (took : Reach (take k places) (QueryInsertsAll at cells) old now)
     (last : Reach (get_or places k d ∷ []) StaysUnchanged now mid)
   where
     pub front_gives : CanComeAll places at cells old → CanGoAll (take k places) at cells mid
@@ -227,16 +227,16 @@ module _ (places : List ℕ) (k d at : ℕ) (cells : List (List ℕ)) (old now m
       after = h.after;
       rows = h.rows;
       comes = h.comes;
-      kept = front_kept places k d (TakesInAll at cells) StaysUnchanged (λ l. IsKept h.before l)
+      kept = front_kept places k d (QueryInsertsAll at cells) StaysUnchanged (λ l. IsKept h.before l)
           (λ l. IsKept h.after l) old now
           mid o low h.kept took last
           (λ l m k' t. t.follows h.before h.after h.rows k' h.comes.came);
     }
 
-    pub given_all_back : (new : List (Option Live)) → Reach (take k places) (LetsOutAll at cells) mid new
+    pub given_all_back : (new : List (Option Live)) → Reach (take k places) (QueryDeletesAll at cells) mid new
         → Reach places (GivesAllBack at cells) old new
     given_all_back new out =
-        done_back places k d (TakesInAll at cells) StaysUnchanged (LetsOutAll at cells) (GivesAllBack at cells)
+        done_back places k d (QueryInsertsAll at cells) StaysUnchanged (QueryDeletesAll at cells) (GivesAllBack at cells)
         old now mid new o
         low took last out
         (λ l m n t u. record {
@@ -267,7 +267,7 @@ module _ (places : List ℕ) (k d at : ℕ) (cells : List (List ℕ)) (old now m
     batch_back x y z u first second third n few =
         let i = get_or places k d in
         let m = n + length cells in
-        let same = unreached (TakesInAll at cells) places k d old now o low took in
+        let same = unreached (QueryInsertsAll at cells) places k d old now o low took in
         let a = first n (λ j e. few j (reader_front places k j e)) in
         let b = second n (λ j e.
         subst (λ (q : ℕ). IsSomeAnd (place_at now q) (λ l. HasAtMost l.reducts n)) (eqb-true i j (sym (only i j) ∙ e))
@@ -291,7 +291,7 @@ module _ (places : List ℕ) (k d at : ℕ) (cells : List (List ℕ)) (old now m
             let whole : (length cells + 2) * w ≡ length cells * w + 2 * w = omega arith in
             omega (arith, whole)
 
-        both : (p q : Option Live) → DoneAt (TakesInAll at cells) true p q → IsSomeAnd p (λ l. HasAtMost l.reducts n)
+        both : (p q : Option Live) → DoneAt (QueryInsertsAll at cells) true p q → IsSomeAnd p (λ l. HasAtMost l.reducts n)
             → IsSomeAnd q (λ l. HasAtMost l.reducts (n + length cells))
             × (work_of at 1 (n + length cells) false p + work_of at (length cells) (n + length cells + 0) false q ≤
             work_of at (length cells + 2) (n + length cells) false p)
@@ -328,7 +328,7 @@ module _ (places : List ℕ) (k d at : ℕ) (cells : List (List ℕ)) (old now m
             q
             ≤ work_at old at (length cells + 2) (n + length cells) (λ j. false) j)) (sym middle)
             (both (place_at old j) (place_at now j)
-            (subst (λ (b : Bool). DoneAt (TakesInAll at cells) b (place_at old j) (place_at now j)) e (took.each j))
+            (subst (λ (b : Bool). DoneAt (QueryInsertsAll at cells) b (place_at old j) (place_at now j)) e (took.each j))
             (few j (reader_front places k j e)))
 
 -- ---- logs in other places

@@ -17,13 +17,13 @@ use Rattle.djq_leaves.specs.Changes.{CameAll, Went, IsLater}
 use Rattle.djq_leaves.proofs.Costs.{fewer_stay}
 use Rattle.djq_live_query.specs.Live.{Live, IsKept, IsLive, SameQuery}
 use Rattle.djq_live_query.specs.Staying.{StaysOver}
-use Rattle.djq_live_query.specs.Updating.{KeptAfter}
+use Rattle.djq_live_query.specs.Updating.{LiveAfter}
 use Rattle.djq_live_query.proofs.Catalogs.{asked_later}
 use Rattle.djq_live_query.proofs.ShownAnswers.{came_all_lives, went_lives}
 use Rattle.djq_reach.specs.declared.group.Group.{Group}
 use Rattle.djq_reach.specs.Places.{place_at, reads_place, is_reader, readers_at}
 use Rattle.djq_reach.specs.Reaching.{DoneAt, Reach, AllAt, Renews, Carries}
-use Rattle.djq_reach.specs.Batching.{RowsCameIn, CanComeAll, CanGoAll, LetsOutAll, TakesInAll}
+use Rattle.djq_reach.specs.Batching.{RowsCameIn, CanComeAll, CanGoAll, QueryDeletesAll, QueryInsertsAll}
 use Rattle.djq_reach.specs.Grouping.{CanComeBy, ComesBy, GroupsLead, reached}
 use Rattle.djq_reach.specs.Growing.{Grows}
 use Rattle.djq_reach.proofs.Batches.{Among, all_gone, grown_by, last_gone, more_room}
@@ -483,12 +483,12 @@ module _ (readers : List (List ℕ)) (groups : List Group) (left : ℕ) (g : Gro
   -- and then the queries are kept behind those in front of it
   pub group_gone : (places : List ℕ) (cells : List (List ℕ)) (new : List (Option Live)) → places
       ≡ readers_at readers g.relation.at → cells ≡ g.rows
-      → Reach (reached readers groups) SameQuery gs hs → Reach places (LetsOutAll g.relation.at cells) hs new
+      → Reach (reached readers groups) SameQuery gs hs → Reach places (QueryDeletesAll g.relation.at cells) hs new
       → Behind readers groups (left - 1) gs new c
   group_gone places cells new are rows same out = record {
     now = last_of.middle;
     leads = last_of.front;
-    kept = all_on (reached readers groups) places (LetsOutAll g.relation.at cells) (λ m. IsKept b.now m)
+    kept = all_on (reached readers groups) places (QueryDeletesAll g.relation.at cells) (λ m. IsKept b.now m)
         (λ m. IsKept last_of.middle m) hs new out b.kept
         (λ i m n there e k t. t.follows last_of.middle b.now last_of.rows
         (subst (λ (xs : List (List ℕ)). RowsCameIn last_of.middle b.now g.relation.at xs last_of.rows) (sym rows)
@@ -514,11 +514,11 @@ module _ (readers : List (List ℕ)) (groups : List Group) (left : ℕ) (g : Gro
 
   -- and no leaf has more tuples
   pub group_few : (places : List ℕ) (cells : List (List ℕ)) (new : List (Option Live)) → cells ≡ g.rows
-      → Reach places (LetsOutAll g.relation.at cells) hs new → (n : ℕ)
+      → Reach places (QueryDeletesAll g.relation.at cells) hs new → (n : ℕ)
       → AllAt (reached readers groups) hs (λ m. HasAtMost m.reducts n)
       → AllAt (reached readers groups) new (λ m. HasAtMost m.reducts n)
   group_few places cells new rows out n few =
-      all_on (reached readers groups) places (LetsOutAll g.relation.at cells)
+      all_on (reached readers groups) places (QueryDeletesAll g.relation.at cells)
       (λ m. HasAtMost m.reducts n × IsKept b.now m) (λ m. HasAtMost m.reducts n) hs new out
       (λ i e. both (place_at hs i) (few i e) (b.kept i e))
       (λ i m x there e k t. fewer_stay x.reducts m.reducts n (t.follows last_of.middle b.now last_of.rows
@@ -572,17 +572,17 @@ none_led c d [] h = h
 none_led c d (x ∷ xs) h = h
 
 -- A query that was kept before the first of the groups is kept behind them.
-pub record TakesInBy (readers : List (List ℕ)) (groups : List Group) (gs : List (Option Live)) (k : ℕ) (l m : Live) :
+pub record QueryInsertsBy (readers : List (List ℕ)) (groups : List Group) (gs : List (Option Live)) (k : ℕ) (l m : Live) :
     Type 0 where
   pub follows : (c d : Catalog) → IsKept c l → GroupsLead readers (take k groups) gs c d → IsKept d m
   pub same : SameQuery l m
 
 pub takes_none : (readers : List (List ℕ)) (groups : List Group) (gs : List (Option Live))
-    → Reach (reached readers groups) (TakesInBy readers groups gs 0) gs gs
+    → Reach (reached readers groups) (QueryInsertsBy readers groups gs 0) gs gs
 takes_none readers groups gs = record
     { length = refl; each = λ i. by (is_reader (reached readers groups) i) (place_at gs i) }
   where
-    by : (b : Bool) (p : Option Live) → DoneAt (TakesInBy readers groups gs 0) b p p
+    by : (b : Bool) (p : Option Live) → DoneAt (QueryInsertsBy readers groups gs 0) b p p
     by false p = refl
     by true None = tt
     by true (Some l) = record {
@@ -591,25 +591,25 @@ takes_none readers groups gs = record
     }
 
 pub all_kept : (ps : List ℕ) (readers : List (List ℕ)) (groups : List Group) (gs now : List (Option Live)) (k : ℕ)
-    (c d : Catalog) → Reach ps (TakesInBy readers groups gs k) gs now
+    (c d : Catalog) → Reach ps (QueryInsertsBy readers groups gs k) gs now
     → AllAt ps gs (λ l. IsKept c l) → GroupsLead readers (take k groups) gs c d → AllAt ps now (λ m. IsKept d m)
 all_kept ps readers groups gs now k c d r kept leads i e =
     by (place_at gs i) (place_at now i)
-    (subst (λ (b : Bool). DoneAt (TakesInBy readers groups gs k) b (place_at gs i) (place_at now i)) e (r.each i))
+    (subst (λ (b : Bool). DoneAt (QueryInsertsBy readers groups gs k) b (place_at gs i) (place_at now i)) e (r.each i))
     (kept i e)
   where
-    by : (p q : Option Live) → DoneAt (TakesInBy readers groups gs k) true p q → IsSomeAnd p (λ l. IsKept c l)
+    by : (p q : Option Live) → DoneAt (QueryInsertsBy readers groups gs k) true p q → IsSomeAnd p (λ l. IsKept c l)
         → IsSomeAnd q (λ m. IsKept d m)
     by None q t h = absurd h
     by (Some l) None t h = absurd t
     by (Some l) (Some m) t h = t.follows c d h leads
 
 pub takes_same : (ps : List ℕ) (readers : List (List ℕ)) (groups : List Group) (gs now : List (Option Live)) (k : ℕ)
-    → Reach ps (TakesInBy readers groups gs k) gs now → Reach ps SameQuery gs now
+    → Reach ps (QueryInsertsBy readers groups gs k) gs now → Reach ps SameQuery gs now
 takes_same ps readers groups gs now k r = record
     { length = r.length; each = λ i. by (is_reader ps i) (place_at gs i) (place_at now i) (r.each i) }
   where
-    by : (b : Bool) (p q : Option Live) → DoneAt (TakesInBy readers groups gs k) b p q → DoneAt SameQuery b p q
+    by : (b : Bool) (p q : Option Live) → DoneAt (QueryInsertsBy readers groups gs k) b p q → DoneAt SameQuery b p q
     by false p q e = e
     by true None None t = tt
     by true None (Some m) t = absurd t
@@ -640,12 +640,12 @@ module _ (readers : List (List ℕ)) (groups : List Group) (gs : List (Option Li
         (sym (s.front.reading g.relation.at i s.inside) ∙ subst (λ (ps : List ℕ). is_reader ps i ≡ false) are e)
 
     pub takes_more : (now new : List (Option Live))
-        → Reach (reached readers groups) (TakesInBy readers groups gs k) gs now
-        → Reach places (TakesInAll g.relation.at cells) now new
-        → Reach (reached readers groups) (TakesInBy readers groups gs (k + 1)) gs new
+        → Reach (reached readers groups) (QueryInsertsBy readers groups gs k) gs now
+        → Reach places (QueryInsertsAll g.relation.at cells) now new
+        → Reach (reached readers groups) (QueryInsertsBy readers groups gs (k + 1)) gs new
     takes_more now new a b =
-        reach_on (reached readers groups) places (TakesInBy readers groups gs k) (TakesInAll g.relation.at cells)
-        (TakesInBy readers groups gs (k + 1)) gs now new in_reached a b
+        reach_on (reached readers groups) places (QueryInsertsBy readers groups gs k) (QueryInsertsAll g.relation.at cells)
+        (QueryInsertsBy readers groups gs (k + 1)) gs now new in_reached a b
         (λ i l m n there now e f t u. record {
           follows = λ c d kept leads.
               let s = step_of readers groups gs k g c d low is leads in
@@ -662,11 +662,11 @@ module _ (readers : List (List ℕ)) (groups : List Group) (gs : List (Option Li
           same = t.same;
         })
 
-    pub few_more : (now new : List (Option Live)) (n : ℕ) → Reach places (TakesInAll g.relation.at cells) now new
+    pub few_more : (now new : List (Option Live)) (n : ℕ) → Reach places (QueryInsertsAll g.relation.at cells) now new
         → AllAt (reached readers groups) now (λ m. HasAtMost m.reducts n)
         → AllAt (reached readers groups) new (λ m. HasAtMost m.reducts (n + length g.rows))
     few_more now new n b few =
-        all_on (reached readers groups) places (TakesInAll g.relation.at cells) (λ m. HasAtMost m.reducts n)
+        all_on (reached readers groups) places (QueryInsertsAll g.relation.at cells) (λ m. HasAtMost m.reducts n)
         (λ m. HasAtMost m.reducts (n + length g.rows)) now new b few
         (λ i m x there e h t. subst (λ (y : ℕ). HasAtMost x.reducts (n + y)) (ap length rows)
         (grown_by m.reducts x.reducts n (length cells) t.same.tree t.grows h))
@@ -674,7 +674,7 @@ module _ (readers : List (List ℕ)) (groups : List Group) (gs : List (Option Li
 
     -- what the group needs
     pub group_comes : (now : List (Option Live)) → CanComeBy readers groups gs
-        → Reach (reached readers groups) (TakesInBy readers groups gs k) gs now
+        → Reach (reached readers groups) (QueryInsertsBy readers groups gs k) gs now
         → CanComeAll places g.relation.at cells now
     group_comes now h r =
         let far = leads_front readers groups gs h.before h.after (k + 1) h.leads in

@@ -28,7 +28,7 @@ use Rattle.djq_reach.specs.Tending.{Costs, DeltasOf, listing_cost, cost_at, work
 use Rattle.djq_reach.specs.Grouping.{PlacesAreAmong, CostsBy, GroupsLead, atoms_over_any, batch_cost, batch_cost_at}
 use Rattle.djq_reach.specs.Grouping.{group_work, reached, group_relations, rows_of_groups, times_back}
 use Rattle.djq_reach.proofs.PlacedQueries.{reader_more, apart, once_at, reader_front}
-use Rattle.djq_reach.proofs.CatalogChains.{Far, Step, TakesInBy, all_kept, asked_by, comes_so, far_of, grows_by}
+use Rattle.djq_reach.proofs.CatalogChains.{Far, Step, QueryInsertsBy, all_kept, asked_by, comes_so, far_of, grows_by}
 use Rattle.djq_reach.proofs.CatalogChains.{in_reached, step_of}
 use Rattle.djq_reach.proofs.RowChanges.{early_delta, early_part, late_delta, late_part, parts_long, came_grows}
 use Rattle.djq_reach.proofs.Batches.{sums_all, sums_under, work_same}
@@ -205,7 +205,7 @@ of_live l o c e h = subst (λ (p : Option Live). IsSomeAnd p (λ x. IsKept c x))
 point : (readers : List (List ℕ)) (groups : List Group) (gs : List (Option Live)) (k : ℕ) (ats more : List ℕ) (at : ℕ)
     (e : Catalog) (zs : List Change)
     → more ≡ ats ++ at ∷ [] → is_reader ats at ≡ false → (w r : Bool) (p q : Option Live)
-    → DoneAt (TakesInBy readers groups gs k) true p q
+    → DoneAt (QueryInsertsBy readers groups gs k) true p q
     → cond w (batch_cost ats (firsts e p zs) p) 0 + cond r (cond w (listing_cost at (seconds e p zs) q) 0) 0 ≤ cond w
     (batch_cost more zs p) 0
 point readers groups gs k ats more at e zs is out false true p q t = omega arith
@@ -263,7 +263,7 @@ module _ (readers : List (List ℕ)) (groups : List Group) (gs : List (Option Li
     (places : List ℕ) (cells : List (List ℕ)) (are : places ≡ readers_at readers g.relation.at) (rows : cells ≡ g.rows)
     (once : AreOnce places)
     (fresh : is_reader (group_relations (take k groups)) g.relation.at ≡ false) (now : List (Option Live))
-    (r : Reach (reached readers groups) (TakesInBy readers groups gs k) gs now) where
+    (r : Reach (reached readers groups) (QueryInsertsBy readers groups gs k) gs now) where
   pub costs_on : (before mid after : ℕ) → CostsSo readers groups gs ws k before mid
       → Costs (λ c d. CameAll c d g.relation.at cells) places ws now g.relation.at mid after
       → CostsSo readers groups gs ws (k + 1) before after
@@ -286,7 +286,7 @@ module _ (readers : List (List ℕ)) (groups : List Group) (gs : List (Option Li
       (λ i h. point readers groups gs k (group_relations (take k groups)) (group_relations (take (k + 1) groups))
       g.relation.at e (f i)
       (relations_more groups k g low is) fresh (watched_at ws i) (is_reader places i) (place_at gs i) (place_at now i)
-      (subst (λ (b : Bool). DoneAt (TakesInBy readers groups gs k) b (place_at gs i) (place_at now i))
+      (subst (λ (b : Bool). DoneAt (QueryInsertsBy readers groups gs k) b (place_at gs i) (place_at now i))
       (passes_filter (is_reader (reached readers groups)) order i h) (r.each i))) in
       omega (arith, first, second, part, both)
     where
@@ -321,11 +321,11 @@ module _ (readers : List (List ℕ)) (groups : List Group) (gs : List (Option Li
       late : (i : ℕ) (m : Live) → is_reader places i ≡ true → watched_at ws i ≡ true → place_at now i ≡ Some m
           → IsDeltaOf m step.middle d (seconds step.middle (place_at gs i) (f i))
       late i m h w there = by (place_at gs i) refl
-          (subst (λ (o : Option Live). DoneAt (TakesInBy readers groups gs k) true (place_at gs i) o) there
-          (subst (λ (b : Bool). DoneAt (TakesInBy readers groups gs k) b (place_at gs i) (place_at now i)) (inside i h)
+          (subst (λ (o : Option Live). DoneAt (QueryInsertsBy readers groups gs k) true (place_at gs i) o) there
+          (subst (λ (b : Bool). DoneAt (QueryInsertsBy readers groups gs k) b (place_at gs i) (place_at now i)) (inside i h)
           (r.each i)))
         where
-          by : (p : Option Live) → place_at gs i ≡ p → DoneAt (TakesInBy readers groups gs k) true p (Some m)
+          by : (p : Option Live) → place_at gs i ≡ p → DoneAt (QueryInsertsBy readers groups gs k) true p (Some m)
               → IsDeltaOf m step.middle d (seconds step.middle p (f i))
           by None e t = absurd t
           by (Some l) e t =

@@ -25,12 +25,12 @@ use Rattle.djq_live_query.specs.Shown.{shown, AreShownAs}
 use Rattle.djq_reach.specs.declared.group.Group.{Group}
 use Rattle.djq_reach.specs.Places.{place_at, is_reader, readers_at, log_at, watched_at}
 use Rattle.djq_reach.specs.Reaching.{DoneAt, Reach, AllAt, Renews}
-use Rattle.djq_reach.specs.Tending.{TendedAt, Tends, Empties, AreUnwatched, HaveLogs, LogTellsOver, TellsWhere}
+use Rattle.djq_reach.specs.Tending.{TendedAt, LogsHold, Empties, AreUnwatched, HaveLogs, LogTellsOver, TellsWhere}
 use Rattle.djq_reach.specs.Tending.{LogTellsAt}
 use Rattle.djq_reach.specs.Batching.{RowsCameIn, GivesAllBack, OtherLogsStay, LogsAt}
 use Rattle.djq_reach.specs.Grouping.{CanComeBy, CanGoBy, GroupsLead, reached, Clears}
 use Rattle.djq_reach.proofs.Batches.{more_room}
-use Rattle.djq_reach.proofs.CatalogChains.{Step, TakesInBy, all_kept, all_on, back_by, comes_so, in_reached}
+use Rattle.djq_reach.proofs.CatalogChains.{Step, QueryInsertsBy, all_kept, all_on, back_by, comes_so, in_reached}
 use Rattle.djq_reach.proofs.CatalogChains.{leads_front, leads_same, reach_on, renewed, step_of, takes_same, unread_by}
 use Rattle.djq_reach.proofs.CatalogChains.{asked_by, grows_by, none_led, texts_on, unread_step}
 use Rattle.djq_reach.proofs.PlacedQueries.{reached_front, below_some, reader_there, same_then}
@@ -63,7 +63,7 @@ have_logs ps gs logs c long kept i e = let low = below_some gs i (λ l. IsKept c
 -- the logs were changed in these places alone, and are emptied
 pub emptied_all : (Does : ℕ → Live → Log → Log → Type 0) (ps places : List ℕ) (gs : List (Option Live))
     (first old mid new : List Log)
-    → ((i : ℕ) → is_reader places i ≡ true → is_reader ps i ≡ true) → Tends ps Does gs first old
+    → ((i : ℕ) → is_reader places i ≡ true → is_reader ps i ≡ true) → LogsHold ps Does gs first old
     → OtherLogsStay places old mid → Empties ps mid new → Empties ps first new
 emptied_all Does ps places gs first old mid new sub a b c = record {
   long = c.long ∙ b.long ∙ a.long;
@@ -79,10 +79,10 @@ emptied_all Does ps places gs first old mid new sub a b c = record {
 module _ (readers : List (List ℕ)) (groups : List Group) (gs : List (Option Live)) (k : ℕ) (g : Group)
     (low : k < length groups) (is : g ≡ slice_index_or groups k g)
     (places : List ℕ) (cells : List (List ℕ)) (are : places ≡ readers_at readers g.relation.at) (rows : cells ≡ g.rows)
-    (now mid : List (Option Live)) (r : Reach (reached readers groups) (TakesInBy readers groups gs k) gs now)
+    (now mid : List (Option Live)) (r : Reach (reached readers groups) (QueryInsertsBy readers groups gs k) gs now)
     (back : Reach places (GivesAllBack g.relation.at cells) now mid) where
   pub same_mid : Reach (reached readers groups) SameQuery gs mid
-  same_mid = reach_on (reached readers groups) places (TakesInBy readers groups gs k) (GivesAllBack g.relation.at cells)
+  same_mid = reach_on (reached readers groups) places (QueryInsertsBy readers groups gs k) (GivesAllBack g.relation.at cells)
       SameQuery gs now mid
       (in_reached readers groups gs k g low is places cells are rows) r back
       (λ i l m n there now e f t u. same_then l m n t.same u.same) (λ i l m there now e f t. t.same)
@@ -224,7 +224,7 @@ module _ (readers : List (List ℕ)) (groups : List Group) (gs : List (Option Li
     (places : List ℕ) (cells : List (List ℕ)) (are : places ≡ readers_at readers g.relation.at) (rows : cells ≡ g.rows)
   where
     -- a group of a relation that the query reads
-    tells_read : (l m : Live) (old new : Log) → TakesInBy readers groups gs k l m
+    tells_read : (l m : Live) (old new : Log) → QueryInsertsBy readers groups gs k l m
         → LogTellsOver (λ c d (w : ⊤). GroupsLead readers (take k groups) gs c d) l old
         → LogsDelta (λ c d. CameAll c d g.relation.at cells) m old new
         → LogTellsOver (λ c d (w : ⊤). GroupsLead readers (take (k + 1) groups) gs c d) l new
@@ -297,11 +297,11 @@ module _ (readers : List (List ℕ)) (groups : List Group) (gs : List (Option Li
     }
 
     pub tends_on : (ws : List ℕ) (now : List (Option Live)) (first old new : List Log)
-        → Reach (reached readers groups) (TakesInBy readers groups gs k) gs now
-        → Tends (reached readers groups)
+        → Reach (reached readers groups) (QueryInsertsBy readers groups gs k) gs now
+        → LogsHold (reached readers groups)
         (LogTellsAt ws (λ c d (w : ⊤). GroupsLead readers (take k groups) gs c d)) gs first old
-        → Tends places (LogsAt ws (λ c d. CameAll c d g.relation.at cells)) now old new
-        → Tends (reached readers groups)
+        → LogsHold places (LogsAt ws (λ c d. CameAll c d g.relation.at cells)) now old new
+        → LogsHold (reached readers groups)
         (LogTellsAt ws (λ c d (w : ⊤). GroupsLead readers (take (k + 1) groups) gs c d)) gs first
         new
     tends_on ws now first old new r a b = record {
@@ -313,7 +313,7 @@ module _ (readers : List (List ℕ)) (groups : List Group) (gs : List (Option Li
       where
         by : (i : ℕ) (f : Bool) → is_reader (reached readers groups) i ≡ f → (h : Bool) → is_reader places i ≡ h
             → (p : Option Live) → place_at gs i ≡ p → (q : Option Live) → (w : Bool)
-            → DoneAt (TakesInBy readers groups gs k) f p q
+            → DoneAt (QueryInsertsBy readers groups gs k) f p q
             → TendedAt (TellsWhere w (λ c d (w : ⊤). GroupsLead readers (take k groups) gs c d)) f p (log_at first i)
             (log_at old i)
             → TendedAt (LogsWhere w (λ c d. CameAll c d g.relation.at cells)) h q (log_at old i) (log_at new i)

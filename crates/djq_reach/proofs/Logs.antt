@@ -20,8 +20,8 @@ use Rattle.djq_live_query.specs.Live.{Live, IsKept, IsShowable}
 use Rattle.djq_live_query.specs.Updating.{change_of, IsDeltaOf, delta_bound, LogsWhere, CountsDelta, IsEmpty}
 use Rattle.djq_live_query.specs.Updating.{atoms_over, flat_bound, update_bound}
 use Rattle.djq_reach.specs.Places.{place_at, is_reader, log_at, no_log, watched_at, AreOnce}
-use Rattle.djq_reach.specs.Reaching.{DoneAt, Reach, AllAt, TakesIn, Remains}
-use Rattle.djq_reach.specs.Tending.{Readies, TellsWhere, LogTellsAt, LogShows, TendedAt, Tends, Empties, listing_cost}
+use Rattle.djq_reach.specs.Reaching.{DoneAt, Reach, AllAt, QueryInserts, QueryUnchanged}
+use Rattle.djq_reach.specs.Tending.{Readies, TellsWhere, LogTellsAt, LogShows, TendedAt, LogsHold, Empties, listing_cost}
 use Rattle.djq_reach.specs.Tending.{cost_at, Costs, IsBounded, CountsEither, Works, work_of, work_at}
 use Rattle.djq_reach.proofs.PlacedQueries.{apart, reader_more, or_true, below_some, everywhere, only, once_at}
 use Rattle.djq_reach.proofs.PlacedQueries.{reader_there, reader_front}
@@ -89,7 +89,7 @@ place_within places k d gs P low all = below_some gs (get_or places k d) P
 
 pub tends_one : (Does : ℕ → Live → Log → Log → Type 0) (gs : List (Option Live)) (logs : List Log) (i : ℕ) (l : Live)
     (m : Log) → i < length logs → place_at gs i ≡ Some l
-    → Does i l (log_at logs i) m → Tends (i ∷ []) Does gs logs (set logs i m)
+    → Does i l (log_at logs i) m → LogsHold (i ∷ []) Does gs logs (set logs i m)
 tends_one Does gs logs i l m low e does = record {
   long = length-set logs i m;
   each = everywhere (λ j. TendedAt (Does j) (is_reader (i ∷ []) j) (place_at gs j) (log_at logs j)
@@ -106,18 +106,18 @@ tends_one Does gs logs i l m low e does = record {
 -- the log in a place, as the code reads it
 pub tends_read : (Does : ℕ → Live → Log → Log → Type 0) (gs : List (Option Live)) (logs : List Log) (i : ℕ) (l : Live)
     (log m : Log) → i < length logs → place_at gs i ≡ Some l
-    → log ≡ get_or logs i log → Does i l log m → Tends (i ∷ []) Does gs logs (set logs i m)
+    → log ≡ get_or logs i log → Does i l log m → LogsHold (i ∷ []) Does gs logs (set logs i m)
 tends_read Does gs logs i l log m low e is does = tends_one Does gs logs i l m low e
     (subst (λ (x : Log). Does i l x m) (log_read logs i log low is) does)
 
 pub tends_none : (Does : ℕ → Live → Log → Log → Type 0) (gs : List (Option Live)) (logs : List Log)
-    → Tends [] Does gs logs logs
+    → LogsHold [] Does gs logs logs
 tends_none Does gs logs = record { long = refl; each = λ i. refl }
 
 pub tends_more : (Does : ℕ → Live → Log → Log → Type 0) (done : List ℕ) (i : ℕ) (gs hs : List (Option Live))
     (old mid new : List Log)
-    → Tends done Does gs old mid → Tends (i ∷ []) Does hs mid new → place_at hs i ≡ place_at gs i → is_reader done i
-    ≡ false → Tends (done ++ i ∷ []) Does gs old new
+    → LogsHold done Does gs old mid → LogsHold (i ∷ []) Does hs mid new → place_at hs i ≡ place_at gs i → is_reader done i
+    ≡ false → LogsHold (done ++ i ∷ []) Does gs old new
 tends_more Does done i gs hs old mid new a b same out = record {
   long = b.long ∙ a.long;
   each = everywhere (λ j. TendedAt (Does j) (is_reader (done ++ i ∷ []) j) (place_at gs j) (log_at old j)
@@ -150,16 +150,16 @@ unreached R places k d old now o l r = subst
 
 pub tends_next : (R : Live → Live → Type 0) (Does : ℕ → Live → Log → Log → Type 0) (places : List ℕ) (k d : ℕ)
     (gs hs : List (Option Live)) (old mid new : List Log) → AreOnce places → k < length places
-    → Reach (take k places) R gs hs → Tends (take k places) Does gs old mid
-    → Tends (get_or places k d ∷ []) Does hs mid new → Tends (take (k + 1) places) Does gs old new
+    → Reach (take k places) R gs hs → LogsHold (take k places) Does gs old mid
+    → LogsHold (get_or places k d ∷ []) Does hs mid new → LogsHold (take (k + 1) places) Does gs old new
 tends_next R Does places k d gs hs old mid new o l r a b =
-    subst (λ (ps : List ℕ). Tends ps Does gs old new) (sym (take_more places k d l))
+    subst (λ (ps : List ℕ). LogsHold ps Does gs old new) (sym (take_more places k d l))
     (tends_more Does (take k places) (get_or places k d) gs hs old mid new a b (unreached R places k d gs hs o l r)
     (once_at places k d o l))
 
 pub tends_as : (Does Do : ℕ → Live → Log → Log → Type 0) (ps : List ℕ) (gs : List (Option Live)) (old new : List Log)
     → ((i : ℕ) (l : Live) (x y : Log) → Does i l x y → Do i l x y)
-    → Tends ps Does gs old new → Tends ps Do gs old new
+    → LogsHold ps Does gs old new → LogsHold ps Do gs old new
 tends_as Does Do ps gs old new f t = record {
   long = t.long;
   each = λ i. by_place i (is_reader ps i) (place_at gs i) (t.each i);
@@ -172,15 +172,15 @@ tends_as Does Do ps gs old new f t = record {
     by_place i true (Some l) h = f i l (log_at old i) (log_at new i) h
 
 pub tells_show : (Changed : Catalog → Catalog → Tuple → Type 0) (ws ps : List ℕ) (gs : List (Option Live))
-    (old new : List Log) → Tends ps (LogTellsAt ws Changed) gs old new → Tends ps (LogShows Changed) gs old new
+    (old new : List Log) → LogsHold ps (LogTellsAt ws Changed) gs old new → LogsHold ps (LogShows Changed) gs old new
 tells_show Changed ws ps gs old new t =
     tends_as (LogTellsAt ws Changed) (LogShows Changed) ps gs old new
     (λ i l x y h. shows_where Changed (watched_at ws i) i l x y h) t
 
 -- where only the front of the places was reached
 pub shows_front : (Changed : Catalog → Catalog → Tuple → Type 0) (places : List ℕ) (k : ℕ) (gs : List (Option Live))
-    (old new : List Log) → Tends (take k places) (LogShows Changed) gs old new
-    → Tends places (LogShows Changed) gs old new
+    (old new : List Log) → LogsHold (take k places) (LogShows Changed) gs old new
+    → LogsHold places (LogShows Changed) gs old new
 shows_front Changed places k gs old new t = record {
   long = t.long;
   each = λ i. by_front i (is_reader (take k places) i) refl (is_reader places i) refl (place_at gs i) (t.each i);
@@ -197,7 +197,7 @@ shows_front Changed places k gs old new t = record {
 
 -- a log that isn't told of is as before
 pub tends_quiet : (Changed : Catalog → Catalog → Tuple → Type 0) (ws ps : List ℕ) (gs : List (Option Live))
-    (old new : List Log) → Tends ps (LogTellsAt ws Changed) gs old new
+    (old new : List Log) → LogsHold ps (LogTellsAt ws Changed) gs old new
     → (i : ℕ) (l : Live) → place_at gs i ≡ Some l → (is_reader ps i && watched_at ws i) ≡ false
     → log_at new i ≡ log_at old i
 tends_quiet Changed ws ps gs old new t i l there =
@@ -212,7 +212,7 @@ tends_quiet Changed ws ps gs old new t i l there =
     by_place true false h e = h
 
 pub tends_apart : (Does : ℕ → Live → Log → Log → Type 0) (ps : List ℕ) (gs : List (Option Live)) (old new : List Log)
-    → Tends ps Does gs old new
+    → LogsHold ps Does gs old new
     → (i : ℕ) → is_reader ps i ≡ false → log_at new i ≡ log_at old i
 tends_apart Does ps gs old new t i e = subst (λ (b : Bool). TendedAt (Does i) b (place_at gs i) (log_at old i)
     (log_at new i)) e (t.each i)
@@ -411,7 +411,7 @@ twice p n =
 
 -- a query that took a row in and gives it back counts three times its bound at most; a flat one twice
 taken_work : (at : ℕ) (cells : List ℕ) (n : ℕ) (b : Bool) (p q : Option Live)
-    → DoneAt (TakesIn at cells) true p q → IsSomeAnd p (IsBounded n b)
+    → DoneAt (QueryInserts at cells) true p q → IsSomeAnd p (IsBounded n b)
     → IsSomeAnd q (IsBounded (n + 1) b)
     × (work_of at 1 n b p + work_of at 1 (n + 1) b q ≤ work_of at 3 n b p)
 taken_work at cells n b None None t h = absurd h
@@ -435,13 +435,13 @@ taken_work at cells n false (Some l) (Some m) t h = (
 
 pub works_back : (at : ℕ) (cells places : List ℕ) (k d : ℕ) (old now mid : List (Option Live))
     (x y z u : ℕ) → AreOnce places → k < length places
-    → Reach (take k places) (TakesIn at cells) old now
-    → Reach (get_or places k d ∷ []) Remains now mid → Works (take k places) old at 1 x y
+    → Reach (take k places) (QueryInserts at cells) old now
+    → Reach (get_or places k d ∷ []) QueryUnchanged now mid → Works (take k places) old at 1 x y
     → Works (get_or places k d ∷ []) now at 3 y z → Works (take k places) mid at 1 z u
     → Works places old at 3 x u
 works_back at cells places k d old now mid x y z u o low took last first second third n flat few =
     let i = get_or places k d in
-    let same = unreached (TakesIn at cells) places k d old now o low took in
+    let same = unreached (QueryInserts at cells) places k d old now o low took in
     let a = first n flat (λ j e. few j (reader_front places k j e)) in
     let b = second n flat (λ j e.
     subst (λ (q : ℕ). IsSomeAnd (place_at now q) (IsBounded n (flat q)))
@@ -469,10 +469,10 @@ works_back at cells places k d old now mid x y z u o low took last first second 
         false≢true
         (sym (once_at places k d o low) ∙ ap (is_reader (take k places)) s ∙ e)) in
         let middle : place_at mid j ≡ place_at now j =
-        subst (λ (b : Bool). DoneAt Remains b (place_at now j) (place_at mid j))
+        subst (λ (b : Bool). DoneAt QueryUnchanged b (place_at now j) (place_at mid j))
         (only (get_or places k d) j ∙ other) (last.each j) in
         subst (λ (q : Option Live). IsSomeAnd q (IsBounded (n + 1) (flat j))
         × (work_at old at 1 n flat j + work_of at 1 (n + 1) (flat j) q ≤ work_at old at 3 n flat j)) (sym middle)
         (taken_work at cells n (flat j) (place_at old j) (place_at now j)
-        (subst (λ (b : Bool). DoneAt (TakesIn at cells) b (place_at old j) (place_at now j)) e
+        (subst (λ (b : Bool). DoneAt (QueryInserts at cells) b (place_at old j) (place_at now j)) e
         (took.each j)) (few j (reader_front places k j e)))

@@ -11,7 +11,7 @@ use Rattle.djq_live_query.specs.Live.{Live, IsKept, SameQuery}
 use Rattle.djq_live_query.specs.Updating.{CanAdd, CanDelete, IsEmpty}
 use Rattle.djq_reach.specs.declared.group.Group.{Group}
 use Rattle.djq_reach.specs.Places.{is_reader, place_at, AreOnce, readers_at, watched_at, log_at, no_log}
-use Rattle.djq_reach.specs.Reaching.{DoneAt, Reach, AllAt, CanCome, CanGo, TakesIn, LetsOut, Remains, GivesBack}
+use Rattle.djq_reach.specs.Reaching.{DoneAt, Reach, AllAt, CanCome, CanGo, QueryInserts, QueryDeletes, QueryUnchanged, GivesBack}
 use Rattle.djq_reach.specs.Tending.{Readies, Empties}
 use Rattle.djq_reach.specs.Grouping.{Clears, reached}
 
@@ -230,7 +230,7 @@ front_kept places k d Does Last P Q old now new o low h r last turns i e =
 -- they can give back
 pub front_goes : (places : List ℕ) (k d at : ℕ) (cells : List ℕ) (old now new : List (Option Live)) → AreOnce places
     → k < length places → CanCome places at cells old
-    → Reach (take k places) (TakesIn at cells) old now → Reach (get_or places k d ∷ []) Remains now new
+    → Reach (take k places) (QueryInserts at cells) old now → Reach (get_or places k d ∷ []) QueryUnchanged now new
     → CanGo (take k places) at cells new
 front_goes places k d at cells old now new o low h r last = record {
   before = h.after;
@@ -238,7 +238,7 @@ front_goes places k d at cells old now new o low h r last = record {
   row = h.row;
   there = h.there;
   went = h.went;
-  kept = front_kept places k d (TakesIn at cells) Remains (λ l. IsKept h.before l) (λ l. IsKept h.after l) old now new o
+  kept = front_kept places k d (QueryInserts at cells) QueryUnchanged (λ l. IsKept h.before l) (λ l. IsKept h.after l) old now new o
       low h.kept r last
       (λ l m k' t. t.follows h.before h.after h.row k' h.came);
 }
@@ -328,11 +328,11 @@ done_back places k d Does Last Back Out old now mid new o low a b c two refused 
 -- a row that came into some of the places and went again
 pub given_back : (places : List ℕ) (k d at : ℕ) (cells : List ℕ) (old now mid new : List (Option Live)) → AreOnce places
     → k < length places
-    → Reach (take k places) (TakesIn at cells) old now → Reach (get_or places k d ∷ []) Remains now mid
-    → Reach (take k places) (LetsOut at cells) mid new
+    → Reach (take k places) (QueryInserts at cells) old now → Reach (get_or places k d ∷ []) QueryUnchanged now mid
+    → Reach (take k places) (QueryDeletes at cells) mid new
     → Reach places (GivesBack at cells) old new
 given_back places k d at cells old now mid new o low a b c =
-    done_back places k d (TakesIn at cells) Remains (LetsOut at cells) (GivesBack at cells) old now mid new o low a b c
+    done_back places k d (QueryInserts at cells) QueryUnchanged (QueryDeletes at cells) (GivesBack at cells) old now mid new o low a b c
     (λ l m n t u. record {
       kept = λ c d row came went k'. u.follows d c row (t.follows c d row k' came) went;
       same = same_then l m n t.same u.same;

@@ -9,7 +9,7 @@ use Rattle.djq_leaves.specs.Batching.{GrowsBy}
 use Rattle.djq_leaves.specs.Changes.{CameAll, IsLater}
 use Rattle.djq_live_query.specs.Live.{Live, IsKept, SameQuery}
 use Rattle.djq_leaves.specs.Stepping.{HasMore}
-use Rattle.djq_live_query.specs.Updating.{KeptAfter, LogsWhere}
+use Rattle.djq_live_query.specs.Updating.{LiveAfter, LogsWhere}
 use Rattle.djq_reach.specs.Places.{watched_at, is_reader, log_at}
 use Rattle.djq_reach.specs.Reaching.{AllAt}
 use Rattle.djq_reach.specs.Tending.{work_at}
@@ -48,8 +48,8 @@ pub record CanGiveAll (l : Live) (at : ℕ) (cells : List (List ℕ)) : Type 0 w
   pub kept : IsKept after l
 
 -- Rows are inserted into a query.
-pub record TakesInAll (at : ℕ) (cells : List (List ℕ)) (l m : Live) : Type 0 where
-  pub follows : KeptAfter (λ c d rows. CameAll c d at cells rows) l m
+pub record QueryInsertsAll (at : ℕ) (cells : List (List ℕ)) (l m : Live) : Type 0 where
+  pub follows : LiveAfter (λ c d rows. CameAll c d at cells rows) l m
   pub same : SameQuery l m
   pub grows : GrowsBy (length cells) l.reducts m.reducts
 
@@ -60,7 +60,7 @@ pub record StaysUnchanged (l m : Live) : Type 0 where
   pub tables : SameTables l.reducts m.reducts
 
 -- Rows that were inserted are deleted from it: it is live over the catalog that was before them.
-pub record LetsOutAll (at : ℕ) (cells : List (List ℕ)) (l m : Live) : Type 0 where
+pub record QueryDeletesAll (at : ℕ) (cells : List (List ℕ)) (l m : Live) : Type 0 where
   pub follows : (c d : Catalog) (rows : List Tuple) → RowsCameIn c d at cells rows → IsKept d l
       → IsKept c m
   pub same : SameQuery l m

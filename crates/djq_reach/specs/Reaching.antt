@@ -6,7 +6,7 @@ use Rattle.djq_live_query.specs.Cursors.{outdated_slots}
 use Rattle.djq_leaves.specs.Changes.{Came, Went}
 use Rattle.djq_live_query.specs.Live.{Live, IsKept, IsLive, SameQuery}
 use Rattle.djq_leaves.specs.Stepping.{GrowsByOne}
-use Rattle.djq_live_query.specs.Updating.{KeptAfter}
+use Rattle.djq_live_query.specs.Updating.{LiveAfter}
 use Rattle.djq_live_query.specs.Staying.{StaysOver}
 use Rattle.djq_reach.specs.Places.{place_at, is_reader}
 
@@ -50,18 +50,18 @@ pub record CanGo (places : List ℕ) (at : ℕ) (cells : List ℕ) (gs : List (O
   pub kept : AllAt places gs (λ l. IsKept before l)
 
 -- A row is inserted into a query.
-pub record TakesIn (at : ℕ) (cells : List ℕ) (l m : Live) : Type 0 where
-  pub follows : KeptAfter (λ c d row. Came c d at cells row) l m
+pub record QueryInserts (at : ℕ) (cells : List ℕ) (l m : Live) : Type 0 where
+  pub follows : LiveAfter (λ c d row. Came c d at cells row) l m
   pub same : SameQuery l m
   pub grows : GrowsByOne l.reducts m.reducts
 
 -- A row is deleted from it.
-pub record LetsOut (at : ℕ) (cells : List ℕ) (l m : Live) : Type 0 where
-  pub follows : KeptAfter (λ c d row. Went c d at cells row) l m
+pub record QueryDeletes (at : ℕ) (cells : List ℕ) (l m : Live) : Type 0 where
+  pub follows : LiveAfter (λ c d row. Went c d at cells row) l m
   pub same : SameQuery l m
 
 -- It is live over the catalog over which it was.
-pub record Remains (l m : Live) : Type 0 where
+pub record QueryUnchanged (l m : Live) : Type 0 where
   pub kept : (c : Catalog) → IsKept c l → IsKept c m
   pub same : SameQuery l m
 
@@ -72,7 +72,7 @@ pub record GivesBack (at : ℕ) (cells : List ℕ) (l m : Live) : Type 0 where
   pub same : SameQuery l m
 
 -- Its open cursors become stale, and it can be read.
-pub record Ages (relation : Bytes) (n : ℕ) (l m : Live) : Type 0 where
+pub record QueryOutdated (relation : Bytes) (n : ℕ) (l m : Live) : Type 0 where
   pub outdated : m ≡ record l { cursors = outdated_slots relation n l.cursors }
   pub live : (c : Catalog) → IsKept c l → IsLive c m
 

@@ -56,7 +56,7 @@ TendedAt Does true None old new = ⊤
 TendedAt Does true (Some l) old new = Does l old new
 
 -- It is done to the logs of the queries in these places, and to no other.
-pub record Tends (places : List ℕ) (Does : ℕ → Live → Log → Log → Type 0)
+pub record LogsHold (places : List ℕ) (Does : ℕ → Live → Log → Log → Type 0)
     (gs : List (Option Live)) (old new : List Log) : Type 0 where
   pub long : length new ≡ length old
   pub each : (i : ℕ) → TendedAt (Does i) (is_reader places i) (place_at gs i) (log_at old i)

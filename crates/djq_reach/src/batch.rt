@@ -5,7 +5,7 @@ ghost use Rattle.djq_database.specs.Catalog.{Catalog as CatalogModel};
 ghost use Rattle.djq_live_query.specs.Live.{IsKept};
 ghost use Rattle.djq_reach.specs.Places.{is_reader, readers_at, watched_at, AreOnce};
 ghost use Rattle.djq_reach.specs.Reaching.{Reach, AllAt, Renews};
-ghost use Rattle.djq_reach.specs.Tending.{Tends, LogTellsAt, AreUnwatched, HaveLogs, Empties};
+ghost use Rattle.djq_reach.specs.Tending.{LogsHold, LogTellsAt, AreUnwatched, HaveLogs, Empties};
 ghost use Rattle.djq_reach.specs.Grouping.{CanComeBy, CanGoBy, Clears, CostsBy, GroupsLead, WorksBy};
 ghost use Rattle.djq_reach.specs.Grouping.{reached, group_relations, rows_of_groups, times_back};
 
@@ -134,7 +134,7 @@ pub fn insert_batch_into_readers<L: Ledgers>(
         → GroupsLead readers.now groups.now queries.old.items c d
         → AllAt (reached readers.now groups.now) queries.old.items (λ l. IsKept c l)
         → Reach (reached readers.now groups.now) (Renews c) queries.old.items queries.new.items) }
-    ensures tells { OnOk result (Tends (reached readers.now groups.now)
+    ensures tells { OnOk result (LogsHold (reached readers.now groups.now)
         (LogTellsAt watchers.now (λ c d (what : ⊤).
         GroupsLead readers.now groups.now queries.old.items c d))
         queries.old.items logs.old.items logs.new.items) }

@@ -4,9 +4,9 @@ ghost use Rattle.std.specs.Prelude.{◌≡◌, ◌<◌, [], ◌∷◌, ⊤, fals
 ghost use Rattle.djq_leaves.specs.Changes.{Came, Went};
 ghost use Rattle.djq_live_query.specs.Updating.{CanAdd, CanDelete};
 ghost use Rattle.djq_reach.specs.Places.{place_at, watched_at, AreOnce};
-ghost use Rattle.djq_reach.specs.Tending.{Readies, Tends, LogTellsAt, LogShows, Costs};
+ghost use Rattle.djq_reach.specs.Tending.{Readies, LogsHold, LogTellsAt, LogShows, Costs};
 ghost use Rattle.djq_reach.specs.Tending.{AreUnwatched, HaveLogs, Empties, Works};
-ghost use Rattle.djq_reach.specs.Reaching.{Reach, AllAt, CanCome, CanGo, TakesIn, LetsOut, Remains, GivesBack, Ages};
+ghost use Rattle.djq_reach.specs.Reaching.{Reach, AllAt, CanCome, CanGo, QueryInserts, QueryDeletes, QueryUnchanged, GivesBack, QueryOutdated};
 
 use crate::places::is_watched;
 use djq_counters::{Ledgers, Steps};
@@ -37,13 +37,13 @@ fn insert_at<L: Ledgers>(
     requires can { IsSomeAnd (place_at queries.old.items at) (λ l. CanAdd l relation.at cells.now) }
     requires watched { at < length watchers.now }
     requires logged { at < length logs.old.items }
-    ensures ok { OnOk result (Reach (at ∷ []) (TakesIn relation.at cells.now)
+    ensures ok { OnOk result (Reach (at ∷ []) (QueryInserts relation.at cells.now)
         queries.old.items queries.new.items) }
-    ensures err { OnErr result (Reach (at ∷ []) Remains queries.old.items queries.new.items) }
-    ensures tells { OnOk result (Tends (at ∷ [])
+    ensures err { OnErr result (Reach (at ∷ []) QueryUnchanged queries.old.items queries.new.items) }
+    ensures tells { OnOk result (LogsHold (at ∷ [])
         (LogTellsAt watchers.now (λ c d. Came c d relation.at cells.now))
         queries.old.items logs.old.items logs.new.items) }
-    ensures shows { Tends (at ∷ []) (LogShows (λ c d. Came c d relation.at cells.now))
+    ensures shows { LogsHold (at ∷ []) (LogShows (λ c d. Came c d relation.at cells.now))
         queries.old.items logs.old.items logs.new.items }
     ensures counted { Costs (λ c d. Came c d relation.at cells.now) (at ∷ []) watchers.now
         queries.old.items relation.at steps.old.listing steps.new.listing }
@@ -77,9 +77,9 @@ fn delete_at<L: Ledgers>(
         (λ l. CanDelete l relation.at cells.now) }
     requires watched { at < length watchers.now }
     requires logged { at < length logs.old.items }
-    ensures reach { Reach (at ∷ []) (LetsOut relation.at cells.now)
+    ensures reach { Reach (at ∷ []) (QueryDeletes relation.at cells.now)
         queries.old.items queries.new.items }
-    ensures tells { Tends (at ∷ []) (LogTellsAt watchers.now (λ c d. Went c d relation.at cells.now))
+    ensures tells { LogsHold (at ∷ []) (LogTellsAt watchers.now (λ c d. Went c d relation.at cells.now))
         queries.old.items logs.old.items logs.new.items }
     ensures counted { Costs (λ c d. Went c d relation.at cells.now) (at ∷ []) watchers.now
         queries.old.items relation.at steps.old.listing steps.new.listing }
@@ -106,7 +106,7 @@ fn give_back_at<L: Ledgers>(
     steps: &mut Steps<L>,
 )
     requires { IsSomeAnd (place_at queries.old.items at) (λ l. CanDelete l relation.at cells.now) }
-    ensures reach { Reach (at ∷ []) (LetsOut relation.at cells.now)
+    ensures reach { Reach (at ∷ []) (QueryDeletes relation.at cells.now)
         queries.old.items queries.new.items }
     ensures counted { steps.new.listing ≡ steps.old.listing }
     ensures updates { Works (at ∷ []) queries.old.items relation.at 1
@@ -121,7 +121,7 @@ fn give_back_at<L: Ledgers>(
 /// Its open cursors become stale.
 fn outdate_at(queries: &mut Vec<Option<LiveQuery>>, at: usize, relation: Name, seq: u64)
     requires { IsSomeAnd (place_at queries.old.items at) (λ l. ⊤) }
-    ensures { Reach (at ∷ []) (Ages relation seq) queries.old.items queries.new.items }
+    ensures { Reach (at ∷ []) (QueryOutdated relation seq) queries.old.items queries.new.items }
 {
     match &mut queries[at] {
         Some(query) => query.outdate(relation, seq),
@@ -150,14 +150,14 @@ pub fn insert_into_readers<L: Ledgers>(
     requires can { CanCome places.now relation.at cells.now queries.old.items }
     requires watched { length watchers.now ≡ length queries.old.items }
     requires logged { length logs.old.items ≡ length queries.old.items }
-    ensures taken { OnOk result (Reach places.now (TakesIn relation.at cells.now)
+    ensures taken { OnOk result (Reach places.now (QueryInserts relation.at cells.now)
         queries.old.items queries.new.items) }
     ensures given { OnErr result (Reach places.now (GivesBack relation.at cells.now)
         queries.old.items queries.new.items) }
-    ensures tells { OnOk result (Tends places.now
+    ensures tells { OnOk result (LogsHold places.now
         (LogTellsAt watchers.now (λ c d. Came c d relation.at cells.now))
         queries.old.items logs.old.items logs.new.items) }
-    ensures shows { Tends places.now (LogShows (λ c d. Came c d relation.at cells.now))
+    ensures shows { LogsHold places.now (LogShows (λ c d. Came c d relation.at cells.now))
         queries.old.items logs.old.items logs.new.items }
     ensures counted { Costs (λ c d. Came c d relation.at cells.now) places.now watchers.now
         queries.old.items relation.at steps.old.listing steps.new.listing }
@@ -190,7 +190,7 @@ fn give_back<L: Ledgers>(
 )
     requires once { AreOnce places.now }
     requires can { CanGo places.now relation.at cells.now queries.old.items }
-    ensures reach { Reach places.now (LetsOut relation.at cells.now)
+    ensures reach { Reach places.now (QueryDeletes relation.at cells.now)
         queries.old.items queries.new.items }
     ensures counted { steps.new.listing ≡ steps.old.listing }
     ensures updates { Works places.now queries.old.items relation.at 1
@@ -216,9 +216,9 @@ pub fn delete_from_readers<L: Ledgers>(
     requires can { CanGo places.now relation.at cells.now queries.old.items }
     requires watched { length watchers.now ≡ length queries.old.items }
     requires logged { length logs.old.items ≡ length queries.old.items }
-    ensures reach { Reach places.now (LetsOut relation.at cells.now)
+    ensures reach { Reach places.now (QueryDeletes relation.at cells.now)
         queries.old.items queries.new.items }
-    ensures tells { Tends places.now (LogTellsAt watchers.now (λ c d. Went c d relation.at cells.now))
+    ensures tells { LogsHold places.now (LogTellsAt watchers.now (λ c d. Went c d relation.at cells.now))
         queries.old.items logs.old.items logs.new.items }
     ensures counted { Costs (λ c d. Went c d relation.at cells.now) places.now watchers.now
         queries.old.items relation.at steps.old.listing steps.new.listing }
@@ -246,7 +246,7 @@ pub fn empty_logs(logs: &mut Vec<DeltaLog>, places: &[usize])
 pub fn outdate(queries: &mut Vec<Option<LiveQuery>>, places: &[usize], relation: Name, seq: u64)
     requires once { AreOnce places.now }
     requires there { AllAt places.now queries.old.items (λ l. ⊤) }
-    ensures { Reach places.now (Ages relation seq) queries.old.items queries.new.items }
+    ensures { Reach places.now (QueryOutdated relation seq) queries.old.items queries.new.items }
 {
     for at in 0..places.len() {
         outdate_at(queries, places[at], relation, seq);

@@ -5,9 +5,9 @@ ghost use Rattle.djq_leaves.specs.Changes.{CameAll};
 ghost use Rattle.djq_live_query.specs.Updating.{CanAddAll, CountsUpdate};
 ghost use Rattle.djq_reach.specs.Places.{place_at, watched_at, AreOnce};
 ghost use Rattle.djq_reach.specs.Reaching.{Reach};
-ghost use Rattle.djq_reach.specs.Tending.{Tends, Costs, AreUnwatched};
+ghost use Rattle.djq_reach.specs.Tending.{LogsHold, Costs, AreUnwatched};
 ghost use Rattle.djq_reach.specs.Batching.{CanComeAll, CanGoAll, CanGiveAll, LogsAt, OtherLogsStay};
-ghost use Rattle.djq_reach.specs.Batching.{TakesInAll, StaysUnchanged, LetsOutAll, GivesAllBack, WorksBatch};
+ghost use Rattle.djq_reach.specs.Batching.{QueryInsertsAll, StaysUnchanged, QueryDeletesAll, GivesAllBack, WorksBatch};
 
 use crate::places::is_watched;
 use djq_counters::{Ledgers, Steps};
@@ -32,10 +32,10 @@ fn insert_rows_at<L: Ledgers>(
         (λ l. CanAddAll l relation.at rows.now) }
     requires watched { at < length watchers.now }
     requires logged { at < length logs.old.items }
-    ensures ok { OnOk result (Reach (at ∷ []) (TakesInAll relation.at rows.now)
+    ensures ok { OnOk result (Reach (at ∷ []) (QueryInsertsAll relation.at rows.now)
         queries.old.items queries.new.items) }
     ensures err { OnErr result (Reach (at ∷ []) StaysUnchanged queries.old.items queries.new.items) }
-    ensures tells { OnOk result (Tends (at ∷ [])
+    ensures tells { OnOk result (LogsHold (at ∷ [])
         (LogsAt watchers.now (λ c d. CameAll c d relation.at rows.now))
         queries.old.items logs.old.items logs.new.items) }
     ensures others { OtherLogsStay (at ∷ []) logs.old.items logs.new.items }
@@ -63,7 +63,7 @@ fn give_rows_back<L: Ledgers>(
     steps: &mut Steps<L>,
 )
     requires { CanGiveAll query.old relation.at rows.now }
-    ensures given { LetsOutAll relation.at rows.now query.old query.new }
+    ensures given { QueryDeletesAll relation.at rows.now query.old query.new }
     ensures counted { steps.new.listing ≡ steps.old.listing }
     ensures updates { CountsUpdate (length rows.now) query.old relation.at
         steps.old.update steps.new.update }
@@ -84,7 +84,7 @@ fn give_rows_back_at<L: Ledgers>(
     steps: &mut Steps<L>,
 )
     requires { IsSomeAnd (place_at queries.old.items at) (λ l. CanGiveAll l relation.at rows.now) }
-    ensures reach { Reach (at ∷ []) (LetsOutAll relation.at rows.now)
+    ensures reach { Reach (at ∷ []) (QueryDeletesAll relation.at rows.now)
         queries.old.items queries.new.items }
     ensures counted { steps.new.listing ≡ steps.old.listing }
     ensures updates { WorksBatch (at ∷ []) queries.old.items relation.at 0 (length rows.now)
@@ -116,11 +116,11 @@ pub fn insert_all_into_readers<L: Ledgers>(
     requires can { CanComeAll places.now relation.at rows.now queries.old.items }
     requires watched { length watchers.now ≡ length queries.old.items }
     requires logged { length logs.old.items ≡ length queries.old.items }
-    ensures taken { OnOk result (Reach places.now (TakesInAll relation.at rows.now)
+    ensures taken { OnOk result (Reach places.now (QueryInsertsAll relation.at rows.now)
         queries.old.items queries.new.items) }
     ensures given { OnErr result (Reach places.now (GivesAllBack relation.at rows.now)
         queries.old.items queries.new.items) }
-    ensures tells { OnOk result (Tends places.now
+    ensures tells { OnOk result (LogsHold places.now
         (LogsAt watchers.now (λ c d. CameAll c d relation.at rows.now))
         queries.old.items logs.old.items logs.new.items) }
     ensures others { OtherLogsStay places.now logs.old.items logs.new.items }
@@ -155,7 +155,7 @@ pub(crate) fn give_all_back<L: Ledgers>(
 )
     requires once { AreOnce places.now }
     requires can { CanGoAll places.now relation.at rows.now queries.old.items }
-    ensures reach { Reach places.now (LetsOutAll relation.at rows.now)
+    ensures reach { Reach places.now (QueryDeletesAll relation.at rows.now)
         queries.old.items queries.new.items }
     ensures counted { steps.new.listing ≡ steps.old.listing }
     ensures updates { WorksBatch places.now queries.old.items relation.at 0 (length rows.now)

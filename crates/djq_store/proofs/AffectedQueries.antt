@@ -28,15 +28,15 @@ use Rattle.djq_live_query.specs.Updating.{change_of}
 use Rattle.djq_reach.specs.Places.{is_reader}
 use Rattle.djq_united.specs.United.{IsUnited, union_of}
 use Rattle.djq_engine.specs.declared.cursor.QueryId.{QueryId}
-use Rattle.djq_engine.specs.Kept.{Kept, Registered, SameShape, affected_of, told_at, same_query, registered_at}
-use Rattle.djq_engine.specs.Kept.{readers_of}
+use Rattle.djq_engine.specs.StoreModel.{StoreModel, Registered, SameShape, affected_of, told_at, same_query, registered_at}
+use Rattle.djq_engine.specs.StoreModel.{readers_of}
 use Rattle.djq_engine.specs.Watching.{LogsTell}
 use Rattle.djq_engine.specs.Places.{id_at}
 use Rattle.djq_engine.proofs.QueryPlaces.{filter_members}
 use Rattle.djq_gains.specs.Gains.{members_at, count_in, HaveChanged, TellUnion}
 use Rattle.djq_gains.proofs.DeltaLines.{twice_mapped}
 use Rattle.djq_store.specs.declared.joined.Joined.{Joined}
-use Rattle.djq_store.specs.declared.settling.Turn.{Turn}
+use Rattle.djq_store.specs.declared.settling.UnionUpdate.{UnionUpdate}
 use Rattle.djq_store.specs.Places.{joined_at, listed_at}
 use Rattle.djq_store.specs.Settling.{touched_in, asking_steps, is_settled}
 use Rattle.djq_store.specs.Whole.{IsListed, IsCounted}
@@ -57,7 +57,7 @@ map_same g h [] same = refl
 map_same g h (x ∷ xs) same =
     ap₂ (λ y ys. y ∷ ys) (same x (first_there x xs x refl)) (map_same g h xs (λ y c. same y (later_there x xs y c)))
 
-module _ (change : RowsChange) (relations : List Bytes) (turn : Turn) (e e' : Kept) (us us' : List (Option Joined))
+module _ (change : RowsChange) (relations : List Bytes) (turn : UnionUpdate) (e e' : StoreModel) (us us' : List (Option Joined))
     (b : Behind (Some change) relations turn e e' us us') (order : List ℕ) (w : IsListed e us order)
     (sessions : List ℕ) (c : IsCounted e us sessions) (eds : List Delta)
     (are : AreDeltas (e.store).relations change (map (λ (r : Registered). r.query) (affected_of e.registered change))
@@ -288,7 +288,7 @@ reached_is p rs r apart c = by (p r) refl
         none false f = refl
         none true f = absurd (false≢true (sym e ∙ back f))
 
-module _ (change : RowsChange) (relations : List Bytes) (turn : Turn) (e e' : Kept) (us us' : List (Option Joined))
+module _ (change : RowsChange) (relations : List Bytes) (turn : UnionUpdate) (e e' : StoreModel) (us us' : List (Option Joined))
     (b : Behind (Some change) relations turn e e' us us') (order : List ℕ) (w : IsListed e us order)
     (affects : e'.affected ≡ map (λ (r : Registered). r.id) (readers_of e.registered change)) where
   abbrev pub out_at : ℕ → Bool

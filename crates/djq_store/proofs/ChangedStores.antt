@@ -32,15 +32,15 @@ use Rattle.djq_united.specs.United.{United, IsUnited, union_of, first_of_members
 use Rattle.djq_united.specs.Slots.{UnionProgress, slot_at, outdated_progress}
 use Rattle.djq_engine.specs.declared.cursor.CursorId.{CursorId}
 use Rattle.djq_engine.specs.declared.cursor.QueryId.{QueryId}
-use Rattle.djq_engine.specs.Kept.{Kept, Registered, Outdates, KeepsPlaces, KeepsQuery, SameShape, is_tried, HeldCursor}
-use Rattle.djq_engine.specs.Kept.{same_id, held_at, registered_at, outdated_held, cursors_behind, told_at}
+use Rattle.djq_engine.specs.StoreModel.{StoreModel, Registered, Outdates, KeepsPlaces, KeepsQuery, SameShape, is_tried, HeldCursor}
+use Rattle.djq_engine.specs.StoreModel.{same_id, held_at, registered_at, outdated_held, cursors_behind, told_at}
 use Rattle.djq_engine.specs.Laws.{IsEngine}
 use Rattle.djq_engine.specs.Places.{id_at, told_of}
 use Rattle.djq_engine.proofs.QueryPlaces.{map_members, find_mapped}
 use Rattle.djq_gains.specs.Gains.{TellUnion}
 use Rattle.djq_store.specs.declared.joined.Joined.{Joined}
-use Rattle.djq_store.specs.declared.settling.Turn.{Turn}
-use Rattle.djq_store.specs.declared.settling.Turn.TheVariants.{Changed, Lacked}
+use Rattle.djq_store.specs.declared.settling.UnionUpdate.{UnionUpdate}
+use Rattle.djq_store.specs.declared.settling.UnionUpdate.TheVariants.{Changed, Lacked}
 use Rattle.djq_store.specs.Places.{joined_at, first_member, listed_at, registered_as, held_union_cursor}
 use Rattle.djq_store.specs.Places.{union_cursor_of, cursors_in, store_seen, told_of_union}
 use Rattle.djq_store.specs.Settling.{first_read_by, touched_in, outdated_union, TellsUnionLog, TellsWatched, SettlesLog}
@@ -69,7 +69,7 @@ tried_outdater None q = refl
 tried_outdater (Some change) q = refl
 
 -- What the engine did: a command of rows came to this.
-pub record Did (e : Kept) (o : Option RowsChange) (e' : Kept) : Type 0 where
+pub record Did (e : StoreModel) (o : Option RowsChange) (e' : StoreModel) : Type 0 where
   pub before : IsEngine e
   pub after : IsEngine e'
   pub registered : e'.registered ≡ e.registered
@@ -79,7 +79,7 @@ pub record Did (e : Kept) (o : Option RowsChange) (e' : Kept) : Type 0 where
   pub texts : (e'.store).texts ≡ (e.store).texts ++ more
 
 -- And the unions were settled behind it.
-pub record Behind (o : Option RowsChange) (relations : List Bytes) (turn : Turn) (e e' : Kept)
+pub record Behind (o : Option RowsChange) (relations : List Bytes) (turn : UnionUpdate) (e e' : StoreModel)
     (us us' : List (Option Joined)) : Type 0 where
   pub laws : StayingLaws
   pub did : Did e o e'
@@ -104,7 +104,7 @@ pub first_get : (ls : List Live) → slice_get ls 0 ≡ first_of_members ls
 first_get [] = refl
 first_get (l ∷ ls) = refl
 
-module _ (o : Option RowsChange) (relations : List Bytes) (turn : Turn) (e e' : Kept) (us us' : List (Option Joined))
+module _ (o : Option RowsChange) (relations : List Bytes) (turn : UnionUpdate) (e e' : StoreModel) (us us' : List (Option Joined))
     (b : Behind o relations turn e e' us us') where
   pub grows : Grows e e'
   grows = record {
@@ -250,7 +250,7 @@ module _ (o : Option RowsChange) (relations : List Bytes) (turn : Turn) (e e' : 
         watched_shown true t = told_shown t
         watched_shown false t = kept_shown t
 
-        turn_shown : (t : Turn) → SettlesLog e' relations t j j'.log → Shown j'.log
+        turn_shown : (t : UnionUpdate) → SettlesLog e' relations t j j'.log → Shown j'.log
         turn_shown Changed t = watched_shown (nat_lt 0 j.watchers) t
         turn_shown Lacked t = empty_shown t.0
 
@@ -307,7 +307,7 @@ abbrev pub aged : List Listed → Option RowsChange → ℕ → HeldCursor → H
 aged qs None n x = x
 aged qs (Some change) n x = outdated_held qs change.outdater n x
 
-behind_is : (k : Kept) (o : Option RowsChange) (n : ℕ) (id : CursorId)
+behind_is : (k : StoreModel) (o : Option RowsChange) (n : ℕ) (id : CursorId)
     → held_at (cursors_behind k o n) id ≡ option_map (aged (k.store).queries o n) (held_at k.cursors id)
 behind_is k None n id = by (held_at k.cursors id)
   where
@@ -336,7 +336,7 @@ slot_mapped f [] (suc k) = refl
 slot_mapped f (p ∷ slots) zero = refl
 slot_mapped f (p ∷ slots) (suc k) = slot_mapped f slots k
 
-module _ (o : Option RowsChange) (relations : List Bytes) (turn : Turn) (e e' : Kept) (us us' : List (Option Joined))
+module _ (o : Option RowsChange) (relations : List Bytes) (turn : UnionUpdate) (e e' : StoreModel) (us us' : List (Option Joined))
     (b : Behind o relations turn e e' us us') (order : List ℕ) (w : IsListed e us order)
     (sessions affected affected' : List ℕ) where
   abbrev qs : List Listed
@@ -492,7 +492,7 @@ slot_told t [] (suc k) none = sym none
 slot_told t (o ∷ us) zero none = refl
 slot_told t (o ∷ us) (suc k) none = slot_told t us k none
 
-module _ (e : Kept) (b : IsEngine e) (us : List (Option Joined)) (order sessions affected : List ℕ) where
+module _ (e : StoreModel) (b : IsEngine e) (us : List (Option Joined)) (order sessions affected : List ℕ) where
   few_told : length e.told ≤ QUERIES
   few_told = let long = b.long in let few = b.few in omega (arith, long, few)
 
@@ -512,7 +512,7 @@ query_in gs m = the_query (query_at gs m)
 
 -- ---- the log of a union
 
-module _ (o : Option RowsChange) (relations : List Bytes) (turn : Turn) (e e' : Kept) (us us' : List (Option Joined))
+module _ (o : Option RowsChange) (relations : List Bytes) (turn : UnionUpdate) (e e' : StoreModel) (us us' : List (Option Joined))
     (b : Behind o relations turn e e' us us') (order : List ℕ) (w : IsListed e us order) (k : ℕ) (j : Joined)
     (there : joined_at us k ≡ Some j) where
   pub united : IsUnited e.places j.union
@@ -566,7 +566,7 @@ module _ (o : Option RowsChange) (relations : List Bytes) (turn : Turn) (e e' : 
       by : (r : Option Bytes) → is_some r ≡ true → SettlesLogBy r e' relations turn j (now.after).log
           → ((now.after).log.lines ≡ []) × ((now.after).log.lost ≡ false)
       by None miss s = absurd (false≢true miss)
-      by (Some r) at s = subst (λ (t : Turn). SettlesLog e' relations t j (now.after).log) lacks s
+      by (Some r) at s = subst (λ (t : UnionUpdate). SettlesLog e' relations t j (now.after).log) lacks s
 
   -- what is registered is bound, so it has a delta whatever relations there are
   pub some_delta : (before after : List Relation) → (changes : List Change)
@@ -588,7 +588,7 @@ module _ (o : Option RowsChange) (relations : List Bytes) (turn : Turn) (e e' : 
 
 -- ---- what stays
 
-module _ (o : Option RowsChange) (relations : List Bytes) (turn : Turn) (e e' : Kept) (us us' : List (Option Joined))
+module _ (o : Option RowsChange) (relations : List Bytes) (turn : UnionUpdate) (e e' : StoreModel) (us us' : List (Option Joined))
     (b : Behind o relations turn e e' us us') (order : List ℕ) (w : IsListed e us order)
     (sessions affected affected' : List ℕ)
     (stays : (id : QueryId) → IsSomeAnd (registered_at e.registered id) (λ r. is_reached o r ≡ false)

@@ -27,7 +27,7 @@ use Rattle.djq_live_query.specs.Member.{query_at, queries_at, HaveQueries}
 use Rattle.djq_live_query.proofs.Catalogs.{nth_is}
 use Rattle.djq_reach.specs.Places.{is_reader}
 use Rattle.djq_reach.proofs.PlacedQueries.{place_below}
-use Rattle.djq_engine.specs.Kept.{Registered, Kept, AtPlace, same_query, registered_at, readers_of}
+use Rattle.djq_engine.specs.StoreModel.{Registered, StoreModel, AtPlace, same_query, registered_at, readers_of}
 use Rattle.djq_engine.specs.Watching.{AreBounded, IsBoundedBy, CountsUpdates, CountsLines, lines_steps, bounded_steps, update_steps}
 use Rattle.djq_engine.specs.Laws.{IsEngine}
 use Rattle.djq_engine.proofs.QueryPlaces.{reader_filter}
@@ -349,7 +349,7 @@ order_has (i ∷ order) at c = by (i == at) refl (first_or_later i order at c) (
     by false f (inl e) more = absurd (false≢true (sym f ∙ eq-eqb i at e))
     by false f (inr k) more = more k
 
-module _ (e : Kept) (b : IsEngine e) (us : List (Option Joined)) (order : List ℕ) (w : IsListed e us order)
+module _ (e : StoreModel) (b : IsEngine e) (us : List (Option Joined)) (order : List ℕ) (w : IsListed e us order)
     (sessions : List ℕ) where
   -- what is registered, as contracts see it
   abbrev pub all : List Registered
@@ -429,7 +429,7 @@ module _ (e : Kept) (b : IsEngine e) (us : List (Option Joined)) (order : List �
           ap (λ (s : Registered). listed_at e.places us s.id.at) (sym o.2) ∙ ap (λ (s : Registered). s.query) o.2
 
   -- a bound on what is seen is one on the engine's queries
-  pub bounded_seen : (change : RowsChange) (seen : Kept) → seen.registered ≡ all
+  pub bounded_seen : (change : RowsChange) (seen : StoreModel) → seen.registered ≡ all
       → (seen.store).relations ≡ (e.store).relations → (n : ℕ) (as_flat : Listed → Bool)
       → AreBounded seen change n as_flat → AreBounded e change n as_flat
   bounded_seen change seen is relations n as_flat bounded id r found out =
@@ -448,7 +448,7 @@ module _ (e : Kept) (b : IsEngine e) (us : List (Option Joined)) (order : List �
       only : {x y : Registered} → Some x ≡ Some y → x ≡ y
       only h = cc
 
-  pub counts_seen : (times : ℕ) (change : RowsChange) (seen : Kept) (before now : ℕ) → seen.registered ≡ all
+  pub counts_seen : (times : ℕ) (change : RowsChange) (seen : StoreModel) (before now : ℕ) → seen.registered ≡ all
       → (seen.store).relations ≡ (e.store).relations → CountsUpdates times e change before now
       → CountsUpdates times seen change before now
   counts_seen times change seen before now is relations h = record {
@@ -461,7 +461,7 @@ module _ (e : Kept) (b : IsEngine e) (us : List (Option Joined)) (order : List �
         (omega (arith, low, more));
   }
 
-  pub counts_lines_seen : (r : Result ℕ DoneRefusal) (lines : List HeldLine) (seen : Kept) (before now : ℕ)
+  pub counts_lines_seen : (r : Result ℕ DoneRefusal) (lines : List HeldLine) (seen : StoreModel) (before now : ℕ)
       → seen.registered ≡ all → (seen.store).relations ≡ (e.store).relations → CountsLines r e lines before now
       → CountsLines r seen lines before now
   counts_lines_seen r lines seen before now is relations h = record {

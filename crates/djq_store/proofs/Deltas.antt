@@ -17,7 +17,7 @@ use Rattle.djq_store_spec.specs.Delta.{Change, IsDelta}
 use Rattle.djq_store_spec.specs.DeltaCost.{Part, Delta, is_touched, ArePartsOf, AreDeltas, changes_steps, parts_steps}
 use Rattle.djq_store_spec.specs.DeltaCost.{listed_steps, delta_steps, ListsAnswers, ListsDelta}
 use Rattle.djq_answer_laws.proofs.Lists.{first_there, later_there, pairs_head, pairs_tail, hold_each}
-use Rattle.djq_engine.specs.Kept.{Kept, Registered, same_query, told_at}
+use Rattle.djq_engine.specs.StoreModel.{StoreModel, Registered, same_query, told_at}
 use Rattle.djq_engine.specs.Watching.{LogTells, LogsTell}
 use Rattle.djq_store.proofs.Costs.{sum_same, sum_covered, sum_kept, kept_was, sum_plus, all_of, sum_all_of, in_all_of}
 
@@ -35,7 +35,7 @@ listed_in [] ds i = 0
 listed_in (r ∷ rs) [] i = 0
 listed_in (r ∷ rs) (d ∷ ds) i = cond (r.id.at == i) d.listed (listed_in rs ds i)
 
-module _ (before : List Relation) (change : RowsChange) (h : ℕ → Query) (k : Kept) where
+module _ (before : List Relation) (change : RowsChange) (h : ℕ → Query) (k : StoreModel) where
   -- what the deltas of registered queries say of these, by place
   pub record ByPlace (rs : List Registered) (ds : List Delta) (f : ℕ → List Change) (n : ℕ → ℕ) : Type 0 where
     pub deltas : All (λ r. IsDelta (IsAnswer before (h r.id.at)) (IsAnswer change.after (h r.id.at)) (f r.id.at)) rs
@@ -410,7 +410,7 @@ module _ (before : List Relation) (change : RowsChange) (h : ℕ → Query) (f :
 
 -- what the logs tell of them
 pub logs_tell : (before : List Relation) (change : RowsChange) (h : ℕ → Query) (f : ℕ → List Change)
-    (n : ℕ → ℕ) (members : ℕ → Option (List ℕ)) (places : List ℕ) (k : Kept)
+    (n : ℕ → ℕ) (members : ℕ → Option (List ℕ)) (places : List ℕ) (k : StoreModel)
     → (deltas : (m : ℕ) → Contains places m → IsDelta (IsAnswer before (h m)) (IsAnswer change.after (h m)) (f m))
     → (listed : (m : ℕ) → Contains places m → ListsAnswers before change (h m) (f m) (n m))
     → (rs : List Registered) (ds : List Delta)

@@ -18,8 +18,8 @@ use Rattle.djq_united.specs.Slots.{UnionProgress, slot_at, are_vacant}
 use Rattle.djq_united.specs.United.{IsUnited, union_of}
 use Rattle.djq_engine.specs.declared.cursor.CursorId.{CursorId}
 use Rattle.djq_engine.specs.declared.cursor.QueryId.{QueryId}
-use Rattle.djq_engine.specs.Kept.{Kept, HeldCursor, Registered, SameCursors, Uses, DropGives, TellsOfQuery, same_query}
-use Rattle.djq_engine.specs.Kept.{held_at, registered_at, registered_of, is_watched}
+use Rattle.djq_engine.specs.StoreModel.{StoreModel, HeldCursor, Registered, SameCursors, Uses, DropGives, TellsOfQuery, same_query}
+use Rattle.djq_engine.specs.StoreModel.{held_at, registered_at, registered_of, is_watched}
 use Rattle.djq_engine.specs.Places.{id_at, places_without}
 use Rattle.djq_engine.specs.Laws.{IsEngine}
 use Rattle.djq_engine.proofs.Conditions.{answers_refused, answers_done}
@@ -44,12 +44,12 @@ vacant_slot : {A : Type 0} (xs : List (Option A)) → count_by is_some xs ≡ 0 
 vacant_slot xs none i x f = let some = count_positive is_some xs i (slot_below xs i x f) (ap is_some f) in omega
     (arith, some, none)
 
-module _ (e : Kept) (b : IsEngine e) (us : List (Option Joined)) (order sessions affected : List ℕ)
+module _ (e : StoreModel) (b : IsEngine e) (us : List (Option Joined)) (order sessions affected : List ℕ)
     (w : IsListed e us order) (k : ℕ) (j : Joined) (there : joined_at us k ≡ Some j) where
   abbrev at : ℕ
   at = QUERIES + k
 
-  abbrev old : Kept
+  abbrev old : StoreModel
   old = store_seen e us order sessions affected
 
   abbrev name : Bytes
@@ -225,7 +225,7 @@ module _ (e : Kept) (b : IsEngine e) (us : List (Option Joined)) (order sessions
         few_at i (inr (inl l)) = few_other i (λ h. omega (arith, h, l))
         few_at i (inr (inr l)) = few_other i (λ h. omega (arith, h, l))
 
-    abbrev new : Kept
+    abbrev new : StoreModel
     new = store_seen e us' (places_without at order) sessions (places_without at affected)
 
     test_at : (i : ℕ) → is_reader order i ≡ true → bytes_eq (listed_name (listed_at e.places us i)) name ≡ (i == at)

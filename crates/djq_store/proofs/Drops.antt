@@ -19,8 +19,8 @@ use Rattle.djq_reach.specs.Places.{is_reader}
 use Rattle.djq_united.specs.Slots.{UnionProgress, slot_at}
 use Rattle.djq_engine.specs.declared.cursor.CursorId.{CursorId}
 use Rattle.djq_engine.specs.declared.cursor.QueryId.{QueryId}
-use Rattle.djq_engine.specs.Kept.{Kept, HeldCursor, Registered, KeepsQuery, KeepsTables, Uses, DropGives, DropsPlace}
-use Rattle.djq_engine.specs.Kept.{TellsOfQuery, same_query, held_at, registered_at, registered_of, is_watched, same_id}
+use Rattle.djq_engine.specs.StoreModel.{StoreModel, HeldCursor, Registered, KeepsQuery, KeepsTables, Uses, DropGives, DropsPlace}
+use Rattle.djq_engine.specs.StoreModel.{TellsOfQuery, same_query, held_at, registered_at, registered_of, is_watched, same_id}
 use Rattle.djq_engine.specs.Places.{id_at, places_without}
 use Rattle.djq_engine.specs.Laws.{IsEngine}
 use Rattle.djq_engine.proofs.QueryPlaces.{reader_filter, find_mapped}
@@ -71,11 +71,11 @@ any_none p q (y ∷ xs) x e f = step (p y) refl e (q y) f (any_none p q xs x)
     step false g e true f more = ap p (sym (same f)) ∙ g
     step false g e false f more = more e f
 
-pub record Decided (k : Kept) (name : Bytes) : Type 0 where
+pub record Decided (k : StoreModel) (name : Bytes) : Type 0 where
   pub used : Bool
   pub uses : Uses k name used
 
-pub decided : (k : Kept) (name : Bytes) → Decided k name
+pub decided : (k : StoreModel) (name : Bytes) → Decided k name
 decided k name = by_cursor (list_any over k.cursors) refl
   where
     over : HeldCursor → Bool
@@ -160,10 +160,10 @@ found_by_id (x ∷ rs) r p apart e = step (p x) e
     step false f more = ap (λ c. cond c (Some x) (find (λ (y : Registered). same_query y.id r.id) rs)) (differs f)
         ∙ more f
 
-module _ (e : Kept) (b : IsEngine e) (us : List (Option Joined)) (order sessions affected : List ℕ)
+module _ (e : StoreModel) (b : IsEngine e) (us : List (Option Joined)) (order sessions affected : List ℕ)
     (w : IsListed e us order) (count : IsCounted e us sessions)
     (name : Bytes) (none : NoUnion us name) where
-  abbrev old : Kept
+  abbrev old : StoreModel
   old = store_seen e us order sessions affected
 
   same_listed : listed_of old.store.queries name ≡ listed_of (e.store).queries name
@@ -324,7 +324,7 @@ module _ (e : Kept) (b : IsEngine e) (us : List (Option Joined)) (order sessions
                   (sym (held_high e us id b t.slot t.is) ∙ f) called
 
       -- it is dropped, or it isn't
-      pub drop_done : (e' : Kept) → IsEngine e' → DropGives e name (Ok tt) e' → DropsPlace e name (Ok tt) e'
+      pub drop_done : (e' : StoreModel) → IsEngine e' → DropGives e name (Ok tt) e' → DropsPlace e name (Ok tt) e'
           → Vacates e e' us name at
       drop_done e' b' g places =
           let p = subst (λ (o : Option Registered). IsSomeAnd o (λ r. e'.places ≡ set e.places r.id.at None)) in_engine
@@ -350,7 +350,7 @@ module _ (e : Kept) (b : IsEngine e) (us : List (Option Joined)) (order sessions
             none = alone;
           }
 
-      pub drop_gives : (e' : Kept) → (v : Vacates e e' us name at) → DropGives e name (Ok tt) e'
+      pub drop_gives : (e' : StoreModel) → (v : Vacates e e' us name at) → DropGives e name (Ok tt) e'
           → DropGives old name (Ok tt)
           (store_seen e' us (places_without at order) sessions (places_without at affected))
       drop_gives e' v g =
@@ -375,7 +375,7 @@ module _ (e : Kept) (b : IsEngine e) (us : List (Option Joined)) (order sessions
             tellings = vacated_tells e e' us order sessions affected w name at v;
           }
 
-      pub drop_refused : (e' : Kept) (x : Refusal) → (r : Rests e e') → DropGives e name (Err x) e'
+      pub drop_refused : (e' : StoreModel) (x : Refusal) → (r : Rests e e') → DropGives e name (Err x) e'
           → DropGives old name (Err x) (store_seen e' us order sessions affected)
       drop_refused e' x r g = record {
         used = g.used;
@@ -396,7 +396,7 @@ module _ (e : Kept) (b : IsEngine e) (us : List (Option Joined)) (order sessions
       }
 
 -- where nothing was dropped all stays
-pub drop_rests : (e e' : Kept) → IsEngine e → IsEngine e' → StayingLaws → (name : Bytes) (x : Refusal)
+pub drop_rests : (e e' : StoreModel) → IsEngine e → IsEngine e' → StayingLaws → (name : Bytes) (x : Refusal)
     → DropGives e name (Err x) e' → DropsPlace e name (Err x) e' → Rests e e'
 drop_rests e e' b b' laws name x g places = rests_with e e' b b' laws stay g.store.stays
   where
@@ -416,11 +416,11 @@ none_of f None e = refl
 none_of f (Some x) e = absurd cc
 
 -- the query of a name, in its place
-pub record NamedSeat (e : Kept) (name : Bytes) (at : ℕ) : Type 0 where
+pub record NamedSeat (e : StoreModel) (name : Bytes) (at : ℕ) : Type 0 where
   pub seat : Seat e at
   pub called : seat.query.query.name ≡ name
 
-pub named_seat : (e : Kept) → IsEngine e → (us : List (Option Joined)) (order : List ℕ) → IsListed e us order
+pub named_seat : (e : StoreModel) → IsEngine e → (us : List (Option Joined)) (order : List ℕ) → IsListed e us order
     → (name : Bytes) → NoUnion us name → (id : QueryId) → Some id
     ≡ option_map (λ (r : Registered). r.id) (registered_of e.registered name) → NamedSeat e name id.at
 named_seat e b us order w name none id is = by_found (registered_of e.registered name) refl is
@@ -447,7 +447,7 @@ named_seat e b us order w name none id is = by_found (registered_of e.registered
               ∙ ap (λ (x : Registered). listed_name x.query) (same_one (sym s.found ∙ again)) ∙ called;
         })
 
-pub unknown_name : (e : Kept) → IsEngine e → (name : Bytes) → None
+pub unknown_name : (e : StoreModel) → IsEngine e → (name : Bytes) → None
     ≡ option_map (λ (r : Registered). r.id) (registered_of e.registered name) → listed_of (e.store).queries name ≡ None
 unknown_name e b name is =
     ap (λ qs. listed_of qs name) (sym b.queries)

@@ -29,12 +29,12 @@ use Rattle.djq_united.specs.United.{United, IsUnited, first_of_members, union_of
 use Rattle.djq_united.specs.Slots.{UnionProgress, slot_at}
 use Rattle.djq_united.proofs.Cursors.{members_stayed, unions_stayed}
 use Rattle.djq_engine.specs.declared.cursor.CursorId.{CursorId}
-use Rattle.djq_engine.specs.Kept.{Kept, SameShape, KeepsPlaces, KeepsQuery, KeepsTables, Registered, SameCursors}
-use Rattle.djq_engine.specs.Kept.{SameTellings, PlacesAreKept, held_at, HeldCursor, registered_at, MovesCursor, IsHeld}
-use Rattle.djq_engine.specs.Kept.{IsFresh, IsShown, AnswerIs, read_steps}
+use Rattle.djq_engine.specs.StoreModel.{StoreModel, SameShape, KeepsPlaces, KeepsQuery, KeepsTables, Registered, SameCursors}
+use Rattle.djq_engine.specs.StoreModel.{SameTellings, PlacesAreKept, held_at, HeldCursor, registered_at, MovesCursor, IsHeld}
+use Rattle.djq_engine.specs.StoreModel.{IsFresh, IsShown, AnswerIs, read_steps}
 use Rattle.djq_engine.specs.Places.{told_of}
 use Rattle.djq_engine.specs.Laws.{IsEngine}
-use Rattle.djq_engine.specs.Kept as kept
+use Rattle.djq_engine.specs.StoreModel as kept
 use Rattle.djq_engine.proofs.QueryPlaces.{map_members}
 use Rattle.djq_engine.proofs.Conditions.{answers_as, done_of}
 use Rattle.djq_store.specs.declared.joined.Joined.{Joined}
@@ -67,17 +67,17 @@ staying_laws = record {
 -- ---- The members of a union, as the engine below changes: the first of them, and what they are together.
 
 -- The queries in places are those that they were, each with its tree, and texts stay.
-pub record Grows (e e' : Kept) : Type 0 where
+pub record Grows (e e' : StoreModel) : Type 0 where
   pub shapes : (i : ℕ) (l : Live) → query_at e.places i ≡ Some l → IsSomeAnd (query_at e'.places i) (SameShape l)
   pub more : List Bytes
   pub texts : (e'.store).texts ≡ (e.store).texts ++ more
 
-pub kept_shapes : (reached : _) (e e' : Kept) → KeepsPlaces reached e e' → (i : ℕ) (l : Live) → query_at e.places i
+pub kept_shapes : (reached : _) (e e' : StoreModel) → KeepsPlaces reached e e' → (i : ℕ) (l : Live) → query_at e.places i
     ≡ Some l → IsSomeAnd (query_at e'.places i) (SameShape l)
 kept_shapes reached e e' k i l there = some_as (query_at e'.places i) (KeepsQuery reached l) (SameShape l)
     (λ m h. h.shape) (k i l there)
 
-pub kept_members : (e e' : Kept) → KeepsTables e e' → (ks : List ℕ) → KeepMembers HasSameTables e.places e'.places ks
+pub kept_members : (e e' : StoreModel) → KeepsTables e e' → (ks : List ℕ) → KeepMembers HasSameTables e.places e'.places ks
 kept_members e e' k ks = record {
   each = λ i l among there. some_as (query_at e'.places i) (KeepsQuery (λ q. false) l) (HasSameTables l)
       (λ m h. let t = h.tables refl in record { query = t.query; numbered = t.numbered; reducts = t.reducts })
@@ -109,7 +109,7 @@ first_there gs (k ∷ ks) have some =
     front None l e = absurd cc
     front (Some m) l e = e
 
-module _ (e e' : Kept) (g : Grows e e') where
+module _ (e e' : StoreModel) (g : Grows e e') where
   pub grown_members : (ks : List ℕ) → KeepMembers HasSameShape e.places e'.places ks
   grown_members ks = record {
     each = λ i l among there. some_as (query_at e'.places i) (SameShape l) (HasSameShape l)
@@ -166,7 +166,7 @@ module _ (showable : ShowableStays) (texts more : List Bytes) (l m : Live) (s : 
       ((line_stays n.answer (All-head (λ n. IsShowable texts l n.answer) n ns h)).1)
       ∙ ap (λ cs. change_of texts l n ∷ cs) (lines_tell ns (All-tail (λ n. IsShowable texts l n.answer) n ns h))
 
-module _ (e e' : Kept) (g : Grows e e') (law : MembersStay) (showable : ShowableStays) (j : Joined)
+module _ (e e' : StoreModel) (g : Grows e e') (law : MembersStay) (showable : ShowableStays) (j : Joined)
     (w : IsUnited e.places j.union) (s : IsShownByFirst e j) where
   -- what the log of a union tells is the same
   pub log_stays : IsShownByFirst e' j
@@ -214,7 +214,7 @@ map_slots f g (None ∷ us) none some = ap₂ (λ b bs. b ∷ bs) none (map_slot
 map_slots f g (Some j ∷ us) none some = ap₂ (λ b bs. b ∷ bs) (some zero j refl)
     (map_slots f g us none (λ k j e. some (suc k) j e))
 
-module _ (e e' : Kept) (b : IsEngine e) (g : Grows e e') (law : MembersStay) (us : List (Option Joined))
+module _ (e e' : StoreModel) (b : IsEngine e) (g : Grows e e') (law : MembersStay) (us : List (Option Joined))
     (order : List ℕ) (w : IsListed e us order) where
   -- what is registered is the same
   pub listed_stays : (at : ℕ) → is_reader order at ≡ true → listed_at e'.places us at ≡ listed_at e.places us at
@@ -262,7 +262,7 @@ module _ (e e' : Kept) (b : IsEngine e) (g : Grows e e') (law : MembersStay) (us
       within = w.within;
     }
 
-pub counts_stay : (e e' : Kept) (us : List (Option Joined)) (sessions : List ℕ) → e'.registered ≡ e.registered
+pub counts_stay : (e e' : StoreModel) (us : List (Option Joined)) (sessions : List ℕ) → e'.registered ≡ e.registered
     → IsCounted e us sessions → IsCounted e' us sessions
 counts_stay e e' us sessions same w = record {
   counted = λ r found. w.counted r
@@ -273,10 +273,10 @@ counts_stay e e' us sessions same w = record {
 
 -- ---- where tables stay, too
 
-pub kept_over : (e : Kept) (o : PlacesAreKept e) → AreKept o.catalog e.places
+pub kept_over : (e : StoreModel) (o : PlacesAreKept e) → AreKept o.catalog e.places
 kept_over e o = record { each = λ k l there. (o.live k l there).kept }
 
-module _ (e e' : Kept) (k : KeepsTables e e') (o : PlacesAreKept e) (o' : PlacesAreKept e') (more : List Bytes)
+module _ (e e' : StoreModel) (k : KeepsTables e e') (o : PlacesAreKept e) (o' : PlacesAreKept e') (more : List Bytes)
     (texts : (e'.store).texts ≡ (e.store).texts ++ more) (law : UnionsStay) (u : United) (w : IsUnited e.places u) where
   untouched : AreUntouched o.catalog o'.catalog e.places e'.places u.members
   untouched = record {
@@ -305,7 +305,7 @@ module _ (e e' : Kept) (k : KeepsTables e e') (o : PlacesAreKept e) (o' : Places
           ∙ ap (λ (ts : List Bytes). union_position ts (members_in e.places u) p) o.texts)
 
 -- The tables of all queries are as they were, and texts stay.
-pub record Rests (e e' : Kept) : Type 0 where
+pub record Rests (e e' : StoreModel) : Type 0 where
   pub before : IsEngine e
   pub after : IsEngine e'
   pub laws : StayingLaws
@@ -314,7 +314,7 @@ pub record Rests (e e' : Kept) : Type 0 where
   pub texts : (e'.store).texts ≡ (e.store).texts ++ more
 
 -- where the store is the same, its texts are
-pub rests_with : (e e' : Kept) → IsEngine e → IsEngine e' → StayingLaws → KeepsTables e e' → e'.store ≡ e.store
+pub rests_with : (e e' : StoreModel) → IsEngine e → IsEngine e' → StayingLaws → KeepsTables e e' → e'.store ≡ e.store
     → Rests e e'
 rests_with e e' b b' laws k same = record {
   before = b;
@@ -325,7 +325,7 @@ rests_with e e' b b' laws k same = record {
   texts = ap (λ (st : Store). st.texts) same ∙ sym (append-nil (e.store).texts);
 }
 
-module _ (e e' : Kept) (r : Rests e e') (us : List (Option Joined)) (order sessions affected : List ℕ)
+module _ (e e' : StoreModel) (r : Rests e e') (us : List (Option Joined)) (order sessions affected : List ℕ)
     (w : IsListed e us order) where
   pub grows : Grows e e'
   grows = record { shapes = kept_shapes (λ q. false) e e' r.tables; more = r.more; texts = r.texts }
@@ -385,17 +385,17 @@ some_is None P h = absurd h
 some_is (Some x) P h = refl
 
 -- a cursor of the engine is over a query that is registered there
-pub held_seat : (e : Kept) → IsEngine e → (id : CursorId) (h : HeldCursor) → held_at e.cursors id ≡ Some h
+pub held_seat : (e : StoreModel) → IsEngine e → (id : CursorId) (h : HeldCursor) → held_at e.cursors id ≡ Some h
     → Seat e id.query.at
 held_seat e b id h there = seat e b id.query.at
     (some_is (registered_at e.registered id.query) (λ r. h.query ≡ listed_name r.query) (b.held id h there).1)
 
-module _ (e e' : Kept) (r : Rests e e') (us : List (Option Joined)) (order sessions affected : List ℕ)
+module _ (e e' : StoreModel) (r : Rests e e') (us : List (Option Joined)) (order sessions affected : List ℕ)
     (w : IsListed e us order) where
-  abbrev old : Kept
+  abbrev old : StoreModel
   old = store_seen e us order sessions affected
 
-  abbrev new : Kept
+  abbrev new : StoreModel
   new = store_seen e' us order sessions affected
 
   -- ---- a cursor is opened
@@ -421,7 +421,7 @@ module _ (e e' : Kept) (r : Rests e e') (us : List (Option Joined)) (order sessi
         (λ id. kept.OpensCursor e name id e') (λ id. kept.OpensCursor old name id new) ⊤ ⊤
         (ap (λ o. first_refusal ((is_none o, NoQuery) ∷ [])) (engine_listed e r.before us order w name none))
         (opens name) (λ h. h) o.answer;
-    stays = λ x f. ap (λ (x : Kept). store_seen x us order sessions affected) (o.stays x f);
+    stays = λ x f. ap (λ (x : StoreModel). store_seen x us order sessions affected) (o.stays x f);
   }
 
   -- ---- a cursor of a query is read
@@ -463,7 +463,7 @@ module _ (e e' : Kept) (r : Rests e e') (us : List (Option Joined)) (order sessi
   gives_at h q (open_at given ended) End answer low g = (g.0, moves h (open_at given true) low g.1)
   gives_at h q (open_at given ended) (Stale relation n) answer low g = g
   gives_at h q (stale s m) (Stale relation n) answer low g =
-      (g.0, g.1, ap (λ (x : Kept). store_seen x us order sessions affected) g.2)
+      (g.0, g.1, ap (λ (x : StoreModel). store_seen x us order sessions affected) g.2)
   gives_at h q (stale s m) Given answer low g = g
   gives_at h q (stale s m) End answer low g = g
 
@@ -553,7 +553,7 @@ module _ (e e' : Kept) (r : Rests e e') (us : List (Option Joined)) (order sessi
     }
 
 -- the store stays whole
-pub whole_over : (p : Parts) (e' : Kept) → Rests p.engine e' → e'.registered ≡ p.engine.registered → StoreIsWhole p
+pub whole_over : (p : Parts) (e' : StoreModel) → Rests p.engine e' → e'.registered ≡ p.engine.registered → StoreIsWhole p
     → StoreIsWhole (record p { engine = e' })
 whole_over p e' r same w = record {
   listed = listed_over p.engine e' r p.unions.items p.order.items p.sessions.items p.affected.items w.listed same;
@@ -563,7 +563,7 @@ whole_over p e' r same w = record {
 
 -- ---- the engine's cursors
 
-module _ (e e' : Kept) (b : IsEngine e) (b' : IsEngine e') (laws : StayingLaws) (k : KeepsTables e e') where
+module _ (e e' : StoreModel) (b : IsEngine e) (b' : IsEngine e') (laws : StayingLaws) (k : KeepsTables e e') where
   -- a call that opens a cursor, or finds no memory for it
   opened_same : (name : Bytes) (result : Result CursorId Refusal) → kept.CursorOpenGives e name result e'
       → (e'.store ≡ e.store) × (e'.registered ≡ e.registered)
@@ -571,13 +571,13 @@ module _ (e e' : Kept) (b : IsEngine e) (b' : IsEngine e') (laws : StayingLaws) 
       (done_of (first_refusal ((is_none (listed_of (e.store).queries name), NoQuery) ∷ [])) id
       (λ id. kept.OpensCursor e name id e') (OutOfMemoryWhere ⊤) o.answer).1 in (d.store, d.registered)
   opened_same name (Err x) o =
-      (ap (λ (k : Kept). k.store) (o.stays x refl), ap (λ (k : Kept). k.registered) (o.stays x refl))
+      (ap (λ (k : StoreModel). k.store) (o.stays x refl), ap (λ (k : StoreModel). k.registered) (o.stays x refl))
 
   pub opened_rests : (name : Bytes) (result : Result CursorId Refusal)
       → kept.CursorOpenGives e name result e' → Rests e e'
   opened_rests name result o = rests_with e e' b b' laws k (opened_same name result o).0
 
-pub whole_opened : (p : Parts) (e' : Kept) → IsEngine p.engine → IsEngine e' → StayingLaws → KeepsTables p.engine e'
+pub whole_opened : (p : Parts) (e' : StoreModel) → IsEngine p.engine → IsEngine e' → StayingLaws → KeepsTables p.engine e'
     → (name : Bytes) (result : Result CursorId Refusal)
     → kept.CursorOpenGives p.engine name result e' → StoreIsWhole p → StoreIsWhole (record p { engine = e' })
 whole_opened p e' b b' laws k name result o w =
@@ -586,7 +586,7 @@ whole_opened p e' b b' laws k name result o w =
 
 -- what is registered stays, and so does the store, where a cursor is closed or read
 
-module _ (e e' : Kept) (id : CursorId) where
+module _ (e e' : StoreModel) (id : CursorId) where
   pub closed_same : kept.ClosesCursor e id e' → (e'.store ≡ e.store) × (e'.registered ≡ e.registered)
   closed_same c = (c.store, c.registered)
 
@@ -595,7 +595,7 @@ module _ (e e' : Kept) (id : CursorId) where
   moved_same h position m = (m.store, m.registered)
 
   itself : e' ≡ e → (e'.store ≡ e.store) × (e'.registered ≡ e.registered)
-  itself same = (ap (λ (k : Kept). k.store) same, ap (λ (k : Kept). k.registered) same)
+  itself same = (ap (λ (k : StoreModel). k.store) same, ap (λ (k : StoreModel). k.registered) same)
 
   next_at_same : (h : HeldCursor) (q : Listed) (position : Position) (result : Next) (answer : List ℕ)
       → kept.EngineNextGivesAt e h q position result answer e' → (e'.store ≡ e.store) × (e'.registered ≡ e.registered)

@@ -29,10 +29,10 @@ use Rattle.djq_store_spec.specs.DeltaCost.{is_touched}
 use Rattle.djq_store_spec.proofs.Relations.{reads_atom}
 use Rattle.djq_answer_laws.specs.Growing.{SparesOthers}
 use Rattle.djq_answer_laws.proofs.Lists.{first_there, later_there, kept_there, same_tests}
-use Rattle.djq_engine.specs.Kept.{Kept}
+use Rattle.djq_engine.specs.StoreModel.{StoreModel}
 use Rattle.djq_engine.specs.Transacting.{with_name_of, changed_relations}
 use Rattle.djq_store.specs.declared.parts.Parts.{Parts}
-use Rattle.djq_store.specs.declared.settling.Turn.TheVariants.{Lacked}
+use Rattle.djq_store.specs.declared.settling.UnionUpdate.TheVariants.{Lacked}
 use Rattle.djq_store.specs.Following.{lines_turn, is_memory}
 use Rattle.djq_store.specs.Places.{store_kept_in}
 use Rattle.djq_store.specs.Settling.{named_by}
@@ -183,7 +183,7 @@ module _ (rs : List Relation) (lines : List HeldLine) where
       is_some_name None = false
       is_some_name (Some n) = true
 
-pub made_known : (e e' : Kept) (lines : List HeldLine) (given : Option ℕ) (n : ℕ) (names : List Bytes)
+pub made_known : (e e' : StoreModel) (lines : List HeldLine) (given : Option ℕ) (n : ℕ) (names : List Bytes)
     → SparesOthers (e.store).relations (lines_change (e.store).relations lines)
     → SparesOthers (e.store).relations (lines_tried (e.store).relations lines)
     → DoesAll e.store lines given (Ok n) e'.store → names ≡ changed_relations (e.store).relations lines
@@ -228,7 +228,7 @@ rests_by rs lines (Line l) e = by l.refusal e
 rests_by rs lines LastChange e = refl
 rests_by rs lines NoneLeft e = absurd (false≢true (sym e))
 
-pub lacked_known : (e e' : Kept) (lines : List HeldLine) (r : DoneRefusal) → is_memory r ≡ true
+pub lacked_known : (e e' : StoreModel) (lines : List HeldLine) (r : DoneRefusal) → is_memory r ≡ true
     → SparesOthers (e.store).relations (lines_tried (e.store).relations lines)
     → IsKnown e e' (named_by lines) (lines_outcome (e.store).relations lines (Err r))
 lacked_known e e' lines r lacks spares =
@@ -245,7 +245,7 @@ lacked_known e e' lines r lacks spares =
       half = tt;
     })
 
-pub rested_known : (e e' : Kept) (names : List Bytes) (lines : List HeldLine) (r : DoneRefusal) → is_memory r ≡ false
+pub rested_known : (e e' : StoreModel) (names : List Bytes) (lines : List HeldLine) (r : DoneRefusal) → is_memory r ≡ false
     → IsKnown e e' names (lines_outcome (e.store).relations lines (Err r))
 rested_known e e' names lines r rests =
     subst (λ (o : RowsOutcome). IsKnown e e' names o) (sym (rests_by (e.store).relations lines r rests)) tt
@@ -308,7 +308,7 @@ lines_grow law old new lines given (Err r) h =
 
 -- ---- the store
 
-pub store_does : (p p' : Parts) (e' : Kept) (lines : List HeldLine) (given : Option ℕ) (r : Result ℕ DoneRefusal)
+pub store_does : (p p' : Parts) (e' : StoreModel) (lines : List HeldLine) (given : Option ℕ) (r : Result ℕ DoneRefusal)
     → DoesAll (p.engine).store lines given r e'.store
     → (store_kept_in p').store ≡ with_queries ((store_kept_in p).store).queries e'.store
     → DoesAll (store_kept_in p).store lines given r (store_kept_in p').store

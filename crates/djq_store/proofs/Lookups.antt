@@ -28,9 +28,9 @@ use Rattle.djq_reach.specs.Places.{is_reader, AreOnce}
 use Rattle.djq_united.specs.United.{union_of, members_in}
 use Rattle.djq_engine.specs.declared.cursor.CursorId.{CursorId}
 use Rattle.djq_engine.specs.declared.cursor.QueryId.{QueryId}
-use Rattle.djq_engine.specs.Kept as kept
-use Rattle.djq_engine.specs.Kept.{Kept, Registered, AtPlace, IsShown, AnswerIs, IsRegistered, same_query, registered_at}
-use Rattle.djq_engine.specs.Kept.{registered_of, held_at}
+use Rattle.djq_engine.specs.StoreModel as kept
+use Rattle.djq_engine.specs.StoreModel.{StoreModel, Registered, AtPlace, IsShown, AnswerIs, IsRegistered, same_query, registered_at}
+use Rattle.djq_engine.specs.StoreModel.{registered_of, held_at}
 use Rattle.djq_engine.specs.Places.{id_at}
 use Rattle.djq_engine.specs.Laws.{IsEngine}
 use Rattle.djq_engine.proofs.Conditions.{answers_done}
@@ -92,9 +92,9 @@ count_members gs (k ∷ ks) h = by_place (query_at gs k) h.0 (count_members gs k
     by_place (Some l) x more = let n : suc (length (map (λ l. l.query) (queries_at gs ks)))
         ≡ suc (length ks) = omega arith in n
 
-module _ (e : Kept) (b : IsEngine e) (us : List (Option Joined)) (order sessions affected : List ℕ)
+module _ (e : StoreModel) (b : IsEngine e) (us : List (Option Joined)) (order sessions affected : List ℕ)
     (w : IsListed e us order) where
-  abbrev old : Kept
+  abbrev old : StoreModel
   old = store_seen e us order sessions affected
 
   -- ---- by name
@@ -468,14 +468,14 @@ module _ (e : Kept) (b : IsEngine e) (us : List (Option Joined)) (order sessions
 -- ---- What stands under a name, as it is asked of the engine and of unions in slots.
 
 -- a query that is registered under a name
-pub record Under (e : Kept) (name : Bytes) : Type 0 where
+pub record Under (e : StoreModel) (name : Bytes) : Type 0 where
   pub registered : Registered
   pub found : registered_of e.registered name ≡ Some registered
   pub query : Live
   pub there : query_at e.places registered.id.at ≡ Some query
   pub is : registered.query ≡ a_query query.query
 
-module _ (e : Kept) (b : IsEngine e) (us : List (Option Joined)) (order sessions affected : List ℕ)
+module _ (e : StoreModel) (b : IsEngine e) (us : List (Option Joined)) (order sessions affected : List ℕ)
     (w : IsListed e us order) (name : Bytes) where
   abbrev listed : Option Listed
   listed = listed_of ((store_seen e us order sessions affected).store).queries name

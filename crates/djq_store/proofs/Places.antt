@@ -19,7 +19,7 @@ use Rattle.djq_reach.specs.Places.{is_reader}
 use Rattle.djq_reach.proofs.PlacedQueries.{place_below}
 use Rattle.djq_united.specs.United.{union_of}
 use Rattle.djq_engine.specs.declared.cursor.QueryId.{QueryId}
-use Rattle.djq_engine.specs.Kept.{Kept, Registered, AtPlace, registered_at, registered_of, told_at}
+use Rattle.djq_engine.specs.StoreModel.{StoreModel, Registered, AtPlace, registered_at, registered_of, told_at}
 use Rattle.djq_engine.specs.Places.{id_at, query_in}
 use Rattle.djq_engine.specs.Laws.{IsEngine}
 use Rattle.djq_engine.proofs.QueryPlaces.{here, behind, reader_filter, find_mapped, first_of_position, none_of_position}
@@ -261,7 +261,7 @@ places_high xs ys k few = front_high xs ys (QUERIES - length xs) k (QUERIES + k)
 -- ---- What an id or a name stands for, among all that is registered.
 
 -- a query of the engine in its place, as it is registered there
-pub record Seat (e : Kept) (at : ℕ) : Type 0 where
+pub record Seat (e : StoreModel) (at : ℕ) : Type 0 where
   pub query : Live
   pub there : query_at e.places at ≡ Some query
   pub registered : Registered
@@ -302,7 +302,7 @@ place_named gs us order name = find (λ at. bytes_eq (listed_name (listed_at gs 
 abbrev pub NoUnion : List (Option Joined) → Bytes → Type 0
 NoUnion us name = (k : ℕ) (j : Joined) → joined_at us k ≡ Some j → bytes_eq j.union.name name ≡ false
 
-module _ (e : Kept) (b : IsEngine e) where
+module _ (e : StoreModel) (b : IsEngine e) where
   pub seat_of : (at : ℕ) (r : Registered) → registered_at e.registered (id_at at) ≡ Some r → Seat e at
   seat_of at r f =
       let id : r.id.at ≡ at = eqb-true r.id.at at (found_passes (λ r. r.id.at == at) e.registered r f) in
@@ -548,7 +548,7 @@ filter_long p (x ∷ xs) = step (p x) (filter_long p xs)
     step true h = omega arith
     step false h = omega arith
 
-module _ (e : Kept) (b : IsEngine e) (us : List (Option Joined)) (order sessions affected : List ℕ) where
+module _ (e : StoreModel) (b : IsEngine e) (us : List (Option Joined)) (order sessions affected : List ℕ) where
   -- what is told of a query, and of a union
   pub told_low : (id : QueryId) → id.at < QUERIES → told_at (store_seen e us order sessions affected) id ≡ told_at e id
   told_low id low = let long = b.long in let few = b.few in

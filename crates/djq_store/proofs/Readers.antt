@@ -35,11 +35,11 @@ use Rattle.djq_reach.specs.Places.{reads_place}
 use Rattle.djq_reach.proofs.PlacedQueries.{or_true}
 use Rattle.djq_united.specs.United.{AreMembers}
 use Rattle.djq_engine.specs.declared.cursor.QueryId.{QueryId}
-use Rattle.djq_engine.specs.Kept.{Kept}
+use Rattle.djq_engine.specs.StoreModel.{StoreModel}
 use Rattle.djq_store.specs.declared.joined.Joined.{Joined}
 use Rattle.djq_store.specs.declared.parts.Parts.{Parts}
-use Rattle.djq_store.specs.declared.settling.Turn.{Turn}
-use Rattle.djq_store.specs.declared.settling.Turn.TheVariants.{Changed, Lacked}
+use Rattle.djq_store.specs.declared.settling.UnionUpdate.{UnionUpdate}
+use Rattle.djq_store.specs.declared.settling.UnionUpdate.TheVariants.{Changed, Lacked}
 use Rattle.djq_store.specs.Following.{UnionsFollow, FollowsAffected, has_union}
 use Rattle.djq_store.specs.Places.{joined_at, union_watchers}
 use Rattle.djq_store.specs.Settling.{SettlesAt, is_settled, reads_some, some_read, first_read_by, touched_in}
@@ -56,23 +56,23 @@ none_there (Some j ∷ us) none k = absurd (false≢true (sym none))
 none_there (None ∷ us) none zero = refl
 none_there (None ∷ us) none (suc k) = none_there us none k
 
-module _ (e : Kept) (names : List Bytes) where
+module _ (e : StoreModel) (names : List Bytes) where
   none_settled : (us : List (Option Joined)) → has_union us ≡ false → list_any (is_settled e names) us ≡ false
   none_settled [] none = refl
   none_settled (Some j ∷ us) none = absurd (false≢true (sym none))
   none_settled (None ∷ us) none = none_settled us none
 
 -- The affected are the engine's where the change was made; where memory was refused, they stay.
-abbrev pub AffectsOwn : Turn → Parts → Parts → Type 0
+abbrev pub AffectsOwn : UnionUpdate → Parts → Parts → Type 0
 AffectsOwn Lacked p p' = p'.affected ≡ p.affected
 AffectsOwn _ p p' = p'.affected.items ≡ map (λ id. id.at) p.engine.affected
 
 module _ (names : List Bytes) (p p' : Parts) (none : has_union p.unions.items ≡ false) where
-  affects : (turn : Turn) → AffectsOwn turn p p' → FollowsAffected turn names p p'
+  affects : (turn : UnionUpdate) → AffectsOwn turn p p' → FollowsAffected turn names p p'
   affects Lacked h = h
   affects Changed h = inr (none_settled p.engine names p.unions.items none, h)
 
-  pub follows_alone : (turn : Turn) → p'.engine ≡ p.engine → p'.unions.items ≡ p.unions.items → p'.order ≡ p.order
+  pub follows_alone : (turn : UnionUpdate) → p'.engine ≡ p.engine → p'.unions.items ≡ p.unions.items → p'.order ≡ p.order
       → p'.sessions ≡ p.sessions → AffectsOwn turn p p' → vec_capacity p.affected ≤ vec_capacity p'.affected
       → UnionsFollow names turn p p'
   follows_alone turn engine unions order sessions own room = record {
@@ -89,7 +89,7 @@ module _ (names : List Bytes) (p p' : Parts) (none : has_union p.unions.items �
     room = room;
   }
 
-  pub follows_made : (turn : Turn) → (turn ≡ Lacked → ⊥) → p'.engine ≡ p.engine → p'.unions.items ≡ p.unions.items
+  pub follows_made : (turn : UnionUpdate) → (turn ≡ Lacked → ⊥) → p'.engine ≡ p.engine → p'.unions.items ≡ p.unions.items
       → p'.order ≡ p.order → p'.sessions ≡ p.sessions → p'.affected.items ≡ map (λ id. id.at) p.engine.affected
       → vec_capacity p.affected ≤ vec_capacity p'.affected → UnionsFollow names turn p p'
   follows_made Lacked made engine unions order sessions own room = absurd (made refl)
@@ -384,7 +384,7 @@ module _ (old now : List (Option Joined)) (k : ℕ) (x : Option Joined) (low : k
   members_there places all j f = all k j (slot_old ∙ f)
 
 -- one more of them is settled
-module _ (e : Kept) (relations : List Bytes) (n : ℕ) (turn : Turn) (old now : List (Option Joined)) (k : ℕ)
+module _ (e : StoreModel) (relations : List Bytes) (n : ℕ) (turn : UnionUpdate) (old now : List (Option Joined)) (k : ℕ)
     (x y : Option Joined) (low : k < length now) (long : length now ≡ length old) (was : joined_at old k ≡ x)
     (done : (i : ℕ) → i < k → SettlesAt e relations n turn (joined_at old i) (joined_at now i))
     (rest : (i : ℕ) → k ≤ i → joined_at now i ≡ joined_at old i)

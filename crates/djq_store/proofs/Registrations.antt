@@ -33,8 +33,8 @@ use Rattle.djq_reach.specs.Places.{is_reader}
 use Rattle.djq_reach.proofs.PlacedQueries.{apart, reader_more}
 use Rattle.djq_united.specs.United.{IsUnited}
 use Rattle.djq_engine.specs.declared.cursor.QueryId.{QueryId}
-use Rattle.djq_engine.specs.Kept.{Kept, Registered, TellsOfQuery, registered_at, registered_of, same_query, told_at}
-use Rattle.djq_engine.specs.Kept.{KeepsTables}
+use Rattle.djq_engine.specs.StoreModel.{StoreModel, Registered, TellsOfQuery, registered_at, registered_of, same_query, told_at}
+use Rattle.djq_engine.specs.StoreModel.{KeepsTables}
 use Rattle.djq_engine.specs.Places.{id_at}
 use Rattle.djq_engine.specs.Watching.{Enrols, EnrolsTelling}
 use Rattle.djq_engine.specs.Laws.{IsEngine}
@@ -83,7 +83,7 @@ member_there gs (k ∷ ks) at h e = step (k == at) refl e (member_there gs ks at
     step false f e more = more e
 
 -- no union has a place as a member where no query is
-pub wants_none : (e : Kept) (us : List (Option Joined)) (at : ℕ) → query_at e.places at ≡ None
+pub wants_none : (e : StoreModel) (us : List (Option Joined)) (at : ℕ) → query_at e.places at ≡ None
     → ((k : ℕ) (j : Joined) → joined_at us k ≡ Some j → IsUnited e.places j.union) → count_by (wants at) us ≡ 0
 wants_none e us at vacant united = count_none (wants at) us (λ k low. by_slot k (joined_at us k) refl)
   where
@@ -103,7 +103,7 @@ wants_none e us at vacant united = count_none (wants at) us (λ k low. by_slot k
         (no_member k j f (is_reader j.union.members at) refl)
 
 -- what the log of a union tells is the same
-pub log_same : (e e' : Kept) (r : Rests e e') (us : List (Option Joined)) (order sessions affected : List ℕ)
+pub log_same : (e e' : StoreModel) (r : Rests e e') (us : List (Option Joined)) (order sessions affected : List ℕ)
     (w : IsListed e us order) (k : ℕ)
     → told_of_union (e'.store).texts e'.places (joined_at us k)
     ≡ told_of_union (e.store).texts e.places (joined_at us k)
@@ -113,7 +113,7 @@ log_same e e' r us order sessions affected w k =
     (logs_stay e e' r.before (grows e e' r us order sessions affected w) r.laws.members us order w r.laws.showable)
     ∙ mapped_at (told_of_union (e.store).texts e.places) us k refl
 
-module _ (e e' : Kept) (r : Rests e e') (us : List (Option Joined)) (order sessions affected : List ℕ)
+module _ (e e' : StoreModel) (r : Rests e e') (us : List (Option Joined)) (order sessions affected : List ℕ)
     (w : IsListed e us order) (q : Query) (at : ℕ)
     (fresh : registered_at e.registered (id_at at) ≡ None) where
   abbrev pub enrolled : Registered
@@ -394,7 +394,7 @@ texts_grow old new q result g = by_refusal (query_refusal old q) refl result g.a
     by_refusal None f (Err x) (inl h) = refused_grows old new (texts_in (constants_of q)) x h.1
     by_refusal None f (Err x) (inr h) = itself h.1
 
-pub query_rests : (e e' : Kept) → IsEngine e → IsEngine e' → StayingLaws → KeepsTables e e'
+pub query_rests : (e e' : StoreModel) → IsEngine e → IsEngine e' → StayingLaws → KeepsTables e e'
     → (q : Query) (result : Result QueryOutcome Refusal) → RegistersQuery e.store q result e'.store → Rests e e'
 query_rests e e' b b' laws k q result g =
     let t = texts_grow e.store e'.store q result g in record {
@@ -409,17 +409,17 @@ query_rests e e' b b' laws k q result g =
 -- ---- why it is refused
 
 -- why, by what has the name and whether there are as many as may be
-abbrev refusal_as : Kept → Query → Option Listed → Bool → Option Refusal
+abbrev refusal_as : StoreModel → Query → Option Listed → Bool → Option Refusal
 refusal_as e q named full = first_refusal ((is_some named, Taken) ∷ query_faults (e.store).relations q
     ++ (full, Limit) ∷ [])
 
 -- the conditions in front of that
-abbrev front_of : Kept → Query → List (Bool × Refusal)
+abbrev front_of : StoreModel → Query → List (Bool × Refusal)
 front_of e q = (is_some (listed_of (e.store).queries q.name), Taken) ∷ query_faults (e.store).relations q
 
-module _ (e : Kept) (b : IsEngine e) (us : List (Option Joined)) (order sessions affected : List ℕ)
+module _ (e : StoreModel) (b : IsEngine e) (us : List (Option Joined)) (order sessions affected : List ℕ)
     (w : IsListed e us order) (q : Query) where
-  abbrev old : Kept
+  abbrev old : StoreModel
   old = store_seen e us order sessions affected
 
   engine_fewer : length (e.store).queries ≤ length order
@@ -500,9 +500,9 @@ module _ (e : Kept) (b : IsEngine e) (us : List (Option Joined)) (order sessions
 
 -- ---- what it does
 
-module _ (e e' : Kept) (r : Rests e e') (us : List (Option Joined)) (order sessions affected : List ℕ)
+module _ (e e' : StoreModel) (r : Rests e e') (us : List (Option Joined)) (order sessions affected : List ℕ)
     (w : IsListed e us order) (q : Query) (none : NoUnion us q.name) (less : length order < QUERIES) where
-  abbrev before : Kept
+  abbrev before : StoreModel
   before = store_seen e us order sessions affected
 
   same_refusals : query_refusal before.store q ≡ query_refusal e.store q
@@ -518,7 +518,7 @@ module _ (e e' : Kept) (r : Rests e e') (us : List (Option Joined)) (order sessi
   same_queries = queries_over e e' r us order sessions affected w
 
   module _ (sessions' affected' : List ℕ) where
-    abbrev same_order : Kept
+    abbrev same_order : StoreModel
     same_order = store_seen e' us order sessions' affected'
 
     same_store : e'.store ≡ e.store → same_order.store ≡ before.store
@@ -633,7 +633,7 @@ module _ (e e' : Kept) (r : Rests e e') (us : List (Option Joined)) (order sessi
       last = subst (λ (x : QueryId). e'.registered
           ≡ e.registered ++ record { id = x; query = a_query q; watchers = 0 } ∷ []) id_same en.2
 
-      abbrev after : Kept
+      abbrev after : StoreModel
       after = store_seen e' us (order ++ id.at ∷ []) (set sessions id.at 0) affected
 
       pub registered_listed : IsListed e' us (order ++ id.at ∷ [])

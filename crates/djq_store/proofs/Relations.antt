@@ -27,7 +27,7 @@ use Rattle.djq_store_spec.specs.Transaction.{CarriesOut, DoesAll}
 use Rattle.djq_store_spec.specs.Changes.{RowsChange, accepted, out_of_memory}
 use Rattle.djq_live_query.specs.Live.{Live}
 use Rattle.djq_reach.specs.Places.{place_at}
-use Rattle.djq_engine.specs.Kept.{Kept, Registered, registered_at, KeepsTables, KeepsQuery}
+use Rattle.djq_engine.specs.StoreModel.{StoreModel, Registered, registered_at, KeepsTables, KeepsQuery}
 use Rattle.djq_engine.specs.Laws.{IsEngine}
 use Rattle.djq_store.specs.declared.joined.Joined.{Joined}
 use Rattle.djq_store.specs.declared.parts.Parts.{Parts}
@@ -69,7 +69,7 @@ none_watch at = by_place (cases_place at)
         ∙ high_place s.slot of_query (λ k. union_watchers (joined_at [] k))
         ∙ ap union_watchers (no_union s.slot)
 
-module _ (e : Kept) (none : e.registered ≡ []) where
+module _ (e : StoreModel) (none : e.registered ≡ []) where
   fresh_listed : IsListed e [] []
   fresh_listed = record {
     united = λ k j there. let n = sym (no_union k) ∙ there in absurd cc;
@@ -193,7 +193,7 @@ module _ (qs : List Listed) where
 
 -- ---- A relation that is made changes nothing but that.
 
-same_tables : (e e' : Kept) → e'.places ≡ e.places → KeepsTables e e'
+same_tables : (e e' : StoreModel) → e'.places ≡ e.places → KeepsTables e e'
 same_tables e e' same i l there =
     subst (λ (o : Option Live). IsSomeAnd o (KeepsQuery (λ q. false) l))
     (sym (ap (λ (gs : List (Option Live)). place_at gs i) same ∙ there))
@@ -210,7 +210,7 @@ made_texts old new name types (Ok a) None h stays = ap (λ (st : Store). st.text
 made_texts old new name types (Ok a) (Some s) h stays = absurd h
 made_texts old new name types (Err s) o h stays = ap (λ (st : Store). st.texts) stays
 
-pub made_rests : (e e' : Kept) (name : Bytes) (types : List ColumnType) (r : Result ⊤ Refusal) → IsEngine e
+pub made_rests : (e e' : StoreModel) (name : Bytes) (types : List ColumnType) (r : Result ⊤ Refusal) → IsEngine e
     → IsEngine e'
     → StayingLaws → MakesRelation e.store name types r e'.store → e'.places ≡ e.places → Rests e e'
 made_rests e e' name types r b b' laws h places = record {
@@ -223,7 +223,7 @@ made_rests e e' name types r b b' laws h places = record {
       ∙ sym (append-nil (e.store).texts);
 }
 
-pub store_makes : (p : Parts) (e' : Kept) (name : Bytes) (types : List ColumnType) (r : Result ⊤ Refusal)
+pub store_makes : (p : Parts) (e' : StoreModel) (name : Bytes) (types : List ColumnType) (r : Result ⊤ Refusal)
     → Rests p.engine e' → StoreIsWhole p → MakesRelation (p.engine).store name types r e'.store
     → MakesRelation (store_kept_in p).store name types r (store_kept_in (record p { engine = e' })).store
 store_makes p e' name types r rests w h =

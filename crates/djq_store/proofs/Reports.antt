@@ -29,8 +29,8 @@ use Rattle.djq_live_query.specs.Member.{queries_at}
 use Rattle.djq_reach.specs.Places.{is_reader}
 use Rattle.djq_united.specs.United.{union_of, first_of_members}
 use Rattle.djq_engine.specs.declared.cursor.QueryId.{QueryId}
-use Rattle.djq_engine.specs.Kept.{Kept, AtPlace, told_at, Registered, registered_at, affected_of, readers_of}
-use Rattle.djq_engine.specs.Kept.{is_watched}
+use Rattle.djq_engine.specs.StoreModel.{StoreModel, AtPlace, told_at, Registered, registered_at, affected_of, readers_of}
+use Rattle.djq_engine.specs.StoreModel.{is_watched}
 use Rattle.djq_engine.specs.Lending.{sign_of}
 use Rattle.djq_engine.specs.Places.{id_at, told_of}
 use Rattle.djq_engine.specs.Laws.{IsEngine}
@@ -39,8 +39,8 @@ use Rattle.djq_engine.specs.Watching as engine
 use Rattle.djq_gains.specs.Gains.{TellUnion}
 use Rattle.djq_gains.proofs.DeltaLines.{twice_mapped}
 use Rattle.djq_store.specs.declared.joined.Joined.{Joined}
-use Rattle.djq_store.specs.declared.settling.Turn.{Turn}
-use Rattle.djq_store.specs.declared.settling.Turn.TheVariants.{Changed, Lacked}
+use Rattle.djq_store.specs.declared.settling.UnionUpdate.{UnionUpdate}
+use Rattle.djq_store.specs.declared.settling.UnionUpdate.TheVariants.{Changed, Lacked}
 use Rattle.djq_store.specs.Places.{joined_at, first_member, told_of_union, store_seen, listed_at, registered_as}
 use Rattle.djq_store.specs.Places.{union_watchers}
 use Rattle.djq_store.specs.Whole.{IsListed, IsCounted}
@@ -61,10 +61,10 @@ use Rattle.djq_store.proofs.WantedQueries.{all_lists, low_of}
 
 -- ---- How a store tells what its logs tell.
 
-module _ (e : Kept) (b : IsEngine e) (us : List (Option Joined)) (order sessions affected : List ℕ)
+module _ (e : StoreModel) (b : IsEngine e) (us : List (Option Joined)) (order sessions affected : List ℕ)
     (w : IsListed e us order)
     (id : QueryId) where
-  abbrev now_lined : Kept
+  abbrev now_lined : StoreModel
   now_lined = store_seen e us order sessions affected
 
   pub told_query : id.at < QUERIES → told_at now_lined id ≡ told_at e id
@@ -160,7 +160,7 @@ module _ (e : Kept) (b : IsEngine e) (us : List (Option Joined)) (order sessions
 -- ---- A change that was made, one for which memory was refused, and none: what a store makes known of it.
 
 -- the log of a watched union that is outdated tells its delta
-tells_log : (e' : Kept) (relations : List Bytes) (j : Joined) (log : Log) → nat_lt 0 j.watchers ≡ true
+tells_log : (e' : StoreModel) (relations : List Bytes) (j : Joined) (log : Log) → nat_lt 0 j.watchers ≡ true
     → (r : Option Bytes) → is_some r ≡ true → SettlesLogBy r e' relations Changed j log
     → TellsUnionLog e' relations j log
 tells_log e' relations j log watched None miss s = absurd (false≢true miss)
@@ -178,20 +178,20 @@ cond_some true true x h = (refl, refl)
 cond_some true false x h = absurd (omega (arith, h))
 cond_some false b x h = absurd (omega (arith, h))
 
-settling_few : (e' : Kept) (relations : List Bytes) (j : Joined) (n : ℕ)
+settling_few : (e' : StoreModel) (relations : List Bytes) (j : Joined) (n : ℕ)
     → (nat_lt 0 j.watchers ≡ true → asking_steps e' relations j.union.members ≤ n)
     → settling_steps e' relations Changed (Some j) ≤ n
 settling_few e' relations j n h =
     cond_few (is_settled e' relations (Some j)) (nat_lt 0 j.watchers) (asking_steps e' relations j.union.members) n
     (λ a b. h b)
 
-settling_some : (e' : Kept) (relations : List Bytes) (j : Joined)
+settling_some : (e' : StoreModel) (relations : List Bytes) (j : Joined)
     → 0 < settling_steps e' relations Changed (Some j)
     → (is_settled e' relations (Some j) ≡ true) × (nat_lt 0 j.watchers ≡ true)
 settling_some e' relations j h =
     cond_some (is_settled e' relations (Some j)) (nat_lt 0 j.watchers) (asking_steps e' relations j.union.members) h
 
-settling_lacked : (e' : Kept) (relations : List Bytes) (us : List (Option Joined))
+settling_lacked : (e' : StoreModel) (relations : List Bytes) (us : List (Option Joined))
     → sum_by (settling_steps e' relations Lacked) us ≡ 0
 settling_lacked e' relations [] = refl
 settling_lacked e' relations (o ∷ us) =
@@ -207,7 +207,7 @@ settling_lacked e' relations (o ∷ us) =
     by (Some j) = none (is_settled e' relations (Some j)) 0
 
 -- the ids of what passes
-ids_of_all : (e : Kept) (us : List (Option Joined)) (sessions order : List ℕ) (change : RowsChange)
+ids_of_all : (e : StoreModel) (us : List (Option Joined)) (sessions order : List ℕ) (change : RowsChange)
     → map (λ (r : Registered). r.id) (readers_of (map (registered_as e.places us sessions) order) change)
     ≡ map id_at (filter (λ at. is_outdated change (listed_at e.places us at)) order)
 ids_of_all e us sessions order change =
@@ -218,7 +218,7 @@ ids_of_all e us sessions order change =
 
 -- ---- a change that was made
 
-module _ (change : RowsChange) (relations : List Bytes) (e e' : Kept) (us us' : List (Option Joined))
+module _ (change : RowsChange) (relations : List Bytes) (e e' : StoreModel) (us us' : List (Option Joined))
     (b : Behind (Some change) relations Changed e e' us us') (order : List ℕ) (w : IsListed e us order)
     (sessions affected affected' : List ℕ) (c : IsCounted e us sessions) (before mid last : ℕ)
     (t : engine.EngineTellsChange e (accepted change) e' before mid)
@@ -232,10 +232,10 @@ module _ (change : RowsChange) (relations : List Bytes) (e e' : Kept) (us us' : 
   abbrev eds : List Delta
   eds = t.deltas
 
-  abbrev old : Kept
+  abbrev old : StoreModel
   old = store_seen e us order sessions affected
 
-  abbrev new : Kept
+  abbrev new : StoreModel
   new = store_seen e' us' order sessions affected'
 
   abbrev fs : ℕ → List Change
@@ -395,7 +395,7 @@ module _ (change : RowsChange) (relations : List Bytes) (e e' : Kept) (us us' : 
 
 -- ---- one for which memory was refused
 
-module _ (change : RowsChange) (relations : List Bytes) (e e' : Kept) (us us' : List (Option Joined))
+module _ (change : RowsChange) (relations : List Bytes) (e e' : StoreModel) (us us' : List (Option Joined))
     (b : Behind (Some change) relations Lacked e e' us us') (order : List ℕ) (w : IsListed e us order)
     (sessions affected affected' : List ℕ) (c : IsCounted e us sessions) (before mid last : ℕ)
     (t : engine.EngineTellsChange e (out_of_memory change) e' before mid)
@@ -473,7 +473,7 @@ module _ (change : RowsChange) (relations : List Bytes) (e e' : Kept) (us us' : 
 
 -- ---- none
 
-pub tells_none : (relations : List Bytes) (turn : Turn) (e e' : Kept) (us us' : List (Option Joined))
+pub tells_none : (relations : List Bytes) (turn : UnionUpdate) (e e' : StoreModel) (us us' : List (Option Joined))
     → Behind None relations turn e e' us us' → (order : List ℕ) → IsListed e us order
     → (sessions affected affected' : List ℕ) (before mid last : ℕ) → engine.EngineTellsChange e unchanged e' before mid
     → last ≤ mid → affected' ≡ affected

@@ -35,14 +35,14 @@ use Rattle.djq_reach.specs.Places.{is_reader}
 use Rattle.djq_reach.proofs.PlacedQueries.{place_below}
 use Rattle.djq_united.specs.United.{AreMembers}
 use Rattle.djq_engine.specs.declared.cursor.QueryId.{QueryId}
-use Rattle.djq_engine.specs.Kept.{Kept, Registered, AtPlace, Outdates, IsUnwatched, is_watched, readers_of, is_tried}
-use Rattle.djq_engine.specs.Kept.{KeepsPlaces}
+use Rattle.djq_engine.specs.StoreModel.{StoreModel, Registered, AtPlace, Outdates, IsUnwatched, is_watched, readers_of, is_tried}
+use Rattle.djq_engine.specs.StoreModel.{KeepsPlaces}
 use Rattle.djq_engine.specs.Watching as watching
 use Rattle.djq_engine.specs.Laws.{IsEngine}
 use Rattle.djq_store.specs.declared.joined.Joined.{Joined}
 use Rattle.djq_store.specs.declared.parts.Parts.{Parts}
-use Rattle.djq_store.specs.declared.settling.Turn.{Turn}
-use Rattle.djq_store.specs.declared.settling.Turn.TheVariants.{Changed, Lacked}
+use Rattle.djq_store.specs.declared.settling.UnionUpdate.{UnionUpdate}
+use Rattle.djq_store.specs.declared.settling.UnionUpdate.TheVariants.{Changed, Lacked}
 use Rattle.djq_store.specs.Affecting.{is_reached_id, is_member_reached, is_affected}
 use Rattle.djq_store.specs.Following.{AffectsAll, FollowsAffected, FollowsBy, following_steps, add_turn, delete_turn}
 use Rattle.djq_store.specs.Following.{IfMade}
@@ -68,7 +68,7 @@ use Rattle.djq_store.proofs.WantedQueries.{found_itself, HalvesSpareOthers}
 -- ---- what is known of the change
 
 -- of one that was made
-pub record IsMade (e e' : Kept) (relations : List Bytes) (change : RowsChange) : Type 0 where
+pub record IsMade (e e' : StoreModel) (relations : List Bytes) (change : RowsChange) : Type 0 where
   pub outdater : (q : Listed) → change.outdater q ≡ find (listed_reads q) relations
   pub spares : SparesOthers (e.store).relations change
   pub out : (q : Query) → is_touched change q ≡ true → is_outdated change (a_query q) ≡ true
@@ -77,28 +77,28 @@ pub record IsMade (e e' : Kept) (relations : List Bytes) (change : RowsChange) :
   pub after : (e'.store).relations ≡ change.after
 
 -- of one for which memory was refused
-pub record IsTried (e : Kept) (relations : List Bytes) (change : RowsChange) : Type 0 where
+pub record IsTried (e : StoreModel) (relations : List Bytes) (change : RowsChange) : Type 0 where
   pub outdater : (q : Listed) → change.outdater q ≡ find (listed_reads q) relations
   pub spares : SparesOthers (e.store).relations change
   pub out : (q : Query) → is_touched change q ≡ true → is_outdated change (a_query q) ≡ true
   pub half : HalvesSpareOthers (e.store).relations change.halves change.touches
 
-abbrev pub IsKnown : Kept → Kept → List Bytes → RowsOutcome → Type 0
+abbrev pub IsKnown : StoreModel → StoreModel → List Bytes → RowsOutcome → Type 0
 IsKnown e e' relations (accepted change) = IsMade e e' relations change
 IsKnown e e' relations (out_of_memory change) = IsTried e relations change
 IsKnown e e' relations unchanged = ⊤
 
-abbrev pub turn_by : RowsOutcome → Option Turn
+abbrev pub turn_by : RowsOutcome → Option UnionUpdate
 turn_by (accepted change) = Some Changed
 turn_by (out_of_memory change) = Some Lacked
 turn_by unchanged = None
 
 -- the parts of a store over another engine
-abbrev pub over : Parts → Kept → Parts
+abbrev pub over : Parts → StoreModel → Parts
 over p e' = record p { engine = e' }
 
 -- What it comes to.
-pub record Comes (p p' : Parts) (e' : Kept) (outcome : RowsOutcome) (before last : ℕ) : Type 0 where
+pub record Comes (p p' : Parts) (e' : StoreModel) (outcome : RowsOutcome) (before last : ℕ) : Type 0 where
   pub whole : StoreIsWhole p'
   pub outdates : Outdates (store_kept_in p) (tried outcome) (store_kept_in p')
   pub registered : (store_kept_in p').registered ≡ (store_kept_in p).registered
@@ -121,7 +121,7 @@ affected_alike g us us' s at =
 
 -- ---- where nothing is read, unions stay
 
-unsettled : (e : Kept) (n : ℕ) (turn : Turn) (o : Option Joined) → SettlesAt e [] n turn o o
+unsettled : (e : StoreModel) (n : ℕ) (turn : UnionUpdate) (o : Option Joined) → SettlesAt e [] n turn o o
 unsettled e n turn None = refl
 unsettled e n turn (Some j) = record {
   union = refl;
@@ -132,15 +132,15 @@ unsettled e n turn (Some j) = record {
 
 -- ---- what is seen of the parts behind it
 
-module _ (p p' : Parts) (e' : Kept) (engine : p'.engine ≡ e') (order : p'.order ≡ p.order)
+module _ (p p' : Parts) (e' : StoreModel) (engine : p'.engine ≡ e') (order : p'.order ≡ p.order)
     (sessions : p'.sessions ≡ p.sessions) where
   seen_now : store_kept_in p' ≡ store_seen e' p'.unions.items p.order.items p.sessions.items p'.affected.items
   seen_now =
-      ap (λ (x : Kept). store_seen x p'.unions.items p'.order.items p'.sessions.items p'.affected.items) engine
+      ap (λ (x : StoreModel). store_seen x p'.unions.items p'.order.items p'.sessions.items p'.affected.items) engine
       ∙ ap (λ v. store_seen e' p'.unions.items v.items p'.sessions.items p'.affected.items) order
       ∙ ap (λ v. store_seen e' p'.unions.items p.order.items v.items p'.affected.items) sessions
 
-  comes : (o : Option RowsChange) (outcome : RowsOutcome) → tried outcome ≡ o → (relations : List Bytes) (turn : Turn)
+  comes : (o : Option RowsChange) (outcome : RowsOutcome) → tried outcome ≡ o → (relations : List Bytes) (turn : UnionUpdate)
       → Behind o relations turn p.engine e' p.unions.items p'.unions.items → StoreIsWhole p
       → vec_capacity p.affected ≤ vec_capacity p'.affected → (before last : ℕ)
       → TellsChange (store_kept_in p) outcome
@@ -149,10 +149,10 @@ module _ (p p' : Parts) (e' : Kept) (engine : p'.engine ≡ e') (order : p'.orde
       → Comes p p' e' outcome before last
   comes o outcome tries relations turn b w room before last tells = record {
     whole = record {
-      listed = subst (λ (x : Kept). IsListed x p'.unions.items p'.order.items) (sym engine)
+      listed = subst (λ (x : StoreModel). IsListed x p'.unions.items p'.order.items) (sym engine)
           (subst (λ v. IsListed e' p'.unions.items v.items) (sym order)
           (all_listed o relations turn p.engine e' p.unions.items p'.unions.items b p.order.items w.listed));
-      counted = subst (λ (x : Kept). IsCounted x p'.unions.items p'.sessions.items) (sym engine)
+      counted = subst (λ (x : StoreModel). IsCounted x p'.unions.items p'.sessions.items) (sym engine)
           (subst (λ v. IsCounted e' p'.unions.items v.items) (sym sessions)
           (all_counted o relations turn p.engine e' p.unions.items p'.unions.items b p.order.items w.listed
           p.sessions.items w.counted));
@@ -162,21 +162,21 @@ module _ (p p' : Parts) (e' : Kept) (engine : p'.engine ≡ e') (order : p'.orde
       };
     };
     outdates = subst (λ (x : Option RowsChange). Outdates (store_kept_in p) x (store_kept_in p')) (sym tries)
-        (subst (λ (k : Kept). Outdates (store_kept_in p) o k) (sym seen_now)
+        (subst (λ (k : StoreModel). Outdates (store_kept_in p) o k) (sym seen_now)
         (outdates_behind o relations turn p.engine e' p.unions.items p'.unions.items b p.order.items w.listed
         p.sessions.items p.affected.items p'.affected.items));
-    registered = ap (λ (k : Kept). k.registered) seen_now
+    registered = ap (λ (k : StoreModel). k.registered) seen_now
         ∙ registered_behind o relations turn p.engine e' p.unions.items p'.unions.items b p.order.items w.listed
         p.sessions.items;
-    store = ap (λ (k : Kept). k.store) seen_now
+    store = ap (λ (k : StoreModel). k.store) seen_now
         ∙ ap (λ (qs : List Listed). with_queries qs e'.store)
         (queries_behind o relations turn p.engine e' p.unions.items p'.unions.items b p.order.items w.listed);
-    tells = subst (λ (k : Kept). TellsChange (store_kept_in p) outcome k before last) (sym seen_now) tells;
+    tells = subst (λ (k : StoreModel). TellsChange (store_kept_in p) outcome k before last) (sym seen_now) tells;
   }
 
 -- ---- by what came of it
 
-pub comes_to : (outcome : RowsOutcome) (p p' : Parts) (e' : Kept) (relations : List Bytes)
+pub comes_to : (outcome : RowsOutcome) (p p' : Parts) (e' : StoreModel) (relations : List Bytes)
     (before mid last : ℕ) → StoreIsWhole p → StayingLaws → Did p.engine (tried outcome) e'
     → watching.EngineTellsChange p.engine outcome e' before mid → IsKnown p.engine e' relations outcome
     → FollowsBy (turn_by outcome) relations (over p e') p'
@@ -289,7 +289,7 @@ module _ (p : Parts) (b : IsEngine p.engine) (w : StoreIsWhole p) (none : IsUnwa
 -- ---- what following it asks for
 
 -- where rows changed, the engine's affected queries stand in its places, and are no more than there is room for
-pub affected_low : (e e' : Kept) → IsEngine e → (change : RowsChange)
+pub affected_low : (e e' : StoreModel) → IsEngine e → (change : RowsChange)
     → e'.affected ≡ map (λ (r : Registered). r.id) (readers_of e.registered change)
     → All (λ (id : QueryId). id.at < QUERIES) e'.affected
 affected_low e e' b change is =
@@ -303,7 +303,7 @@ affected_low e e' b change is =
     b.placed was.0) in
     subst (λ (i : QueryId). i.at < QUERIES) r.2 (omega (arith, place_below e.places r.0.id.at t.0 t.1, b.few))))
 
-pub affected_few : (p : Parts) (e' : Kept) → StoreIsWhole p → (change : RowsChange)
+pub affected_few : (p : Parts) (e' : StoreModel) → StoreIsWhole p → (change : RowsChange)
     → e'.affected ≡ map (λ (r : Registered). r.id) (readers_of p.engine.registered change)
     → length e'.affected ≤ vec_capacity p.affected
 affected_few p e' w change is =
@@ -319,7 +319,7 @@ pub order_few : (p : Parts) → StoreIsWhole p → length p.order.items ≤ vec_
 order_few p w = let few = w.listed.few in let room = w.roomy.affected in omega (arith, few, room)
 
 -- members stay members
-pub members_behind : (p : Parts) (e' : Kept) → StoreIsWhole p → StayingLaws → (o : Option RowsChange)
+pub members_behind : (p : Parts) (e' : StoreModel) → StoreIsWhole p → StayingLaws → (o : Option RowsChange)
     → Did p.engine o e'
     → (k : ℕ) (j : Joined) → joined_at p.unions.items k ≡ Some j → AreMembers e'.places j.union.members
 members_behind p e' w laws o did k j there =
@@ -337,7 +337,7 @@ one_out name q e = ap (λ (b : Bool). is_some (cond b (Some name) None)) e
 
 -- ---- `add`
 
-add_made : (e e' : Kept) (name : Bytes) (row : Tuple) (r : Result AddOutcome Refusal) (o : Option Refusal)
+add_made : (e e' : StoreModel) (name : Bytes) (row : Tuple) (r : Result AddOutcome Refusal) (o : Option Refusal)
     → Answers o r (AddsAs e.store name row e'.store)
     (λ s. (has_row (rows_of (e.store).relations name) row ≡ false) × RefusedByTexts e.store (texts_in row) e'.store s)
     → IsKnown e e' (name ∷ []) (add_outcome (row_in (e.store).relations name row) r)
@@ -359,7 +359,7 @@ add_made e e' name row (Err NoMemory) o h = record {
 }
 add_made e e' name row (Err s) o h = tt
 
-pub add_known : (e e' : Kept) (name : Bytes) (row : Tuple) (r : Result AddOutcome Refusal)
+pub add_known : (e e' : StoreModel) (name : Bytes) (row : Tuple) (r : Result AddOutcome Refusal)
     → AddsRow e.store name row r e'.store
     → IsKnown e e' (name ∷ []) (add_outcome (row_in (e.store).relations name row) r)
 add_known e e' name row r h = add_made e e' name row r (add_refusal e.store name row) h.answer
@@ -403,7 +403,7 @@ add_grows law old new name row r h = add_texts law old new name row r (add_refus
 
 -- ---- `del`
 
-delete_made : (e e' : Kept) (name : Bytes) (row : Tuple) (r : Result DeleteOutcome Refusal) (o : Option Refusal)
+delete_made : (e e' : StoreModel) (name : Bytes) (row : Tuple) (r : Result DeleteOutcome Refusal) (o : Option Refusal)
     → Answers o r (DeletesAs e.store name row e'.store) (OutOfMemoryWhere ⊥)
     → IsKnown e e' (name ∷ []) (delete_outcome (row_out (e.store).relations name row) r)
 delete_made e e' name row (Ok Last) None h = record {
@@ -419,7 +419,7 @@ delete_made e e' name row (Ok (Left n)) o h = tt
 delete_made e e' name row (Ok Absent) o h = tt
 delete_made e e' name row (Err s) o h = tt
 
-pub delete_known : (e e' : Kept) (name : Bytes) (row : Tuple) (r : Result DeleteOutcome Refusal)
+pub delete_known : (e e' : StoreModel) (name : Bytes) (row : Tuple) (r : Result DeleteOutcome Refusal)
     → DeletesRow e.store name row r e'.store
     → IsKnown e e' (name ∷ []) (delete_outcome (row_out (e.store).relations name row) r)
 delete_known e e' name row r h = delete_made e e' name row r (delete_refusal e.store name row) h.answer
@@ -447,14 +447,14 @@ delete_grows old new name row r h = delete_texts old new name row r (delete_refu
 
 -- ---- what following asks for
 
-made_low : (p : Parts) (e' : Kept) → IsEngine p.engine → (outcome : RowsOutcome) (before mid : ℕ)
+made_low : (p : Parts) (e' : StoreModel) → IsEngine p.engine → (outcome : RowsOutcome) (before mid : ℕ)
     → watching.EngineTellsChange p.engine outcome e' before mid
     → IfMade (turn_by outcome) (All (λ (id : QueryId). id.at < QUERIES) e'.affected)
 made_low p e' b (accepted change) before mid t = affected_low p.engine e' b change t.affected
 made_low p e' b (out_of_memory change) before mid t = tt
 made_low p e' b unchanged before mid t = tt
 
-made_few : (p : Parts) (e' : Kept) → StoreIsWhole p → (outcome : RowsOutcome) (before mid : ℕ)
+made_few : (p : Parts) (e' : StoreModel) → StoreIsWhole p → (outcome : RowsOutcome) (before mid : ℕ)
     → watching.EngineTellsChange p.engine outcome e' before mid
     → IfMade (turn_by outcome) (length e'.affected ≤ vec_capacity p.affected)
 made_few p e' w (accepted change) before mid t = affected_few p e' w change t.affected
@@ -462,33 +462,33 @@ made_few p e' w (out_of_memory change) before mid t = tt
 made_few p e' w unchanged before mid t = tt
 
 -- with the turn that the code chose
-pub turn_low : (p : Parts) (e' : Kept) → IsEngine p.engine → (outcome : RowsOutcome) (turn : Option Turn)
+pub turn_low : (p : Parts) (e' : StoreModel) → IsEngine p.engine → (outcome : RowsOutcome) (turn : Option UnionUpdate)
     → turn ≡ turn_by outcome → (before mid : ℕ) → watching.EngineTellsChange p.engine outcome e' before mid
     → IfMade turn (All (λ (id : QueryId). id.at < QUERIES) e'.affected)
 turn_low p e' b outcome turn is before mid t =
-    subst (λ (x : Option Turn). IfMade x (All (λ (id : QueryId). id.at < QUERIES) e'.affected)) (sym is)
+    subst (λ (x : Option UnionUpdate). IfMade x (All (λ (id : QueryId). id.at < QUERIES) e'.affected)) (sym is)
     (made_low p e' b outcome before mid t)
 
-pub turn_few : (p : Parts) (e' : Kept) → StoreIsWhole p → (outcome : RowsOutcome) (turn : Option Turn)
+pub turn_few : (p : Parts) (e' : StoreModel) → StoreIsWhole p → (outcome : RowsOutcome) (turn : Option UnionUpdate)
     → turn ≡ turn_by outcome → (before mid : ℕ) → watching.EngineTellsChange p.engine outcome e' before mid
     → IfMade turn (length e'.affected ≤ vec_capacity p.affected)
 turn_few p e' w outcome turn is before mid t =
-    subst (λ (x : Option Turn). IfMade x (length e'.affected ≤ vec_capacity p.affected)) (sym is)
+    subst (λ (x : Option UnionUpdate). IfMade x (length e'.affected ≤ vec_capacity p.affected)) (sym is)
     (made_few p e' w outcome before mid t)
 
-pub turn_comes : (p p' : Parts) (e' : Kept) (relations : List Bytes) (outcome : RowsOutcome)
-    (turn : Option Turn) → turn ≡ turn_by outcome → (before mid last : ℕ) → StoreIsWhole p → StayingLaws
+pub turn_comes : (p p' : Parts) (e' : StoreModel) (relations : List Bytes) (outcome : RowsOutcome)
+    (turn : Option UnionUpdate) → turn ≡ turn_by outcome → (before mid last : ℕ) → StoreIsWhole p → StayingLaws
     → Did p.engine (tried outcome) e' → watching.EngineTellsChange p.engine outcome e' before mid
     → IsKnown p.engine e' relations outcome → FollowsBy turn relations (over p e') p'
     → last ≤ mid + following_steps turn e' relations p.unions.items → Comes p p' e' outcome before last
 turn_comes p p' e' relations outcome turn is before mid last w laws did t known follows counted =
     comes_to outcome p p' e' relations before mid last w laws did t known
-    (subst (λ (x : Option Turn). FollowsBy x relations (over p e') p') is follows)
-    (subst (λ (x : Option Turn). last ≤ mid + following_steps x e' relations p.unions.items) is counted)
+    (subst (λ (x : Option UnionUpdate). FollowsBy x relations (over p e') p') is follows)
+    (subst (λ (x : Option UnionUpdate). last ≤ mid + following_steps x e' relations p.unions.items) is counted)
 
 -- ---- what the engine did
 
-pub did_by : (e e' : Kept) (outcome : RowsOutcome) → IsEngine e → IsEngine e' → e'.registered ≡ e.registered
+pub did_by : (e e' : StoreModel) (outcome : RowsOutcome) → IsEngine e → IsEngine e' → e'.registered ≡ e.registered
     → Outdates e (tried outcome) e' → KeepsPlaces (is_tried (tried outcome)) e e' → Grown e.store e'.store
     → Did e (tried outcome) e'
 did_by e e' outcome b b' registered outdates places grown = record {
@@ -503,7 +503,7 @@ did_by e e' outcome b b' registered outdates places grown = record {
 
 -- ---- the store
 
-pub store_adds : (p p' : Parts) (e' : Kept) (name : Bytes) (row : Tuple) (r : Result AddOutcome Refusal)
+pub store_adds : (p p' : Parts) (e' : StoreModel) (name : Bytes) (row : Tuple) (r : Result AddOutcome Refusal)
     → AddsRow (p.engine).store name row r e'.store
     → (store_kept_in p').store ≡ with_queries ((store_kept_in p).store).queries e'.store
     → AddsRow (store_kept_in p).store name row r (store_kept_in p').store
@@ -511,7 +511,7 @@ store_adds p p' e' name row r h is =
     subst (λ (st : Store). AddsRow (store_kept_in p).store name row r st) (sym is)
     (adds_lifted ((store_kept_in p).store).queries (p.engine).store name row r e'.store h)
 
-pub store_deletes : (p p' : Parts) (e' : Kept) (name : Bytes) (row : Tuple) (r : Result DeleteOutcome Refusal)
+pub store_deletes : (p p' : Parts) (e' : StoreModel) (name : Bytes) (row : Tuple) (r : Result DeleteOutcome Refusal)
     → DeletesRow (p.engine).store name row r e'.store
     → (store_kept_in p').store ≡ with_queries ((store_kept_in p).store).queries e'.store
     → DeletesRow (store_kept_in p).store name row r (store_kept_in p').store

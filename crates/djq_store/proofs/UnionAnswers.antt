@@ -23,7 +23,7 @@ use Rattle.djq_live_query.specs.Live.{Live}
 use Rattle.djq_live_query.specs.Member.{HaveQueries, HeadTypesAre, head_types, query_at, queries_at}
 use Rattle.djq_live_query.proofs.Catalogs.{nth_is}
 use Rattle.djq_united.specs.United.{AreMembers, union_of}
-use Rattle.djq_engine.specs.Kept.{Kept, Registered, PlacesAreKept, registered_at, registered_of}
+use Rattle.djq_engine.specs.StoreModel.{StoreModel, Registered, PlacesAreKept, registered_at, registered_of}
 use Rattle.djq_engine.specs.Places.{id_at}
 use Rattle.djq_engine.specs.Laws.{IsEngine}
 use Rattle.djq_engine.proofs.Conditions.{answers_done, done_of}
@@ -71,7 +71,7 @@ named_alone (x ∷ xs) r at f apart =
         (λ k d low. apart 0 (suc k) d (omega arith) (omega (arith, low))) g in
         ap (λ c. cond c (Some x) (registered_of xs (listed_name r.query))) other ∙ more g
 
-module _ (e : Kept) (b : IsEngine e) (at : ℕ) where
+module _ (e : StoreModel) (b : IsEngine e) (at : ℕ) where
   pub seat_listed : (s : Seat e at) → listed_of (e.store).queries s.query.query.name ≡ Some (a_query s.query.query)
   seat_listed s =
       ap (λ (qs : List Listed). listed_of qs s.query.query.name) (sym b.queries)
@@ -193,7 +193,7 @@ refused_as o o' r D D' L e h = subst (λ (p : Option Refusal). Answers p (Err r)
     by None h = h
     by (Some s) h = h
 
-module _ (e : Kept) (over : PlacesAreKept e) (law : HeadTypesAre) (ks : List ℕ) (m : AreMembers e.places ks)
+module _ (e : StoreModel) (over : PlacesAreKept e) (law : HeadTypesAre) (ks : List ℕ) (m : AreMembers e.places ks)
     (name : Bytes)
     (t : Tuple) where
   abbrev relations : List Relation
@@ -262,10 +262,10 @@ module _ (e : Kept) (over : PlacesAreKept e) (law : HeadTypesAre) (ks : List ℕ
 
 -- ---- by name
 
-module _ (e : Kept) (b : IsEngine e) (us : List (Option Joined)) (order sessions affected : List ℕ)
+module _ (e : StoreModel) (b : IsEngine e) (us : List (Option Joined)) (order sessions affected : List ℕ)
     (w : IsListed e us order)
     (name : Bytes) (t : Tuple) (result : Result Bool Refusal) where
-  abbrev old : Kept
+  abbrev old : StoreModel
   old = store_seen e us order sessions affected
 
   pub union_tells : (k : ℕ) (f : Called us name k)

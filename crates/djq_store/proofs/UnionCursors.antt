@@ -23,8 +23,8 @@ use Rattle.djq_live_query.specs.Member.{queries_at}
 use Rattle.djq_united.specs.Slots.{UnionProgress, slot_at}
 use Rattle.djq_united.specs.Reading as united
 use Rattle.djq_united.specs.United.{United, IsUnited, members_in, first_of_members, union_position, union_of}
-use Rattle.djq_engine.specs.Kept.{Kept, HeldCursor, OpensCursor, CursorOpenGives, ClosesCursor, MovesCursor, MoreGives}
-use Rattle.djq_engine.specs.Kept.{MoreGivesAt, AtQuery, held_at, read_steps}
+use Rattle.djq_engine.specs.StoreModel.{StoreModel, HeldCursor, OpensCursor, CursorOpenGives, ClosesCursor, MovesCursor, MoreGives}
+use Rattle.djq_engine.specs.StoreModel.{MoreGivesAt, AtQuery, held_at, read_steps}
 use Rattle.djq_engine.specs.Laws.{IsEngine}
 use Rattle.djq_engine.proofs.Conditions.{answers_done, answers_lacking}
 use Rattle.djq_store.specs.declared.joined.Joined.{Joined}
@@ -56,12 +56,12 @@ emptied xs i = by_order (cases_lt i (length xs))
 set_itself : (us : List (Option Joined)) (k : ℕ) (j : Joined) → joined_at us k ≡ Some j → set us k (Some j) ≡ us
 set_itself us k j there = ap (set us k) (sym there) ∙ set-get_or us k None
 
-module _ (e : Kept) (b : IsEngine e) (us : List (Option Joined)) (order sessions affected : List ℕ)
+module _ (e : StoreModel) (b : IsEngine e) (us : List (Option Joined)) (order sessions affected : List ℕ)
     (w : IsListed e us order) (k : ℕ) where
-  abbrev old : Kept
+  abbrev old : StoreModel
   old = store_seen e us order sessions affected
 
-  abbrev new : List (Option Joined) → Kept
+  abbrev new : List (Option Joined) → StoreModel
   new vs = store_seen e vs order sessions affected
 
   -- the name of a union stands for it

@@ -31,7 +31,7 @@ use Rattle.djq_reach.specs.Places.{is_reader}
 use Rattle.djq_reach.proofs.PlacedQueries.{apart, reader_more}
 use Rattle.djq_united.specs.United.{IsUnited, union_of, AreMembers, United}
 use Rattle.djq_united.proofs.Members.{all_types}
-use Rattle.djq_engine.specs.Kept.{Kept, Registered, SameCursors, TellsOfQuery, held_at, registered_at, registered_of}
+use Rattle.djq_engine.specs.StoreModel.{StoreModel, Registered, SameCursors, TellsOfQuery, held_at, registered_at, registered_of}
 use Rattle.djq_engine.specs.Places.{id_at, told_of}
 use Rattle.djq_engine.specs.Finding.{IsFirstPassing}
 use Rattle.djq_engine.specs.Laws.{IsEngine}
@@ -133,7 +133,7 @@ none_vacant us vs same e = all us (none_of_position is_none us (sym (e ∙ ap (p
     all (Some x ∷ xs) h = let more = all xs h in let here = sum_by-cons (λ o. cond (is_some o) 1 0) (Some x) xs in omega
         (arith, more, here)
 
-module _ (e : Kept) (b : IsEngine e) (us us' : List (Option Joined)) (order sessions affected : List ℕ)
+module _ (e : StoreModel) (b : IsEngine e) (us us' : List (Option Joined)) (order sessions affected : List ℕ)
     (w : IsListed e us order) (k : ℕ) (j : Joined) (f : FillsSlot us us' k j) where
   abbrev at : ℕ
   at = QUERIES + k
@@ -141,10 +141,10 @@ module _ (e : Kept) (b : IsEngine e) (us us' : List (Option Joined)) (order sess
   abbrev order' : List ℕ
   order' = order ++ at ∷ []
 
-  abbrev old : Kept
+  abbrev old : StoreModel
   old = store_seen e us order sessions affected
 
-  abbrev new : Kept
+  abbrev new : StoreModel
   new = store_seen e us' order' sessions affected
 
   listed_same : (i : ℕ) → (i ≡ at → ⊥) → listed_at e.places us' i ≡ listed_at e.places us i
@@ -412,7 +412,7 @@ are_fit st name names h =
 
 -- ---- the queries of names
 
-module _ (e : Kept) (b : IsEngine e) (law : HeadTypesAre) (us : List (Option Joined)) (order sessions affected : List ℕ)
+module _ (e : StoreModel) (b : IsEngine e) (law : HeadTypesAre) (us : List (Option Joined)) (order sessions affected : List ℕ)
     (w : IsListed e us order) where
   abbrev st : Store
   st = (store_seen e us order sessions affected).store
@@ -585,11 +585,11 @@ module _ (e : Kept) (b : IsEngine e) (law : HeadTypesAre) (us : List (Option Joi
 
 -- ---- A union of registered queries is registered: what it does to a store.
 
-module _ (e : Kept) (b : IsEngine e) (law : HeadTypesAre) (us : List (Option Joined)) (order sessions affected : List ℕ)
+module _ (e : StoreModel) (b : IsEngine e) (law : HeadTypesAre) (us : List (Option Joined)) (order sessions affected : List ℕ)
     (w : IsListed e us order)
     (name : Bytes) (names : List Bytes) (two : 2 ≤ length names)
     (free : union_refusal (store_seen e us order sessions affected).store name names ≡ None) where
-  abbrev old_joining : Kept
+  abbrev old_joining : StoreModel
   old_joining = store_seen e us order sessions affected
 
   fit : Fit old_joining.store name names
@@ -615,7 +615,7 @@ module _ (e : Kept) (b : IsEngine e) (law : HeadTypesAre) (us : List (Option Joi
       abbrev order'_joining : List ℕ
       order'_joining = order ++ (QUERIES + k) ∷ []
 
-      abbrev new_joining : Kept
+      abbrev new_joining : StoreModel
       new_joining = store_seen e us' order'_joining sessions affected
 
       union_is : union_of e.places j.union ≡ a_union name qs

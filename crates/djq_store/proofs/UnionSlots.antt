@@ -22,12 +22,12 @@ use Rattle.djq_united.specs.United.{IsUnited, first_of_members, United}
 use Rattle.djq_united.specs.Slots.{UnionProgress, slot_at}
 use Rattle.djq_engine.specs.declared.cursor.CursorId.{CursorId}
 use Rattle.djq_engine.specs.declared.cursor.QueryId.{QueryId}
-use Rattle.djq_engine.specs.Kept.{Kept, Registered, HeldCursor, registered_at, same_id, held_at, SameTellings, told_at}
-use Rattle.djq_engine.specs.Kept.{IsHeld, IsFresh, IsOpenAt}
+use Rattle.djq_engine.specs.StoreModel.{StoreModel, Registered, HeldCursor, registered_at, same_id, held_at, SameTellings, told_at}
+use Rattle.djq_engine.specs.StoreModel.{IsHeld, IsFresh, IsOpenAt}
 use Rattle.djq_engine.specs.Places.{query_in, id_at}
 use Rattle.djq_engine.specs.Laws.{IsEngine}
 use Rattle.djq_store.specs.declared.joined.Joined.{Joined}
-use Rattle.djq_store.specs.declared.settling.Turn.{Turn}
+use Rattle.djq_store.specs.declared.settling.UnionUpdate.{UnionUpdate}
 use Rattle.djq_store.specs.Places.{joined_at, listed_in, listed_at, union_watchers, sessions_at, registered_as}
 use Rattle.djq_store.specs.Places.{lender_in, held_union_cursor, union_cursors_in, union_cursors_from, union_cursor_of}
 use Rattle.djq_store.specs.Places.{cursors_in, told_of_union, in_places, first_member, store_seen}
@@ -111,7 +111,7 @@ module _ (us us' : List (Option Joined)) (s : SameUnions us us') where
       (joined_at us' i) (s.each i)))
 
   -- the store stays whole, where each union fits
-  pub listed_kept : (e : Kept) (order : List ℕ) → IsListed e us order
+  pub listed_kept : (e : StoreModel) (order : List ℕ) → IsListed e us order
       → ((i : ℕ) (j : Joined) → joined_at us' i ≡ Some j → IsUnited e.places j.union)
       → ((i : ℕ) (j : Joined) → joined_at us' i ≡ Some j → IsShownByFirst e j) → IsListed e us' order
   listed_kept e order w united shown = record {
@@ -127,7 +127,7 @@ module _ (us us' : List (Option Joined)) (s : SameUnions us us') where
     within = omega (arith, s.long, w.within);
   }
 
-  pub counted_kept : (e : Kept) (sessions : List ℕ) → IsCounted e us sessions → IsCounted e us' sessions
+  pub counted_kept : (e : StoreModel) (sessions : List ℕ) → IsCounted e us sessions → IsCounted e us' sessions
   counted_kept e sessions w = record {
     counted = λ r found. w.counted r found ∙ ap (λ n. get_or sessions r.id.at 0 + n) (sym (wants_alike r.id.at));
     few = λ at. let same = sessions_alike sessions at in let few = w.few at in omega (arith, same, few);
@@ -259,7 +259,7 @@ module _ (texts : List Bytes) (gs : List (Option Live)) where
       ∙ ap₂ option_or (slots_other j.union at zero j.union.cursors id (λ s. omega arith))
       (unions_here (suc at) i us id (omega arith))
 
-module _ (e : Kept) (us : List (Option Joined)) (id : CursorId) where
+module _ (e : StoreModel) (us : List (Option Joined)) (id : CursorId) where
   -- a cursor of a query is the engine's
   pub held_low : id.query.at < QUERIES → held_at (cursors_in e us) id ≡ held_at e.cursors id
   held_low low =
@@ -302,7 +302,7 @@ other_slot id other apart e f = false≢true
     both true c e f = f
     both false c e f = absurd cc
 
-module _ (e : Kept) (b : IsEngine e) (us : List (Option Joined)) (order sessions affected : List ℕ)
+module _ (e : StoreModel) (b : IsEngine e) (us : List (Option Joined)) (order sessions affected : List ℕ)
     (w : IsListed e us order)
     (k : ℕ) (j : Joined) (there : joined_at us k ≡ Some j) (u : United) (name : u.name ≡ j.union.name)
     (members : u.members ≡ j.union.members) (fits : IsUnited e.places u) where
@@ -420,7 +420,7 @@ same_members : (o : Option Bytes) (n : ℕ) (u : United) → (outdated_union o n
 same_members None n u = refl
 same_members (Some r) n u = refl
 
-module _ (e : Kept) (relations : List Bytes) (n : ℕ) (turn : Turn) where
+module _ (e : StoreModel) (relations : List Bytes) (n : ℕ) (turn : UnionUpdate) where
   pub settled_same : (j k : Joined) → Settles e relations n turn j k → SameUnion j k
   settled_same j k h = record {
     name = ap (λ (u : United). u.name) h.union
@@ -526,7 +526,7 @@ module _ (us us' : List (Option Joined)) (k : ℕ) (others : (i : ℕ) → (i �
         (λ (x : Listed) (n : ℕ). (let s : Registered = record { id = id_at at; query = x; watchers = n } in s))
         (listed_other gs at d) (sessions_other sessions at d)
 
-    module _ (e : Kept) (b : IsEngine e) where
+    module _ (e : StoreModel) (b : IsEngine e) where
       pub held_other : (id : CursorId) → (id.query.at ≡ QUERIES + k → ⊥) → held_at (cursors_in e us') id
           ≡ held_at (cursors_in e us) id
       held_other id d = by_case (cases_place id.query.at)
@@ -558,7 +558,7 @@ pub id_is : (id : CursorId) → QUERIES ≤ id.query.at → cursor_of (id.query.
 id_is id high = ap (λ (n : ℕ). (let c : CursorId = record { query = id_at n; cursor = id.cursor } in c))
     (add-sub_of_le high)
 
-module _ (e : Kept) (b : IsEngine e) (us : List (Option Joined)) (order sessions affected : List ℕ)
+module _ (e : StoreModel) (b : IsEngine e) (us : List (Option Joined)) (order sessions affected : List ℕ)
     (w : IsListed e us order) (id : CursorId) where
   -- of a query it is the engine's
   pub held_in_engine : id.query.at < QUERIES → IsHeld (store_seen e us order sessions affected) id → IsHeld e id

@@ -16,7 +16,7 @@ use Rattle.djq_live_query.specs.Member.{query_at}
 use Rattle.djq_reach.specs.Places.{is_reader, AreOnce}
 use Rattle.djq_united.specs.United.{IsUnited}
 use Rattle.djq_engine.specs.declared.cursor.QueryId.{QueryId}
-use Rattle.djq_engine.specs.Kept.{Kept, HeldCursor, Registered, registered_at, with_watchers}
+use Rattle.djq_engine.specs.StoreModel.{StoreModel, HeldCursor, Registered, registered_at, with_watchers}
 use Rattle.djq_engine.specs.Places.{id_at, query_in}
 use Rattle.djq_engine.specs.Laws.{IsEngine}
 use Rattle.djq_engine.proofs.QueryPlaces.{here, behind, map_members}
@@ -138,7 +138,7 @@ was_all f xs rs once r found = by_found (registered_at rs r.id) refl
 
 -- ---- a union with other watchers in its slot
 
-module _ (e : Kept) (us : List (Option Joined)) (order sessions affected : List ℕ) (w : IsListed e us order)
+module _ (e : StoreModel) (us : List (Option Joined)) (order sessions affected : List ℕ) (w : IsListed e us order)
     (v : IsCounted e us sessions)
     (k : ℕ) (j : Joined) (there : joined_at us k ≡ Some j) (n : ℕ) where
   abbrev pub heard : Joined
@@ -377,7 +377,7 @@ module _ (e : Kept) (us : List (Option Joined)) (order sessions affected : List 
       (with_watchers (id_at (QUERIES + k)) f (map (registered_as e.places us sessions) order))
       (in_places e.told (map (told_of_union (e.store).texts e.places) us)) ps) (ap (in_places e.places) lenders_same)
     where
-      made : List Listed → List HeldCursor → List Registered → List (Option (List Change)) → List (Option Live) → Kept
+      made : List Listed → List HeldCursor → List Registered → List (Option (List Change)) → List (Option Live) → StoreModel
       made qs hs rs told ps = record {
         store = record e.store { queries = qs };
         cursors = hs;
@@ -406,7 +406,7 @@ once_of (x ∷ xs) d = (
         step true e more = absurd (h zero (omega arith) (sym (eqb-true y x e)))
         step false e more = more
 
-module _ (e : Kept) (b : IsEngine e) (us : List (Option Joined)) (order sessions : List ℕ) (w : IsListed e us order)
+module _ (e : StoreModel) (b : IsEngine e) (us : List (Option Joined)) (order sessions : List ℕ) (w : IsListed e us order)
     (v : IsCounted e us sessions) (k : ℕ) (j : Joined) (there : joined_at us k ≡ Some j)
     (i : ℕ) (low : i < length j.union.members) where
   member_counted : (s : Seat e (get_or j.union.members i 0)) → s.registered.watchers
@@ -457,7 +457,7 @@ module _ (e : Kept) (b : IsEngine e) (us : List (Option Joined)) (order sessions
 
 -- ---- one more listens to a union, or one less
 
-module _ (e : Kept) (us : List (Option Joined)) (order sessions affected : List ℕ) (w : IsListed e us order)
+module _ (e : StoreModel) (us : List (Option Joined)) (order sessions affected : List ℕ) (w : IsListed e us order)
     (v : IsCounted e us sessions) (k : ℕ) where
   among : (j : Joined) → joined_at us k ≡ Some j → is_reader order (QUERIES + k) ≡ true
   among j there = w.unions k ∙ ap is_some there
@@ -514,7 +514,7 @@ module _ (e : Kept) (us : List (Option Joined)) (order sessions affected : List 
     old_few = watchers_few e us order sessions affected w v k m.old m.there 0
 
 -- how many watch the union of an id
-pub union_has : (e : Kept) (b : IsEngine e) (us : List (Option Joined)) (order sessions : List ℕ)
+pub union_has : (e : StoreModel) (b : IsEngine e) (us : List (Option Joined)) (order sessions : List ℕ)
     (w : IsListed e us order) (id : QueryId) → QUERIES ≤ id.at → is_reader order id.at ≡ true
     → (P : ℕ → Type 0) → P (sessions_at us sessions id.at)
     → IsSomeAnd (joined_at us (id.at - QUERIES)) (λ j. P j.watchers)

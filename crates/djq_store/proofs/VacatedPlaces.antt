@@ -21,8 +21,8 @@ use Rattle.djq_reach.proofs.PlacedQueries.{apart, place_below, reader_there}
 use Rattle.djq_united.specs.United.{United, IsUnited, CursorsFit, members_in, first_of_members, union_position}
 use Rattle.djq_united.specs.Slots.{slot_at}
 use Rattle.djq_engine.specs.declared.cursor.QueryId.{QueryId}
-use Rattle.djq_engine.specs.Kept.{same_query, Kept, HeldCursor, Registered, SameCursors, TellsOfQuery, DropsTelling}
-use Rattle.djq_engine.specs.Kept.{held_at, registered_at, registered_of, told_at}
+use Rattle.djq_engine.specs.StoreModel.{same_query, StoreModel, HeldCursor, Registered, SameCursors, TellsOfQuery, DropsTelling}
+use Rattle.djq_engine.specs.StoreModel.{held_at, registered_at, registered_of, told_at}
 use Rattle.djq_engine.specs.Places.{id_at, places_without, query_in, told_of}
 use Rattle.djq_engine.specs.Laws.{IsEngine}
 use Rattle.djq_engine.proofs.QueryPlaces.{reader_filter, all_but, here, behind, map_members, drop_listed, filter_twice}
@@ -222,7 +222,7 @@ one_called gs name (k ∷ ks) i l there e called = step (query_at gs k) refl (k 
     step (Some m) f false g h more = ap (λ b. bytes_eq m.query.name name || b) (more h)
         ∙ or_true (bytes_eq m.query.name name)
 
-module _ (e : Kept) (b : IsEngine e) (us : List (Option Joined)) (order : List ℕ) (w : IsListed e us order) where
+module _ (e : StoreModel) (b : IsEngine e) (us : List (Option Joined)) (order : List ℕ) (w : IsListed e us order) where
   -- no member of any union has a name
   pub no_members : (name : Bytes)
       → ((k : ℕ) (j : Joined) (i : ℕ) (l : Live) → joined_at us k ≡ Some j → is_reader j.union.members i ≡ true
@@ -359,7 +359,7 @@ map_filter f p (x ∷ xs) = step (p (f x)) (map_filter f p xs)
     step false e = e
 
 -- What the engine does where it drops the query of a place that no union needs.
-pub record Vacates (e e' : Kept) (us : List (Option Joined)) (name : Bytes) (at : ℕ) : Type 0 where
+pub record Vacates (e e' : StoreModel) (us : List (Option Joined)) (name : Bytes) (at : ℕ) : Type 0 where
   pub before : IsEngine e
   pub after : IsEngine e'
   pub seat : Seat e at
@@ -371,7 +371,7 @@ pub record Vacates (e e' : Kept) (us : List (Option Joined)) (name : Bytes) (at 
   pub tells : TellsOfQuery e (id_at at) None e'
   pub none : (k : ℕ) (j : Joined) → joined_at us k ≡ Some j → is_reader j.union.members at ≡ false
 
-module _ (e e' : Kept) (us : List (Option Joined)) (order sessions affected : List ℕ) (w : IsListed e us order)
+module _ (e e' : StoreModel) (us : List (Option Joined)) (order sessions affected : List ℕ) (w : IsListed e us order)
     (name : Bytes) (at : ℕ) (v : Vacates e e' us name at) where
   others : (i : ℕ) → (i ≡ at → ⊥) → query_at e'.places i ≡ query_at e.places i
   others i d = ap (λ (gs : List (Option Live)). query_at gs i) v.places ∙ get_or-set_other e.places at i None None d
@@ -541,10 +541,10 @@ module _ (e e' : Kept) (us : List (Option Joined)) (order sessions affected : Li
 
   -- ---- what contracts see
 
-  abbrev old : Kept
+  abbrev old : StoreModel
   old = store_seen e us order sessions affected
 
-  abbrev new : Kept
+  abbrev new : StoreModel
   new = store_seen e' us (places_without at order) sessions (places_without at affected)
 
   pub vacated_store : new.store

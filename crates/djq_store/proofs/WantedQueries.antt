@@ -32,10 +32,10 @@ use Rattle.djq_reach.specs.Places.{is_reader}
 use Rattle.djq_reach.proofs.PlacedQueries.{place_below}
 use Rattle.djq_united.specs.United.{union_of}
 use Rattle.djq_engine.specs.declared.cursor.QueryId.{QueryId}
-use Rattle.djq_engine.specs.Kept.{Kept, Registered, AtPlace, same_query, registered_at, affected_of, is_watched}
+use Rattle.djq_engine.specs.StoreModel.{StoreModel, Registered, AtPlace, same_query, registered_at, affected_of, is_watched}
 use Rattle.djq_engine.specs.Places.{id_at}
 use Rattle.djq_store.specs.declared.joined.Joined.{Joined}
-use Rattle.djq_store.specs.declared.settling.Turn.{Turn}
+use Rattle.djq_store.specs.declared.settling.UnionUpdate.{UnionUpdate}
 use Rattle.djq_store.specs.Places.{joined_at, registered_as, sessions_at, union_watchers}
 use Rattle.djq_store.specs.Whole.{IsListed, IsCounted, wants}
 use Rattle.djq_store.proofs.ChangedStores.{Behind, member_there, union_is, outdated_member}
@@ -209,7 +209,7 @@ idle_halves before change q changes n spares half none empty lists = by change.h
           none_both change.touches h.both q.atoms (λ name k. (half name k).1) none,
         )
 
-module _ (change : RowsChange) (relations : List Bytes) (turn : Turn) (e e' : Kept) (us us' : List (Option Joined))
+module _ (change : RowsChange) (relations : List Bytes) (turn : UnionUpdate) (e e' : StoreModel) (us us' : List (Option Joined))
     (b : Behind (Some change) relations turn e e' us us') (order : List ℕ) (w : IsListed e us order)
     (sessions : List ℕ) (c : IsCounted e us sessions) (eds : List Delta)
     (are : AreDeltas (e.store).relations change (map (λ (r : Registered). r.query) (affected_of e.registered change))

@@ -11,7 +11,7 @@ use Rattle.djq_protocol.specs.declared.limits.TheConstants.{QUERIES, SESSIONS}
 use Rattle.djq_reach.specs.Places.{is_reader, AreOnce}
 use Rattle.djq_reach.proofs.PlacedQueries.{apart}
 use Rattle.djq_engine.specs.declared.cursor.QueryId.{QueryId}
-use Rattle.djq_engine.specs.Kept.{Kept, Registered, registered_at, with_watchers}
+use Rattle.djq_engine.specs.StoreModel.{StoreModel, Registered, registered_at, with_watchers}
 use Rattle.djq_engine.specs.Laws.{IsEngine}
 use Rattle.djq_engine.specs.Places.{id_at}
 use Rattle.djq_engine.proofs.QueryPlaces.{map_members}
@@ -111,12 +111,12 @@ was id f rs r found = by_found (registered_at rs r.id) refl
 
 -- ---- a query
 
-module _ (e : Kept) (b : IsEngine e) (us : List (Option Joined)) (order sessions affected : List ℕ)
+module _ (e : StoreModel) (b : IsEngine e) (us : List (Option Joined)) (order sessions affected : List ℕ)
     (w : IsListed e us order) (v : IsCounted e us sessions)
     (id : QueryId) (low : id.at < QUERIES) (there : is_reader order id.at ≡ true) (f : ℕ → ℕ) (n : ℕ)
     (is : n ≡ f (get_or sessions id.at 0)) (few : n ≤ SESSIONS)
     (adds : (c : ℕ) → f (get_or sessions id.at 0 + c) ≡ f (get_or sessions id.at 0) + c) where
-  abbrev pub watched : Kept
+  abbrev pub watched : StoreModel
   watched = record e { registered = with_watchers id f e.registered }
 
   below : id.at < length sessions
@@ -218,11 +218,11 @@ module _ (e : Kept) (b : IsEngine e) (us : List (Option Joined)) (order sessions
       ≡ record (store_seen e us order sessions affected)
       { registered = with_watchers id f (store_seen e us order sessions affected).registered }
   query_seen = ap (λ (rs : List Registered).
-      (let k : Kept = record (store_seen e us order sessions affected) { registered = rs } in k))
+      (let k : StoreModel = record (store_seen e us order sessions affected) { registered = rs } in k))
       (registered_with order w.once there)
 
 -- the engine counts fewer than may be
-module _ (e : Kept) (b : IsEngine e) (us : List (Option Joined)) (order sessions affected : List ℕ)
+module _ (e : StoreModel) (b : IsEngine e) (us : List (Option Joined)) (order sessions affected : List ℕ)
     (w : IsListed e us order) (v : IsCounted e us sessions)
     (id : QueryId) (low : id.at < QUERIES) (there : is_reader order id.at ≡ true) where
   watching : (s : Seat e id.at) → s.registered.watchers ≡ get_or sessions id.at 0 + count_by (wants id.at) us
@@ -249,7 +249,7 @@ module _ (e : Kept) (b : IsEngine e) (us : List (Option Joined)) (order sessions
       subst (λ (o : Option Registered). IsSomeAnd o (λ r. 0 < r.watchers)) (sym s.found) (omega (arith, is, some, here))
 
 -- what the code reads of a query that is watched once more, or once less
-module _ (e : Kept) (b : IsEngine e) (us : List (Option Joined)) (order sessions affected : List ℕ)
+module _ (e : StoreModel) (b : IsEngine e) (us : List (Option Joined)) (order sessions affected : List ℕ)
     (w : IsListed e us order) (v : IsCounted e us sessions) (id : QueryId) (low : id.at < QUERIES) (m : ℕ)
     (is : m ≡ get_or sessions id.at m) where
   pub read_here : m ≡ get_or sessions id.at 0
@@ -333,14 +333,14 @@ none_before xs i d low = by_places (take i xs) (λ k below same.
 
 -- what the code asks for at each of them, and what is done then
 
-module _ (e k : Kept) (members : List ℕ) (i : ℕ) (low : i < length members) where
+module _ (e k : StoreModel) (members : List ℕ) (i : ℕ) (low : i < length members) where
   module _ (before : k ≡ record e { registered = with_watchers_at (λ n. n + 1) (take i members) e.registered })
       (few : IsSomeAnd (registered_at e.registered (id_at (get_or members i 0)))
       (λ r. r.watchers + length members ≤ 4294967295)) where
     watched_so_far : IsSomeAnd (registered_at k.registered (id_at (get_or members i 0)))
         (λ r. r.watchers + 1 ≤ 4294967295)
     watched_so_far = subst
-        (λ (x : Kept). IsSomeAnd (registered_at x.registered (id_at (get_or members i 0)))
+        (λ (x : StoreModel). IsSomeAnd (registered_at x.registered (id_at (get_or members i 0)))
         (λ r. r.watchers + 1 ≤ 4294967295)) (sym before)
         (with_room (take i members) e.registered (id_at (get_or members i 0)) 1 4294967295
         (weaker (registered_at e.registered (id_at (get_or members i 0))) few))
@@ -370,20 +370,20 @@ module _ (e k : Kept) (members : List ℕ) (i : ℕ) (low : i < length members) 
       → IsSomeAnd (registered_at e.registered (id_at (get_or members i 0))) (λ r. 0 < r.watchers)
       → IsSomeAnd (registered_at k.registered (id_at (get_or members i 0))) (λ r. 0 < r.watchers)
   can_leave apart before h = subst
-      (λ (x : Kept). IsSomeAnd (registered_at x.registered (id_at (get_or members i 0))) (λ r. 0 < r.watchers))
+      (λ (x : StoreModel). IsSomeAnd (registered_at x.registered (id_at (get_or members i 0))) (λ r. 0 < r.watchers))
       (sym before)
       (subst (λ (o : Option Registered). IsSomeAnd o (λ r. 0 < r.watchers))
       (sym (with_apart (λ n. n - 1) (take i members) e.registered (get_or members i 0)
       (none_before members i apart low))) h)
 
-  pub one_more : (f : ℕ → ℕ) (new : Kept)
+  pub one_more : (f : ℕ → ℕ) (new : StoreModel)
       → k ≡ record e { registered = with_watchers_at f (take i members) e.registered }
       → new ≡ record k { registered = with_watchers (id_at (get_or members i 0)) f k.registered } → new
       ≡ record e { registered = with_watchers_at f (take (i + 1) members) e.registered }
   one_more f new before done =
-      done ∙ ap (λ (x : Kept).
-      (let y : Kept = record x { registered = with_watchers (id_at (get_or members i 0)) f x.registered } in y))
+      done ∙ ap (λ (x : StoreModel).
+      (let y : StoreModel = record x { registered = with_watchers (id_at (get_or members i 0)) f x.registered } in y))
       before
-      ∙ ap (λ (rs : List Registered). (let y : Kept = record e { registered = rs } in y))
+      ∙ ap (λ (rs : List Registered). (let y : StoreModel = record e { registered = rs } in y))
       (sym (ap (λ (xs : List ℕ). with_watchers_at f xs e.registered) (take_more members i 0 low)
       ∙ with_more f (take i members) (get_or members i 0) e.registered))

@@ -1,6 +1,6 @@
 -- Members of a union that are watched once more, or once less.
 use Rattle.std.specs.Prelude.{ℕ, List, [], ◌∷◌, ◌≡◌, Option, Some, slice_set}
-use Rattle.djq_engine.specs.Kept.{Registered, with_watchers}
+use Rattle.djq_engine.specs.StoreModel.{Registered, with_watchers}
 use Rattle.djq_engine.specs.Places.{id_at}
 use Rattle.djq_store.specs.declared.joined.Joined.{Joined}
 use Rattle.djq_store.specs.Places.{joined_at}

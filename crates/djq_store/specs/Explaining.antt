@@ -6,7 +6,7 @@ use Rattle.djq_protocol.specs.declared.answer.Refusal.{Refusal}
 use Rattle.djq_protocol.specs.declared.answer.Refusal.TheVariants.{NoQuery}
 use Rattle.djq_protocol.specs.Conditions.{first_refusal, Answers, OutOfMemoryWhere}
 use Rattle.djq_store_spec.specs.Store.{Store}
-use Rattle.djq_engine.specs.Kept.{ExplainsTree, HasTree}
+use Rattle.djq_engine.specs.StoreModel.{ExplainsTree, HasTree}
 use Rattle.djq_store.specs.declared.explained.Explained.{Explained}
 use Rattle.djq_store.specs.declared.explained.Explained.TheVariants.{Tree, Members}
 

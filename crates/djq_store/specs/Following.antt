@@ -11,17 +11,17 @@ use Rattle.djq_protocol.specs.declared.answer.Refusal.{Refusal}
 use Rattle.djq_protocol.specs.declared.answer.Refusal.TheVariants.{NoMemory}
 use Rattle.djq_protocol.specs.declared.held.DoneRefusal.{DoneRefusal}
 use Rattle.djq_protocol.specs.Reply.{done_word}
-use Rattle.djq_engine.specs.Kept.{Kept}
+use Rattle.djq_engine.specs.StoreModel.{StoreModel}
 use Rattle.djq_store.specs.declared.joined.Joined.{Joined}
 use Rattle.djq_store.specs.declared.parts.Parts.{Parts}
-use Rattle.djq_store.specs.declared.settling.Turn.{Turn}
-use Rattle.djq_store.specs.declared.settling.Turn.TheVariants.{Changed, Lacked}
+use Rattle.djq_store.specs.declared.settling.UnionUpdate.{UnionUpdate}
+use Rattle.djq_store.specs.declared.settling.UnionUpdate.TheVariants.{Changed, Lacked}
 use Rattle.djq_store.specs.Affecting.{is_reached_id, is_affected}
 use Rattle.djq_store.specs.Places.{joined_at}
 use Rattle.djq_store.specs.Settling.{SettlesAt, is_settled, settling_steps}
 
 -- what holds if rows changed
-abbrev pub IfMade : Option Turn → Type 0 → Type 0
+abbrev pub IfMade : Option UnionUpdate → Type 0 → Type 0
 IfMade None Holds = ⊤
 IfMade (Some Lacked) Holds = ⊤
 IfMade (Some turn) Holds = Holds
@@ -35,12 +35,12 @@ AffectsAll relations old new =
     × (new.affected.items ≡ map (λ id. id.at) old.engine.affected))
 
 -- If the change was made, they are recorded; if memory was refused, they stay.
-abbrev pub FollowsAffected : Turn → List Bytes → Parts → Parts → Type 0
+abbrev pub FollowsAffected : UnionUpdate → List Bytes → Parts → Parts → Type 0
 FollowsAffected Lacked relations old new = new.affected ≡ old.affected
 FollowsAffected _ relations old new = AffectsAll relations old new
 
 -- The unions are updated after a change of these relations, and nothing else changes.
-pub record UnionsFollow (relations : List Bytes) (turn : Turn) (old new : Parts) : Type 0 where
+pub record UnionsFollow (relations : List Bytes) (turn : UnionUpdate) (old new : Parts) : Type 0 where
   pub engine : new.engine ≡ old.engine
   pub long : length new.unions.items ≡ length old.unions.items
   pub unions : (k : ℕ) → SettlesAt old.engine relations (old.engine.store).seq turn
@@ -51,24 +51,24 @@ pub record UnionsFollow (relations : List Bytes) (turn : Turn) (old new : Parts)
   pub room : vec_capacity old.affected ≤ vec_capacity new.affected
 
 -- If there was no change, nothing does.
-abbrev pub FollowsBy : Option Turn → List Bytes → Parts → Parts → Type 0
+abbrev pub FollowsBy : Option UnionUpdate → List Bytes → Parts → Parts → Type 0
 FollowsBy None relations old new = new ≡ old
 FollowsBy (Some turn) relations old new = UnionsFollow relations turn old new
 
 -- what it counts at most
-abbrev pub following_steps : Option Turn → Kept → List Bytes → List (Option Joined) → ℕ
+abbrev pub following_steps : Option UnionUpdate → StoreModel → List Bytes → List (Option Joined) → ℕ
 following_steps None e relations us = 0
 following_steps (Some turn) e relations us = sum_by (settling_steps e relations turn) us
 
 -- how rows changed, by the outcome of a command
-abbrev pub add_turn : Result AddOutcome Refusal → Option Turn
+abbrev pub add_turn : Result AddOutcome Refusal → Option UnionUpdate
 add_turn (Ok First) = Some Changed
 add_turn (Ok (More copies)) = None
 add_turn (Err NoMemory) = Some Lacked
 add_turn (Err _) = None
 
 -- how rows changed, by the outcome of a deletion
-abbrev pub delete_turn : Result DeleteOutcome Refusal → Option Turn
+abbrev pub delete_turn : Result DeleteOutcome Refusal → Option UnionUpdate
 delete_turn (Ok Last) = Some Changed
 delete_turn (Ok (Left copies)) = None
 delete_turn (Ok Absent) = None
@@ -83,7 +83,7 @@ abbrev pub is_memory : DoneRefusal → Bool
 is_memory r = is_no_memory (done_word r)
 
 -- how rows changed if so many were inserted and deleted
-abbrev pub lines_turn : ℕ → Option Turn
+abbrev pub lines_turn : ℕ → Option UnionUpdate
 lines_turn zero = None
 lines_turn (suc n) = Some Changed
 

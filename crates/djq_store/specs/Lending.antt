@@ -3,10 +3,10 @@ use Rattle.std.specs.Prelude.{◌≡◌, ◌<◌, option_map}
 use Rattle.djq_protocol.specs.declared.limits.TheConstants.{QUERIES}
 use Rattle.djq_engine.specs.declared.cursor.CursorId.{CursorId}
 use Rattle.djq_engine.specs.declared.cursor.QueryId.{QueryId}
-use Rattle.djq_engine.specs.Kept.{Kept, registered_at, held_at}
+use Rattle.djq_engine.specs.StoreModel.{StoreModel, registered_at, held_at}
 
 -- It has the relations, the texts and the number of changes of the store, and its queries with their cursors.
-pub record LendsEngine (k e : Kept) : Type 0 where
+pub record LendsEngine (k e : StoreModel) : Type 0 where
   pub relations : (e.store).relations ≡ (k.store).relations
   pub texts : (e.store).texts ≡ (k.store).texts
   pub seq : (e.store).seq ≡ (k.store).seq

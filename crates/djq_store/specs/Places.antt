@@ -8,7 +8,7 @@ use Rattle.djq_store_spec.specs.Delta.{Change}
 use Rattle.djq_live_query.specs.Live.{Live}
 use Rattle.djq_live_query.specs.Member.{query_at}
 use Rattle.djq_engine.specs.declared.cursor.CursorId.{CursorId}
-use Rattle.djq_engine.specs.Kept.{HeldCursor, Registered, Kept}
+use Rattle.djq_engine.specs.StoreModel.{HeldCursor, Registered, StoreModel}
 use Rattle.djq_engine.specs.Places.{no_query, query_in, id_at, told_of}
 use Rattle.djq_united.specs.Slots.{UnionProgress, slot_at}
 use Rattle.djq_united.specs.United.{United, members_in, first_of_members, union_of, union_position}
@@ -101,12 +101,12 @@ lender_in gs None = None
 lender_in gs (Some j) = first_member gs j.union
 
 -- the cursors of queries and of unions
-abbrev pub cursors_in : Kept → List (Option Joined) → List HeldCursor
+abbrev pub cursors_in : StoreModel → List (Option Joined) → List HeldCursor
 cursors_in e us = e.cursors ++ union_cursors_from (e.store).texts e.places QUERIES us
 
 -- what contracts see, of an engine, unions in slots, the order, the sessions that watch each query, and the affected
 -- places
-abbrev pub store_seen : Kept → List (Option Joined) → List ℕ → List ℕ → List ℕ → Kept
+abbrev pub store_seen : StoreModel → List (Option Joined) → List ℕ → List ℕ → List ℕ → StoreModel
 store_seen e us order sessions affected = record {
   store = record e.store { queries = map (listed_at e.places us) order };
   cursors = cursors_in e us;
@@ -117,5 +117,5 @@ store_seen e us order sessions affected = record {
 }
 
 -- what contracts see of a store's parts
-abbrev pub store_kept_in : Parts → Kept
+abbrev pub store_kept_in : Parts → StoreModel
 store_kept_in p = store_seen p.engine p.unions.items p.order.items p.sessions.items p.affected.items

@@ -7,11 +7,11 @@ use Rattle.djq_store_spec.specs.Listing.{IsLeft, AreAll}
 use Rattle.djq_live_query.specs.declared.listing.Next.{Next}
 use Rattle.djq_live_query.specs.declared.listing.Next.TheVariants.{Given, End, Stale}
 use Rattle.djq_engine.specs.declared.cursor.CursorId.{CursorId}
-use Rattle.djq_engine.specs.Kept.{Kept, HeldCursor, AnswerIs, IsShown, MovesCursor, held_at, read_steps}
+use Rattle.djq_engine.specs.StoreModel.{StoreModel, HeldCursor, AnswerIs, IsShown, MovesCursor, held_at, read_steps}
 
 -- What a read of a cursor gives: one answer that is left; the end if and only if none is; or what
 -- made it stale. The answer can be shown by the query, of a union by its first member.
-abbrev pub NextGivesAt : Kept → HeldCursor → Listed → Position → Next → List ℕ → Kept → Type 0
+abbrev pub NextGivesAt : StoreModel → HeldCursor → Listed → Position → Next → List ℕ → StoreModel → Type 0
 NextGivesAt old h q (open_at given ended) Given answer new =
     (t : Tuple) × IsLeft (AnswersOf (old.store).relations q) given t
     × IsShown new h.id answer × AnswerIs new h.id answer t
@@ -24,7 +24,7 @@ NextGivesAt old h q (stale r m) (Stale relation n) answer new =
 NextGivesAt old h q (stale r m) _ answer new = ⊥
 
 -- A read of a cursor, and what it counts at most.
-pub record NextGives (old : Kept) (id : CursorId) (result : Next) (answer : List ℕ) (new : Kept)
+pub record NextGives (old : StoreModel) (id : CursorId) (result : Next) (answer : List ℕ) (new : StoreModel)
     (before now : ℕ) : Type 0 where
   pub gives : IsSomeAnd (held_at old.cursors id) (λ h. IsSomeAnd
       (listed_of (old.store).queries h.query) (λ q. NextGivesAt old h q h.position result answer new

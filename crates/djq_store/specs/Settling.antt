@@ -10,15 +10,15 @@ use Rattle.djq_live_query.specs.Live.{Live}
 use Rattle.djq_live_query.specs.Member.{query_at}
 use Rattle.djq_live_query.specs.Staying.{HasSameShape}
 use Rattle.djq_reach.specs.Places.{reads_place}
-use Rattle.djq_engine.specs.Kept.{Kept}
+use Rattle.djq_engine.specs.StoreModel.{StoreModel}
 use Rattle.djq_united.specs.Slots.{outdated_slots}
 use Rattle.djq_united.specs.Staying.{KeepMembers}
 use Rattle.djq_united.specs.United.{United, IsUnited}
 use Rattle.djq_gains.specs.Gains.{AtFirstMember, TellUnion, members_at, count_in}
 use Rattle.djq_store.specs.declared.joined.Joined.{Joined}
-use Rattle.djq_store.specs.declared.settling.Turn.{Turn}
+use Rattle.djq_store.specs.declared.settling.UnionUpdate.{UnionUpdate}
 use Rattle.djq_store.specs.Places.{joined_at}
-use Rattle.djq_store.specs.declared.settling.Turn.TheVariants.{Changed, Lacked}
+use Rattle.djq_store.specs.declared.settling.UnionUpdate.TheVariants.{Changed, Lacked}
 
 -- ---- which relations are read
 
@@ -51,27 +51,27 @@ outdated_union (Some relation) n u =
     record u { cursors = outdated_slots relation n u.cursors }
 
 -- A log has how the answers of a union changed, unless that is lost.
-abbrev pub TellsUnionLog : Kept → List Bytes → Joined → Log → Type 0
+abbrev pub TellsUnionLog : StoreModel → List Bytes → Joined → Log → Type 0
 TellsUnionLog e relations j log = log.lost ≡ false → AtFirstMember e j.union.members
     (TellUnion e j.union.members (touched_in e.places relations j.union.members) log.lines)
 
 -- It does if a session watches the union; else it stays.
-abbrev pub TellsWatched : Bool → Kept → List Bytes → Joined → Log → Type 0
+abbrev pub TellsWatched : Bool → StoreModel → List Bytes → Joined → Log → Type 0
 TellsWatched true e relations j log = TellsUnionLog e relations j log
 TellsWatched false e relations j log = log ≡ j.log
 
 -- The log of a union that a change outdates is empty if memory was refused.
-abbrev pub SettlesLog : Kept → List Bytes → Turn → Joined → Log → Type 0
+abbrev pub SettlesLog : StoreModel → List Bytes → UnionUpdate → Joined → Log → Type 0
 SettlesLog e relations Changed j log = TellsWatched (nat_lt 0 j.watchers) e relations j log
 SettlesLog e relations Lacked j log = (log.lines ≡ []) × (log.lost ≡ false)
 
 -- The log of one that no relation outdates stays.
-abbrev pub SettlesLogBy : Option Bytes → Kept → List Bytes → Turn → Joined → Log → Type 0
+abbrev pub SettlesLogBy : Option Bytes → StoreModel → List Bytes → UnionUpdate → Joined → Log → Type 0
 SettlesLogBy None e relations turn j log = log ≡ j.log
 SettlesLogBy (Some relation) e relations turn j log = SettlesLog e relations turn j log
 
 -- A union after a change of these relations, of this number.
-pub record Settles (e : Kept) (relations : List Bytes) (n : ℕ) (turn : Turn) (j k : Joined) : Type 0 where
+pub record Settles (e : StoreModel) (relations : List Bytes) (n : ℕ) (turn : UnionUpdate) (j k : Joined) : Type 0 where
   pub union : k.union ≡ outdated_union (first_read_by e.places relations j.union.members) n j.union
   -- outdated, it fits whatever tables its members have
   pub united : is_some (first_read_by e.places relations j.union.members) ≡ true
@@ -81,30 +81,30 @@ pub record Settles (e : Kept) (relations : List Bytes) (n : ℕ) (turn : Turn) (
   pub log : SettlesLogBy (first_read_by e.places relations j.union.members) e relations turn j k.log
 
 -- A slot after such a change: one without a union stays so, and the union of another is updated.
-abbrev pub SettlesAt : Kept → List Bytes → ℕ → Turn → Option Joined → Option Joined → Type 0
+abbrev pub SettlesAt : StoreModel → List Bytes → ℕ → UnionUpdate → Option Joined → Option Joined → Type 0
 SettlesAt e relations n turn None new = new ≡ None
 SettlesAt e relations n turn (Some j) None = ⊥
 SettlesAt e relations n turn (Some j) (Some k) = Settles e relations n turn j k
 
 -- whether one of these relations outdates the union in a slot
-abbrev pub is_settled : Kept → List Bytes → Option Joined → Bool
+abbrev pub is_settled : StoreModel → List Bytes → Option Joined → Bool
 is_settled e relations None = false
 is_settled e relations (Some j) = is_some (first_read_by e.places relations j.union.members)
 
 -- ---- what it counts
 
 -- the tests that are asked of the members for their deltas
-abbrev pub asking_steps : Kept → List Bytes → List ℕ → ℕ
+abbrev pub asking_steps : StoreModel → List Bytes → List ℕ → ℕ
 asking_steps e relations members =
     sum_by (count_in e) (touched_in e.places relations members) * atoms_of (members_at e members)
 
 -- what listing the delta of a union counts at most
-abbrev pub telling_steps : Kept → List Bytes → Turn → Joined → ℕ
+abbrev pub telling_steps : StoreModel → List Bytes → UnionUpdate → Joined → ℕ
 telling_steps e relations Lacked j = 0
 telling_steps e relations Changed j = if nat_lt 0 j.watchers then asking_steps e relations j.union.members else 0
 
 -- what the union in a slot counts, if it is outdated
-abbrev pub settling_steps : Kept → List Bytes → Turn → Option Joined → ℕ
+abbrev pub settling_steps : StoreModel → List Bytes → UnionUpdate → Option Joined → ℕ
 settling_steps e relations turn None = 0
 settling_steps e relations turn (Some j) =
     if is_settled e relations (Some j) then telling_steps e relations turn j else 0

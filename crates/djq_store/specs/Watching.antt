@@ -3,7 +3,7 @@ use Rattle.std.specs.Prelude.{ℕ, List, [], ◌≡◌, ◌≤◌, ◌+◌, Bool
 use Rattle.djq_store_spec.specs.Changes.{RowsChange, RowsOutcome, tried, is_outdated}
 use Rattle.djq_store_spec.specs.DeltaCost.{Delta, ListsDeltas, deltas_steps}
 use Rattle.djq_engine.specs.declared.cursor.QueryId.{QueryId}
-use Rattle.djq_engine.specs.Kept.{Kept, Registered, registered_at, affected_of, told_at}
+use Rattle.djq_engine.specs.StoreModel.{StoreModel, Registered, registered_at, affected_of, told_at}
 use Rattle.djq_engine.specs.Watching.{Affects, IfAccepted, IfOutOfMemory, LogsTell, queries_affected}
 
 -- whether a change that was made or tried outdates it
@@ -12,7 +12,7 @@ is_reached None r = false
 is_reached (Some change) r = is_outdated change r.query
 
 -- What a change of rows, made or tried, makes known of the watched queries and unions that it outdates.
-pub record TellsChange (old : Kept) (outcome : RowsOutcome) (new : Kept) (before now : ℕ) : Type 0
+pub record TellsChange (old : StoreModel) (outcome : RowsOutcome) (new : StoreModel) (before now : ℕ) : Type 0
   where
     pub deltas : List Delta
     pub listed : ListsDeltas (old.store).relations (queries_affected old) (tried outcome) deltas

@@ -6,7 +6,7 @@ use Rattle.djq_model.specs.Listed.{listed_name}
 use Rattle.djq_protocol.specs.declared.limits.TheConstants.{QUERIES, SESSIONS}
 use Rattle.djq_live_query.specs.Live.{IsShowable}
 use Rattle.djq_reach.specs.Places.{is_reader, AreOnce}
-use Rattle.djq_engine.specs.Kept.{Kept, Registered, registered_at}
+use Rattle.djq_engine.specs.StoreModel.{StoreModel, Registered, registered_at}
 use Rattle.djq_united.specs.United.{IsUnited}
 use Rattle.djq_store.specs.declared.joined.Joined.{Joined}
 use Rattle.djq_store.specs.declared.parts.Parts.{Parts}
@@ -22,14 +22,14 @@ wants at None = false
 wants at (Some j) = nat_lt 0 j.watchers && is_reader j.union.members at
 
 -- What the log of a union has can be shown by its first member.
-abbrev pub IsShownByFirst : Kept → Joined → Type 0
+abbrev pub IsShownByFirst : StoreModel → Joined → Type 0
 IsShownByFirst e j = j.log.lost ≡ false → IsSomeAnd (first_member e.places j.union)
     (λ l. All (λ n. IsShowable (e.store).texts l n.answer) j.log.lines)
 
 -- Each union is one of queries that are registered, its cursors can continue, and what its log has can be
 -- shown. The order has each place with something registered once, no more than there may be, and the queries
 -- in the order of the engine. Names differ.
-pub record IsListed (e : Kept) (us : List (Option Joined)) (order : List ℕ) : Type 0 where
+pub record IsListed (e : StoreModel) (us : List (Option Joined)) (order : List ℕ) : Type 0 where
   pub united : (k : ℕ) (j : Joined) → joined_at us k ≡ Some j → IsUnited e.places j.union
   pub shown : (k : ℕ) (j : Joined) → joined_at us k ≡ Some j → IsShownByFirst e j
   pub queries : query_places order ≡ map (λ r. r.id.at) e.registered
@@ -43,7 +43,7 @@ pub record IsListed (e : Kept) (us : List (Option Joined)) (order : List ℕ) : 
 
 -- The engine counts for each query the sessions that watch it, and the watched unions that it is a member of.
 -- There is a number for each place of a query, and no more sessions than may be watch anything.
-pub record IsCounted (e : Kept) (us : List (Option Joined)) (sessions : List ℕ) : Type 0 where
+pub record IsCounted (e : StoreModel) (us : List (Option Joined)) (sessions : List ℕ) : Type 0 where
   pub counted : (r : Registered) → registered_at e.registered r.id ≡ Some r
       → r.watchers ≡ slice_index_or sessions r.id.at 0 + count_by (wants r.id.at) us
   pub few : (at : ℕ) → sessions_at us sessions at ≤ SESSIONS

@@ -5,13 +5,13 @@ ghost use Rattle.djq_store_spec.specs.Rows.{AddsRow, DeletesRow};
 ghost use Rattle.djq_store_spec.specs.Changes.{row_in, row_out, add_outcome, delete_outcome};
 ghost use Rattle.djq_store_spec.specs.Changes.{tried};
 ghost use Rattle.djq_store_spec.specs.Transaction.{SuitAll, DoesAll, lines_outcome};
-ghost use Rattle.djq_engine.specs.Kept.{SameCursors, SameTellings, Outdates, IsUnwatched};
+ghost use Rattle.djq_engine.specs.StoreModel.{SameCursors, SameTellings, Outdates, IsUnwatched};
 ghost use Rattle.djq_engine.specs.Watching.{CountsUpdates, CountsLines};
 ghost use Rattle.djq_engine.specs.Watching.{add_times, delete_times};
 ghost use Rattle.djq_store.specs.Watching.{TellsChange};
 
 use crate::following::{
-    add_turn, delete_turn, follow, follow_lacked, follow_one, is_memory, lines_turn,
+    add_turn, delete_turn, follow_lacked, is_memory, lines_turn, update_unions, update_unions_of,
 };
 use crate::store::Store;
 use djq_counters::{Ledgers, Steps};
@@ -78,7 +78,7 @@ impl Store {
         let outcome = self.parts.engine.add(name, row, steps);
         self.parts.engine.laws();
         let turn = add_turn(&outcome);
-        follow_one(&mut self.parts, name, turn, &mut steps.listing);
+        update_unions_of(&mut self.parts, name, turn, &mut steps.listing);
         outcome
     }
 
@@ -114,7 +114,7 @@ impl Store {
         let outcome = self.parts.engine.del(name, row, steps);
         self.parts.engine.laws();
         let turn = delete_turn(&outcome);
-        follow_one(&mut self.parts, name, turn, &mut steps.listing);
+        update_unions_of(&mut self.parts, name, turn, &mut steps.listing);
         outcome
     }
 
@@ -155,7 +155,7 @@ impl Store {
             Ok(changed) => {
                 let turn = lines_turn(changed.count);
                 let relations = changed.relations.as_slice();
-                follow(&mut self.parts, relations, turn, &mut steps.listing);
+                update_unions(&mut self.parts, relations, turn, &mut steps.listing);
                 Ok(changed.count)
             }
             Err(refusal) => {

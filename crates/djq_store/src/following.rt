@@ -9,11 +9,11 @@ ghost use Rattle.djq_store.specs.Places.{joined_at};
 ghost use Rattle.djq_store.specs.Following.{IfMade, UnionsFollow, FollowsBy, has_union, following_steps, add_turn, delete_turn, lines_turn, is_memory};
 ghost use Rattle.djq_store.specs.Affecting.{is_reached_id, is_affected};
 ghost use Rattle.djq_store.specs.Settling.{AreUnionsUnwatched, named_by};
-ghost use Rattle.djq_store.specs.declared.settling.Turn.TheVariants.{Lacked};
+ghost use Rattle.djq_store.specs.declared.settling.UnionUpdate.TheVariants.{Lacked};
 
 use crate::affecting::{affect, affect_queries};
 use crate::parts::Parts;
-use crate::settling::{Turn, lack_all, settle_all};
+use crate::settling::{UnionUpdate, apply_to_unions, lack_all};
 use djq_counters::Tally;
 use djq_model::Name;
 use djq_protocol::{AddOutcome, DeleteOutcome, DoneRefusal, LineRefusal, Refusal};
@@ -22,10 +22,10 @@ use std::sync::ledger::Ledger;
 
 /// After a change of these relations, made or tried, if there was one: the unions that read one are updated, and if it
 /// was made, what it affects is recorded.
-pub fn follow<L: Ledger>(
+pub fn update_unions<L: Ledger>(
     parts: &mut Parts,
     relations: &[Name],
-    turn: Option<Turn>,
+    turn: Option<UnionUpdate>,
     listing: &mut Tally<L>,
 )
     requires members { (k : ℕ) (j : JoinedModel) → joined_at parts.old.unions.items k ≡ Some j
@@ -42,7 +42,7 @@ pub fn follow<L: Ledger>(
         return;
     };
     let seq = parts.engine.seq();
-    let read = settle_all(
+    let read = apply_to_unions(
         parts.alloc,
         &parts.engine,
         &mut parts.unions,
@@ -52,8 +52,8 @@ pub fn follow<L: Ledger>(
         listing,
     );
     match turn {
-        Turn::Lacked => {}
-        _ => know_affected(parts, read),
+        UnionUpdate::Lacked => {}
+        _ => record_affected(parts, read),
     }
 }
 
@@ -65,7 +65,7 @@ pub fn has_union(parts: &Parts) -> bool
 }
 
 /// The same if no union is registered, whichever relations change.
-fn follow_alone(parts: &mut Parts, turn: Option<Turn>)
+fn update_without_unions(parts: &mut Parts, turn: Option<UnionUpdate>)
     requires alone { has_union parts.old.unions.items ≡ false }
     requires few { IfMade turn (length parts.old.engine.affected ≤ vec_capacity parts.old.affected) }
     ensures { (relations : List Bytes) → FollowsBy turn relations parts.old parts.new }
@@ -74,16 +74,16 @@ fn follow_alone(parts: &mut Parts, turn: Option<Turn>)
         return;
     };
     match turn {
-        Turn::Lacked => {}
+        UnionUpdate::Lacked => {}
         _ => affect_queries(&mut parts.affected, &parts.engine),
     }
 }
 
 /// The same after a change of one relation. Its name is copied only if a union is registered.
-pub fn follow_one<L: Ledger>(
+pub fn update_unions_of<L: Ledger>(
     parts: &mut Parts,
     relation: &Name,
-    turn: Option<Turn>,
+    turn: Option<UnionUpdate>,
     listing: &mut Tally<L>,
 )
     requires members { (k : ℕ) (j : JoinedModel) → joined_at parts.old.unions.items k ≡ Some j
@@ -97,9 +97,9 @@ pub fn follow_one<L: Ledger>(
     ensures unlisted { AreUnionsUnwatched parts.old.unions.items → listing.new ≡ listing.old }
 {
     if has_union(parts) {
-        follow(parts, &[*relation], turn, listing);
+        update_unions(parts, &[*relation], turn, listing);
     } else {
-        follow_alone(parts, turn);
+        update_without_unions(parts, turn);
     }
 }
 
@@ -115,7 +115,7 @@ pub fn follow_lacked(parts: &mut Parts, held: &Transaction)
 }
 
 /// Records what a change that was made affects: by the whole order if a union reads its relations.
-fn know_affected(parts: &mut Parts, read: bool)
+fn record_affected(parts: &mut Parts, read: bool)
     requires low { All (λ id. id.at < QUERIES) parts.old.engine.affected }
     requires few { length parts.old.engine.affected ≤ vec_capacity parts.old.affected }
     requires room { length parts.old.order.items ≤ vec_capacity parts.old.affected }
@@ -142,22 +142,22 @@ fn know_affected(parts: &mut Parts, read: bool)
 }
 
 /// How rows changed, by the outcome of `add`.
-pub fn add_turn(outcome: &Result<AddOutcome, Refusal>) -> Option<Turn>
+pub fn add_turn(outcome: &Result<AddOutcome, Refusal>) -> Option<UnionUpdate>
     ensures { result ≡ add_turn outcome.now }
 {
     match outcome {
-        Ok(AddOutcome::First) => Some(Turn::Changed),
-        Err(Refusal::NoMemory) => Some(Turn::Lacked),
+        Ok(AddOutcome::First) => Some(UnionUpdate::Changed),
+        Err(Refusal::NoMemory) => Some(UnionUpdate::Lacked),
         _ => None,
     }
 }
 
 /// By the outcome of `del`.
-pub fn delete_turn(outcome: &Result<DeleteOutcome, Refusal>) -> Option<Turn>
+pub fn delete_turn(outcome: &Result<DeleteOutcome, Refusal>) -> Option<UnionUpdate>
     ensures { result ≡ delete_turn outcome.now }
 {
     match outcome {
-        Ok(DeleteOutcome::Last) => Some(Turn::Changed),
+        Ok(DeleteOutcome::Last) => Some(UnionUpdate::Changed),
         _ => None,
     }
 }
@@ -174,11 +174,11 @@ pub fn is_memory(refusal: &DoneRefusal) -> bool
 }
 
 /// How rows changed if so many were inserted and deleted.
-pub fn lines_turn(count: usize) -> Option<Turn>
+pub fn lines_turn(count: usize) -> Option<UnionUpdate>
     ensures { result ≡ lines_turn count }
 {
     if count == 0 {
         return None;
     }
-    Some(Turn::Changed)
+    Some(UnionUpdate::Changed)
 }

@@ -6,7 +6,7 @@ ghost use Rattle.djq_model.specs.Listed.{listed_of};
 ghost use Rattle.djq_store_spec.specs.Union.{union_refusal, stands_twice, types_differ};
 ghost use Rattle.djq_store_spec.specs.Union.{types_under, is_union};
 ghost use Rattle.djq_live_query.specs.Member.{head_types};
-ghost use Rattle.djq_engine.specs.Kept.{registered_of};
+ghost use Rattle.djq_engine.specs.StoreModel.{registered_of};
 ghost use Rattle.djq_store.specs.Places.{store_kept_in};
 ghost use Rattle.djq_store.specs.Judging.{AreQueries, ArePlacesOf};
 ghost use Rattle.djq_store.specs.Whole.{StoreIsWhole};

@@ -5,7 +5,7 @@
 //! the queries, and knows no union; djq_united reads the cursors of one union, over the queries in their
 //! places; djq_gains computes how a union's answers changed, from how its members' did. What is added here
 //! is one order of registration, one space of names and ids, and who watches what. Contracts see the
-//! record that an engine shows them too, `Kept` of djq_engine (`specs/Places.antt`).
+//! record that an engine shows them too, `StoreModel` of djq_engine (`specs/Places.antt`).
 //!
 //! What surprises: an answer of a union is given and lent in the order of its first member's tree, whoever
 //! has it. A union's cursors are outdated by a change of any relation that a member reads, as a query's

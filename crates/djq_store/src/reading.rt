@@ -6,7 +6,7 @@ ghost use Rattle.djq_united.specs.United.{AreKept};
 ghost use Rattle.djq_store.specs.Places.{joined_at};
 ghost use Rattle.djq_store.specs.Moving.{MovesUnion, OpensUnion, ClosesUnion, ReadsUnion, TellsUnionMore};
 ghost use Rattle.djq_store.specs.Moving.{IsUnionReadable, IsUnionFresh};
-ghost use Rattle.djq_engine.specs.Kept.{CursorOpenGives, MoreGives, ClosesCursor, IsHeld, IsFresh, IsShown, AnswerIs};
+ghost use Rattle.djq_engine.specs.StoreModel.{CursorOpenGives, MoreGives, ClosesCursor, IsHeld, IsFresh, IsShown, AnswerIs};
 ghost use Rattle.djq_store.specs.Reading.{NextGives};
 
 use crate::finding::{find_union, joined_in};

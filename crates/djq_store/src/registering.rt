@@ -8,7 +8,7 @@ ghost use Rattle.djq_live_query.specs.Member.{query_at, queries_at};
 ghost use Rattle.djq_united.specs.United.{AreMembers};
 ghost use Rattle.djq_store_spec.specs.Registering.{RegistersQuery};
 ghost use Rattle.djq_store_spec.specs.Union.{RegistersUnion};
-ghost use Rattle.djq_engine.specs.Kept.{SameCursors, DropGives};
+ghost use Rattle.djq_engine.specs.StoreModel.{SameCursors, DropGives};
 ghost use Rattle.djq_engine.specs.Watching.{Enrols, EnrolsTelling};
 ghost use Rattle.djq_store.specs.Registering.{is_registered, EnrolsUnion, EnrolsUnionTelling};
 

@@ -11,7 +11,7 @@ ghost use Rattle.djq_store.specs.Places.{joined_at, union_watchers};
 ghost use Rattle.djq_store.specs.Settling.{reads_some, some_read, first_read_by, touched_in, SettlesLog, Settles};
 ghost use Rattle.djq_store.specs.Settling.{SettlesAt, telling_steps, settling_steps, is_settled};
 ghost use Rattle.djq_store.specs.Settling.{AreUnionsUnwatched, named_by};
-ghost use Rattle.djq_store.specs.declared.settling.Turn.TheVariants.{Lacked};
+ghost use Rattle.djq_store.specs.declared.settling.UnionUpdate.TheVariants.{Lacked};
 
 use crate::joined::Joined;
 use djq_counters::Tally;
@@ -25,7 +25,7 @@ use std::sync::ledger::Ledger;
 
 /// How rows changed, or were to.
 #[derive(Clone, Copy, Debug)]
-pub enum Turn {
+pub enum UnionUpdate {
     /// They were inserted or deleted.
     Changed,
     /// They were to be, and memory was refused.
@@ -111,7 +111,7 @@ fn tell<L: Ledger>(
     engine: &Engine,
     joined: &mut Joined,
     relations: &[Name],
-    turn: Turn,
+    turn: UnionUpdate,
     listing: &mut Tally<L>,
 )
     requires { AreMembers engine.now.places joined.old.union.members }
@@ -122,7 +122,7 @@ fn tell<L: Ledger>(
         + telling_steps engine.now relations.now turn joined.old }
     ensures unlisted { joined.old.watchers ≡ 0 → listing.new ≡ listing.old }
 {
-    if matches!(turn, Turn::Lacked) {
+    if matches!(turn, UnionUpdate::Lacked) {
         joined.log.clear();
         return;
     }
@@ -144,13 +144,13 @@ fn tell<L: Ledger>(
 
 /// Updates a union: if a member reads one of these relations, its cursors become stale, and the change is listed
 /// into its log. Returns whether one does.
-fn settle<L: Ledger>(
+fn apply_to_union<L: Ledger>(
     alloc: Global,
     engine: &Engine,
     joined: &mut Joined,
     relations: &[Name],
     seq: u64,
-    turn: Turn,
+    turn: UnionUpdate,
     listing: &mut Tally<L>,
 ) -> bool
     requires { AreMembers engine.now.places joined.old.union.members }
@@ -177,7 +177,7 @@ fn settle_slot<L: Ledger>(
     slot: &mut Option<Joined>,
     relations: &[Name],
     seq: u64,
-    turn: Turn,
+    turn: UnionUpdate,
     listing: &mut Tally<L>,
 ) -> bool
     requires { (j : JoinedModel) → slot.old ≡ Some j → AreMembers engine.now.places j.union.members }
@@ -188,19 +188,19 @@ fn settle_slot<L: Ledger>(
     ensures unlisted { union_watchers slot.old ≡ 0 → listing.new ≡ listing.old }
 {
     match slot {
-        Some(joined) => settle(alloc, engine, joined, relations, seq, turn, listing),
+        Some(joined) => apply_to_union(alloc, engine, joined, relations, seq, turn, listing),
         None => false,
     }
 }
 
 /// Updates all unions after a change of these relations, of this number. Returns whether it outdates one.
-pub fn settle_all<L: Ledger>(
+pub fn apply_to_unions<L: Ledger>(
     alloc: Global,
     engine: &Engine,
     unions: &mut Vec<Option<Joined>>,
     relations: &[Name],
     seq: u64,
-    turn: Turn,
+    turn: UnionUpdate,
     listing: &mut Tally<L>,
 ) -> bool
     requires { (k : ℕ) (j : JoinedModel) → joined_at unions.old.items k ≡ Some j

@@ -3,7 +3,7 @@ ghost use Rattle.djq_model.specs.Data.{bytes_eq, rows_of};
 ghost use Rattle.djq_model.specs.Listed.{listed_name};
 ghost use Rattle.djq_store_spec.specs.Store.{empty_store};
 ghost use Rattle.djq_engine.specs.Sizes.{rows_together};
-ghost use Rattle.djq_engine.specs.Kept.{registered_of, registered_at, same_query, IsRegistered};
+ghost use Rattle.djq_engine.specs.StoreModel.{registered_of, registered_at, same_query, IsRegistered};
 ghost use Rattle.djq_store.specs.Lending.{LendsEngine};
 
 use crate::finding::{find_union, joined_in};
@@ -22,9 +22,9 @@ pub struct Store {
 }
 
 impl Model for Store {
-    ghost use Rattle.djq_engine.specs.Kept.{Kept};
+    ghost use Rattle.djq_engine.specs.StoreModel.{StoreModel};
 
-    ghost Value = { Kept };
+    ghost Value = { StoreModel };
 
     ghost use Rattle.djq_store.specs.Places.{store_kept_in};
     ghost use Rattle.djq_store.specs.Whole.{StoreIsWhole};

@@ -1,6 +1,6 @@
 //! What the last change affected, and how the answers of queries and unions changed.
 ghost use Rattle.std.specs.Prelude.{◌≡◌, ◌<◌, None, Some, IsSomeAnd, if◌then◌else◌, option_map, length, slice_get};
-ghost use Rattle.djq_engine.specs.Kept.{IsRegistered, told_at};
+ghost use Rattle.djq_engine.specs.StoreModel.{IsRegistered, told_at};
 
 use crate::finding::joined_in;
 use crate::joined::Joined;

@@ -1,7 +1,7 @@
 //! Sessions that watch queries and unions.
 ghost use Rattle.std.specs.Prelude.{◌≡◌, ◌<◌, ◌≤◌, ◌+◌, ◌-◌, length, All, AllPairs, IsSomeAnd};
 ghost use Rattle.djq_protocol.specs.declared.limits.TheConstants.{QUERIES, SESSIONS};
-ghost use Rattle.djq_engine.specs.Kept.{registered_at, IsRegistered, with_watchers};
+ghost use Rattle.djq_engine.specs.StoreModel.{registered_at, IsRegistered, with_watchers};
 ghost use Rattle.djq_engine.specs.Places.{id_at};
 ghost use Rattle.djq_store.specs.Counting.{HasWatchers, with_watchers_at};
 ghost use Rattle.djq_store.specs.Places.{joined_at, store_kept_in};
@@ -43,7 +43,7 @@ fn unwatch_members(engine: &mut Engine, members: &[usize])
 }
 
 /// One more watches the union in a slot.
-fn listen(unions: &mut Vec<Option<Joined>>, slot: usize)
+fn add_watcher(unions: &mut Vec<Option<Joined>>, slot: usize)
     requires { IsSomeAnd (joined_at unions.old.items slot) (λ j. j.watchers < WATCHERS) }
     ensures { HasWatchers (λ n. n + 1) slot unions.old.items unions.new.items }
 {
@@ -54,7 +54,7 @@ fn listen(unions: &mut Vec<Option<Joined>>, slot: usize)
 }
 
 /// One less watches it.
-fn ignore(unions: &mut Vec<Option<Joined>>, slot: usize)
+fn remove_watcher(unions: &mut Vec<Option<Joined>>, slot: usize)
     requires { IsSomeAnd (joined_at unions.old.items slot) (λ j. 0 < j.watchers) }
     ensures { HasWatchers (λ n. n - 1) slot unions.old.items unions.new.items }
 {
@@ -76,11 +76,11 @@ fn watch_union(parts: &mut Parts, slot: usize)
     parts.engine.laws();
     let joined = joined_in(parts.unions.as_slice(), slot);
     if joined.watchers > 0 {
-        listen(&mut parts.unions, slot);
+        add_watcher(&mut parts.unions, slot);
         return;
     }
     watch_members(&mut parts.engine, joined.union.members());
-    listen(&mut parts.unions, slot);
+    add_watcher(&mut parts.unions, slot);
 }
 
 /// A session that watched the union in a slot does so no more. The last one leaves its members.
@@ -95,11 +95,11 @@ fn unwatch_union(parts: &mut Parts, slot: usize)
     parts.engine.laws();
     let joined = joined_in(parts.unions.as_slice(), slot);
     if joined.watchers > 1 {
-        ignore(&mut parts.unions, slot);
+        remove_watcher(&mut parts.unions, slot);
         return;
     }
     unwatch_members(&mut parts.engine, joined.union.members());
-    ignore(&mut parts.unions, slot);
+    remove_watcher(&mut parts.unions, slot);
 }
 
 impl Store {

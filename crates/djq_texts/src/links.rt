@@ -14,15 +14,20 @@ pub(crate) fn link_of(links: &Vec<Link>, at: usize) -> Link
 }
 
 /// Puts a number at the head of a bucket.
-pub(crate) fn push_bucket(links: &mut Vec<Link>, heads: &mut Vec<Link>, class: usize, number: u32)
-    requires class { class < length heads.old.items }
+pub(crate) fn push_bucket(
+    links: &mut Vec<Link>,
+    heads: &mut Vec<Link>,
+    bucket_number: usize,
+    number: u32,
+)
+    requires bucket_number { bucket_number < length heads.old.items }
     requires number { number < length links.old.items }
     requires few { number < SLOTS }
-    ensures links { links.new.items ≡ slice_set links.old.items number (link_at heads.old.items class) }
-    ensures heads { heads.new.items ≡ slice_set heads.old.items class (Some number) }
+    ensures links { links.new.items ≡ slice_set links.old.items number (link_at heads.old.items bucket_number) }
+    ensures heads { heads.new.items ≡ slice_set heads.old.items bucket_number (Some number) }
 {
-    links[number as usize] = link_of(heads, class);
-    heads[class] = Link::to(number);
+    links[number as usize] = link_of(heads, bucket_number);
+    heads[bucket_number] = Link::to(number);
 }
 
 /// The number before this one in its bucket, if any. A bucket is short, and the newest free number is the first of its
@@ -49,14 +54,19 @@ fn before(links: &Vec<Link>, head: Link, number: u32) -> Link
 }
 
 /// Removes a number from its bucket.
-pub(crate) fn unlist(links: &mut Vec<Link>, heads: &mut Vec<Link>, class: usize, number: u32)
-    requires class { class < length heads.old.items }
-    requires stands { StandsInChain links.old.items (link_at heads.old.items class) number }
-    ensures unlisted { IsUnlisted links.old.items links.new.items heads.old.items heads.new.items class number }
+pub(crate) fn unlist(
+    links: &mut Vec<Link>,
+    heads: &mut Vec<Link>,
+    bucket_number: usize,
+    number: u32,
+)
+    requires bucket_number { bucket_number < length heads.old.items }
+    requires stands { StandsInChain links.old.items (link_at heads.old.items bucket_number) number }
+    ensures unlisted { IsUnlisted links.old.items links.new.items heads.old.items heads.new.items bucket_number number }
 {
     let after = link_of(links, number as usize);
-    match before(links, link_of(heads, class), number).get() {
-        None => heads[class] = after,
+    match before(links, link_of(heads, bucket_number), number).get() {
+        None => heads[bucket_number] = after,
         Some(prev) => links[prev as usize] = after,
     }
 }

@@ -53,7 +53,7 @@ fn place_group(alloc: Global, groups: &mut Vec<Group>, relation: RelationId) -> 
 /// # Errors
 ///
 /// `NoMem` out of memory.
-fn join_group(
+fn push_to_group(
     alloc: Global,
     groups: &mut Vec<Group>,
     relation: RelationId,
@@ -85,9 +85,9 @@ pub fn group_rows(alloc: Global, catalog: &Catalog, net: &Net) -> Result<Groups,
         let copies = net.copies[place];
         let (relation, cells) = net.row(catalog, place);
         if copies.came() {
-            join_group(alloc, &mut come, relation, cells)?;
+            push_to_group(alloc, &mut come, relation, cells)?;
         } else if copies.went() {
-            join_group(alloc, &mut gone, relation, cells)?;
+            push_to_group(alloc, &mut gone, relation, cells)?;
         }
     }
     Ok(Groups { come, gone })

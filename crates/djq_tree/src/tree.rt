@@ -24,7 +24,7 @@ use std::alloc::{AllocError, Global};
 use std::marker::Model;
 
 /// The number of nodes whose parents are stored. The parents of others are searched for.
-const TOLD: usize = 64;
+const PARENTS: usize = 64;
 
 /// A generalised join tree of a query: how its atoms' tuples are projected and matched, step by
 /// step.
@@ -40,7 +40,7 @@ pub struct Tree {
     head: VarSet,
     leaves: usize,
     second_stage: usize,
-    told: [u8; TOLD], // the parents of the first nodes; each is looked at before it is believed
+    parents: [u8; PARENTS], // the parents of the first nodes; each is looked at before it is believed
 }
 
 impl Model for Tree {
@@ -68,26 +68,26 @@ impl Model for Tree {
 }
 
 /// Stores a node's parent, if there is room.
-fn tell(told: &mut [u8; TOLD], node: usize, parent: usize) {
-    if node < TOLD && parent <= u8::MAX as usize {
-        told[node] = parent as u8;
+fn note_parent(parents: &mut [u8; PARENTS], node: usize, parent: usize) {
+    if node < PARENTS && parent <= u8::MAX as usize {
+        parents[node] = parent as u8;
     }
 }
 
 /// The parents of the first nodes.
-fn parents_of(nodes: &[Node]) -> [u8; TOLD] {
-    let mut told = [0; TOLD];
+fn parents_of(nodes: &[Node]) -> [u8; PARENTS] {
+    let mut parents = [0; PARENTS];
     for up in 0..nodes.len() {
         match nodes[up] {
             Node::Leaf { .. } => {}
-            Node::Trim { child } => tell(&mut told, child, up),
+            Node::Trim { child } => note_parent(&mut parents, child, up),
             Node::Meet { guard, side } => {
-                tell(&mut told, guard, up);
-                tell(&mut told, side, up);
+                note_parent(&mut parents, guard, up);
+                note_parent(&mut parents, side, up);
             }
         }
     }
-    told
+    parents
 }
 
 impl Tree {
@@ -118,7 +118,7 @@ impl Tree {
           second_stage = second_stage;
         } }
     {
-        let told = parents_of(&nodes);
+        let parents = parents_of(&nodes);
         Tree {
             nodes,
             labels,
@@ -126,7 +126,7 @@ impl Tree {
             head,
             leaves,
             second_stage,
-            told,
+            parents,
         }
     }
 
@@ -197,20 +197,20 @@ impl Tree {
         ensures above { IfSome result (λ p. (at < p) × (p < length self.now.nodes)) }
         ensures root { IfNone result (at + 1 ≡ length self.now.nodes) }
     {
-        match self.told(at) {
+        match self.known_parent(at) {
             Some(up) => Some(up),
             None => parent_of(&self.nodes, at),
         }
     }
 
     /// The node that the hint names as the parent of a node, if it is the parent.
-    fn told(&self, at: usize) -> Option<usize>
+    fn known_parent(&self, at: usize) -> Option<usize>
         ensures { IfSome result (λ up. parent self.now.nodes at ≡ Some up) }
     {
-        if at >= TOLD {
+        if at >= PARENTS {
             return None;
         }
-        let up = self.told[at] as usize;
+        let up = self.parents[at] as usize;
         if up < self.nodes.len() && self.nodes[up].has_child(at) {
             return Some(up);
         }

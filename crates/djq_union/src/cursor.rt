@@ -211,20 +211,20 @@ impl<M: Listing> UnionCursor<M> {
         ensures counted { listing.new ≤ listing.old + M.most member.now }
     {
         match i {
-            0 => go_on(member, &mut self.first, out, listing),
-            1 => go_on(member, &mut self.second, out, listing),
-            2 => go_on(member, &mut self.third, out, listing),
-            3 => go_on(member, &mut self.fourth, out, listing),
-            4 => go_on(member, &mut self.fifth, out, listing),
-            5 => go_on(member, &mut self.sixth, out, listing),
-            6 => go_on(member, &mut self.seventh, out, listing),
-            _ => go_on(member, &mut self.eighth, out, listing),
+            0 => next_after(member, &mut self.first, out, listing),
+            1 => next_after(member, &mut self.second, out, listing),
+            2 => next_after(member, &mut self.third, out, listing),
+            3 => next_after(member, &mut self.fourth, out, listing),
+            4 => next_after(member, &mut self.fifth, out, listing),
+            5 => next_after(member, &mut self.sixth, out, listing),
+            6 => next_after(member, &mut self.seventh, out, listing),
+            _ => next_after(member, &mut self.eighth, out, listing),
         }
     }
 }
 
 /// Continues a member's listing, which begins if it hasn't.
-fn go_on<M: Listing, L: Ledger>(
+fn next_after<M: Listing, L: Ledger>(
     member: &M,
     state: &mut Option<M::State>,
     out: &mut M::Answer,

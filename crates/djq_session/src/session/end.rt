@@ -43,7 +43,7 @@ impl<C: Copy, Q: Copy + PartialEq> Session<C, Q> {
     }
 
     /// Whether something is due to it: bytes are pending for it, or it has ended.
-    pub fn is_due(&self) -> bool
+    pub fn has_pending(&self) -> bool
         ensures { result ≡ dialog_is_due self.now }
     {
         !self.output.is_empty() || self.cause.is_some()

@@ -24,7 +24,7 @@ impl<C: Copy, Q: Copy + PartialEq> Session<C, Q> {
     }
 
     /// The bytes that arrived and aren't run.
-    pub fn held(&self) -> &[u8]
+    pub fn input(&self) -> &[u8]
         ensures { result.now ≡ self.now.held }
     {
         self.input.as_slice()
@@ -55,14 +55,14 @@ impl<C: Copy, Q: Copy + PartialEq> Session<C, Q> {
         self.input.advance(count);
         self.front = Splitter::front(self.input.as_slice());
         if self.input.is_empty() && self.input.capacity() > IDLE_BYTES {
-            self.let_go();
+            self.shrink_input();
         }
     }
 
     /// Gives a large buffer back. It is a function of its own so that each command's path is free of it.
     #[cold]
     #[inline(never)]
-    fn let_go(&mut self)
+    fn shrink_input(&mut self)
         requires { length self.old.held ≡ 0 }
         ensures { self.new ≡ self.old }
     {

@@ -13,7 +13,7 @@ impl<C: Copy, Q: Copy + PartialEq> Session<C, Q> {
     /// # Errors
     ///
     /// `NoMem` out of memory; all is as before.
-    pub fn keep(&mut self, count: usize) -> Result<(), NoMem>
+    pub fn reserve(&mut self, count: usize) -> Result<(), NoMem>
         requires { count ≤ 65536 }
         ensures others { self.new ≡ record self.old { room = self.new.room } }
         ensures room { KeepsFor count self.old.room self.new.room result }
@@ -48,7 +48,7 @@ impl<C: Copy, Q: Copy + PartialEq> Session<C, Q> {
     }
 
     /// Removes the first pending bytes, which were sent.
-    pub fn took(&mut self, count: usize)
+    pub fn advance(&mut self, count: usize)
         requires { count ≤ length self.old.pending }
         ensures { self.new ≡ record self.old {
           pending = drop count self.old.pending;
@@ -59,7 +59,7 @@ impl<C: Copy, Q: Copy + PartialEq> Session<C, Q> {
         self.output.advance(count);
         self.taken = self.taken.wrapping_add(count as u64);
         if self.output.is_empty() && self.output.capacity() > IDLE_BYTES {
-            self.shrink();
+            self.shrink_output();
         }
     }
 
@@ -67,7 +67,7 @@ impl<C: Copy, Q: Copy + PartialEq> Session<C, Q> {
     /// that each command's path is free of it.
     #[cold]
     #[inline(never)]
-    fn shrink(&mut self)
+    fn shrink_output(&mut self)
         requires { length self.old.pending ≡ 0 }
         ensures { self.new ≡ record self.old { room = self.new.room } }
     {

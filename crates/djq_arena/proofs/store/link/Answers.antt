@@ -7,16 +7,16 @@ use Rattle.djq_arena.proofs.store.link.Goals as goal
 pub push_bucket-requires-clause-slot : goal.push_bucket-requires-clause-slot
 push_bucket-requires-clause-slot c = rw c.requires.sound.store.pairs c.requires.loose.within
 
-pub enter-requires-clause-last : goal.enter-requires-clause-last
-enter-requires-clause-last c = last_in_order c.args.store.now c.requires.sound
+pub link_back-requires-clause-last : goal.link_back-requires-clause-last
+link_back-requires-clause-last c = last_in_order c.args.store.now c.requires.sound
 
 pub returns : goal.returns
 returns c = record {
-  linked = links c.args.store.now _ c.args.slot c.bucket_in-class.result c.requires.sound c.requires.loose
+  linked = links c.args.store.now _ c.args.slot c.bucket_in-bucket_number.result c.requires.sound c.requires.loose
       (record {
         width = refl;
         cells = refl;
-        order = c.enter.ensures;
+        order = c.link_back.ensures;
         live = c.ends_after_push-store.ensures;
         bucket = c.push_bucket.ensures.bucket;
         heads = c.push_bucket.ensures.heads;
@@ -24,7 +24,7 @@ returns c = record {
         len = refl;
         spare = refl;
       })
-      c.bucket_in-class.ensures.within
-      (c.bucket_in-class.ensures.class (cells_at c.args.store.now.width c.args.store.now.cells.items c.args.slot)
+      c.bucket_in-bucket_number.ensures.within
+      (c.bucket_in-bucket_number.ensures.bucket_number (cells_at c.args.store.now.width c.args.store.now.cells.items c.args.slot)
       c.requires.here);
 }

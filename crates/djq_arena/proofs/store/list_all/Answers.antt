@@ -21,10 +21,10 @@ pub loop-slot-preserved : goal.loop-slot-preserved
 loop-slot-preserved c = record {
   listed = rw (c.link_among.ensures, c.to.ensures)
       (listed_more c.args.width c.args.cells.now c.loop-slot.bucket c.loop-slot.heads c.loop-slot.slot
-      c.bucket_by-class.result c.loop-slot.invariant.listed
-      (omega (arith, c.loop-slot-test.true, c.loop-slot.invariant.slots)) c.bucket_by-class.ensures.within
-      (c.bucket_by-class.ensures.class (cells_at c.args.width c.args.cells.now c.loop-slot.slot)
+      c.bucket_by-bucket_number.result c.loop-slot.invariant.listed
+      (omega (arith, c.loop-slot-test.true, c.loop-slot.invariant.slots)) c.bucket_by-bucket_number.ensures.within
+      (c.bucket_by-bucket_number.ensures.bucket_number (cells_at c.args.width c.args.cells.now c.loop-slot.slot)
       (rw (← c.cells_among.ensures) c.hash_of.ensures)));
   slots = length-set c.loop-slot.bucket c.loop-slot.slot c.link_among.result ∙ c.loop-slot.invariant.slots;
-  buckets = length-set c.loop-slot.heads c.bucket_by-class.result c.to.result ∙ c.loop-slot.invariant.buckets;
+  buckets = length-set c.loop-slot.heads c.bucket_by-bucket_number.result c.to.result ∙ c.loop-slot.invariant.buckets;
 }

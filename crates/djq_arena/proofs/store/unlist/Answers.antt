@@ -5,7 +5,7 @@ use Rattle.djq_arena.proofs.Buckets.{stands_within, behind_within}
 use Rattle.djq_arena.proofs.store.unlist.Goals as goal
 
 pub link_of-after-requires : goal.link_of-after-requires
-link_of-after-requires c = stands_within c.args.bucket.now.items (link_at c.args.heads.now.items c.args.class)
+link_of-after-requires c = stands_within c.args.bucket.now.items (link_at c.args.heads.now.items c.args.bucket_number)
     c.args.slot c.requires.stands
 
 pub index_mut-requires-in-Some : goal.index_mut-requires-in-Some
@@ -22,7 +22,7 @@ returns-in-None c = record {
         (subst (λ (o : Option ℕ). IsBehind c.args.bucket.now.items c.link_of.result c.args.slot o)
         (sym c.in-None.ensures) c.before-2.ensures);
     links_are = refl;
-    heads_are = ap (λ (o : Option ℕ). slice_set c.args.heads.now.items c.args.class o) c.link_of-after.ensures;
+    heads_are = ap (λ (o : Option ℕ). slice_set c.args.heads.now.items c.args.bucket_number o) c.link_of-after.ensures;
   };
 }
 

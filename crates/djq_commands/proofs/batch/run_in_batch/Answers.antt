@@ -15,7 +15,7 @@ returns-in-Hold g c =
     let old = c.args.session.now in
     let line = take c.args.end old.held in
     let row = c.read_in_batch.new.row.items in
-    let read = subst (λ (bs : Bytes). ReadsInBatch (take c.args.end bs) c.read_in_batch.result row) c.held.ensures
+    let read = subst (λ (bs : Bytes). ReadsInBatch (take c.args.end bs) c.read_in_batch.result row) c.input.ensures
     c.read_in_batch.ensures in
     let said = subst (λ (b : BatchLine). ReadsInBatch line b row) c.in-Hold.is read in
     let named = subst (λ (n : Bytes). HoldsLine (c.args.engine.now).store old line c.in-Hold.verb n
@@ -32,7 +32,7 @@ returns-in-Done g c =
     let old = c.args.session.now in
     let line = take c.args.end old.held in
     let row = c.read_in_batch.new.row.items in
-    let read = subst (λ (bs : Bytes). ReadsInBatch (take c.args.end bs) c.read_in_batch.result row) c.held.ensures
+    let read = subst (λ (bs : Bytes). ReadsInBatch (take c.args.end bs) c.read_in_batch.result row) c.input.ensures
     c.read_in_batch.ensures in
     let said = subst (λ (b : BatchLine). ReadsInBatch line b row) c.in-Done.is read in
     done_leaves old c.take_line-in-Done.new.self line (drop c.args.rest old.held) c.requires.front
@@ -47,7 +47,7 @@ returns-in-Abandon g c =
     let line = take c.args.end old.held in
     let row = c.read_in_batch.new.row.items in
     let mid = c.take_line-in-Abandon.new.self in
-    let read = subst (λ (bs : Bytes). ReadsInBatch (take c.args.end bs) c.read_in_batch.result row) c.held.ensures
+    let read = subst (λ (bs : Bytes). ReadsInBatch (take c.args.end bs) c.read_in_batch.result row) c.input.ensures
     c.read_in_batch.ensures in
     let said = subst (λ (b : BatchLine). ReadsInBatch line b row) c.in-Abandon.is read in
     placed_leaves old mid line (drop c.args.rest old.held) c.requires.front c.take_line-in-Abandon.ensures
@@ -67,7 +67,7 @@ returns-in-Quit g c =
     let line = take c.args.end old.held in
     let row = c.read_in_batch.new.row.items in
     let mid = c.take_line-in-Quit.new.self in
-    let read = subst (λ (bs : Bytes). ReadsInBatch (take c.args.end bs) c.read_in_batch.result row) c.held.ensures
+    let read = subst (λ (bs : Bytes). ReadsInBatch (take c.args.end bs) c.read_in_batch.result row) c.input.ensures
     c.read_in_batch.ensures in
     let said = subst (λ (b : BatchLine). ReadsInBatch line b row) c.in-Quit.is read in
     placed_leaves old mid line (drop c.args.rest old.held) c.requires.front c.take_line-in-Quit.ensures c.requires.said
@@ -85,7 +85,7 @@ returns-in-Stop g c =
     let line = take c.args.end old.held in
     let row = c.read_in_batch.new.row.items in
     let mid = c.take_line-in-Stop.new.self in
-    let read = subst (λ (bs : Bytes). ReadsInBatch (take c.args.end bs) c.read_in_batch.result row) c.held.ensures
+    let read = subst (λ (bs : Bytes). ReadsInBatch (take c.args.end bs) c.read_in_batch.result row) c.input.ensures
     c.read_in_batch.ensures in
     let said = subst (λ (b : BatchLine). ReadsInBatch line b row) c.in-Stop.is read in
     stop_leaves old mid line (drop c.args.rest old.held) c.requires.front c.take_line-in-Stop.ensures c.requires.said
@@ -102,7 +102,7 @@ returns-in-Refused g c =
     let old = c.args.session.now in
     let line = take c.args.end old.held in
     let row = c.read_in_batch.new.row.items in
-    let read = subst (λ (bs : Bytes). ReadsInBatch (take c.args.end bs) c.read_in_batch.result row) c.held.ensures
+    let read = subst (λ (bs : Bytes). ReadsInBatch (take c.args.end bs) c.read_in_batch.result row) c.input.ensures
     c.read_in_batch.ensures in
     let said = subst (λ (b : BatchLine). ReadsInBatch line b row) c.in-Refused.is read in
     refused_leaves old c.take_line-in-Refused.new.self line (drop c.args.rest old.held) c.requires.front

@@ -1,7 +1,7 @@
 -- All cursors of a session are held by the engine, so the one of this name is; or no cursor has the name.
 use Rattle.std.proofs.Common.{sym, subst}
 use Rattle.djq_engine.specs.declared.cursor.CursorId.{CursorId}
-use Rattle.djq_engine.specs.Kept.{IsHeld, ClosesCursor}
+use Rattle.djq_engine.specs.StoreModel.{IsHeld, ClosesCursor}
 use Rattle.djq_session.specs.Dialog.{named}
 use Rattle.djq_commands.proofs.Cursors.{named_some, named_none}
 use Rattle.djq_commands.proofs.CursorCommands.{is_held, does_close, does_close_none}

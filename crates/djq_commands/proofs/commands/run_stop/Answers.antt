@@ -7,18 +7,18 @@ use Rattle.djq_machine.specs.Effect.{lost_line}
 use Rattle.djq_machine.specs.State.{Session}
 use Rattle.djq_session.specs.Dialog.{lost_line}
 use Rattle.djq_commands.specs.Performs.{to_one}
-use Rattle.djq_commands.specs.Views.{Talk}
+use Rattle.djq_commands.specs.Views.{SessionModel}
 use Rattle.djq_commands.proofs.CutReplies.{ends, lost_alike}
 use Rattle.djq_commands.proofs.commands.run_stop.Goals as goal
 
 pub returns : goal.returns
 returns c =
-    let up = c.give_up.ensures.gives_up in
-    let lost = ap (λ (d : Talk). lost_line d.batch) up.session ∙ lost_alike c.args.session.now.batch in
-    ends _ _ c.args.engine.now c.give_up.new.engine c.args.session.now c.give_up.new.session c.end_bye.new.self
+    let up = c.release_session.ensures.gives_up in
+    let lost = ap (λ (d : SessionModel). lost_line d.batch) up.session ∙ lost_alike c.args.session.now.batch in
+    ends _ _ c.args.engine.now c.release_session.new.engine c.args.session.now c.release_session.new.session c.end_bye.new.self
     (Some (lost_line c.args.session.now.batch ++ bye)) Stop up
-    (c.end_bye.ensures ∙ ap (λ (text : Bytes). record c.give_up.new.session {
-      pending = c.give_up.new.session.pending ++ (text ++ bye);
+    (c.end_bye.ensures ∙ ap (λ (text : Bytes). record c.release_session.new.session {
+      pending = c.release_session.new.session.pending ++ (text ++ bye);
       room = c.end_bye.new.self.room;
       cause = Some Stop;
       batch = None;

@@ -10,16 +10,16 @@ use Rattle.djq_parser.specs.RowReading.{begins_row}
 use Rattle.djq_value.specs.Token.{tokens}
 use Rattle.djq_session.specs.Dialog.{Replies}
 use Rattle.djq_commands.specs.Changing.{TriesToAdd, Deletes}
-use Rattle.djq_commands.specs.declared.change.Left.TheVariants.{Telling}
+use Rattle.djq_commands.specs.declared.change.AfterCommand.TheVariants.{Telling}
 use Rattle.djq_commands.specs.declared.change.Outcome.TheVariants.{Added, Deleted}
 use Rattle.djq_commands.specs.Stepping.{refused_as}
-use Rattle.djq_commands.specs.Views.{Talk}
+use Rattle.djq_commands.specs.Views.{SessionModel}
 use Rattle.djq_commands.proofs.TakenLines.{reads_refused, runs, line_leaves, tells_alone}
 use Rattle.djq_commands.proofs.ReadLines.{reads_as, refused_alone, short_to_add, short_to_delete}
 use Rattle.djq_commands.proofs.line.run_line.Goals as goal
 
 pub new-requires : goal.new-requires
-new-requires g c = short_to_add (take c.args.end c.held.result.now) c.in-Add.name.now c.read_row.new.row.items
+new-requires g c = short_to_add (take c.args.end c.input.result.now) c.in-Add.name.now c.read_row.new.row.items
     c.in-Add.ensures
 
 pub returns-in-Add : goal.returns-in-Add
@@ -29,7 +29,7 @@ returns-in-Add g c =
     let line = take c.args.end old.held in
     let name = c.in-Add.name.now in
     let row = c.read_row.new.row.items in
-    let said = subst (λ (bs : Bytes). LineReadsAs (take c.args.end bs) (Ok (Add name row))) c.held.ensures
+    let said = subst (λ (bs : Bytes). LineReadsAs (take c.args.end bs) (Ok (Add name row))) c.input.ensures
     c.in-Add.ensures in
     let named = subst (λ (n : Bytes). TriesToAdd c.args.engine.now n c.as_slice.result.now (Added c.add-outcome.result)
     c.add-outcome.new.self c.args.steps.now.listing c.add-outcome.new.steps.listing) c.new.ensures
@@ -55,10 +55,10 @@ returns-in-Add g c =
     (reads_as line (Add name row) said) (λ h. absurd h)
     (tells_alone (Added c.add-outcome.result) c.args.engine.now c.take_line.new.self c.add-outcome.new.self
     c.args.steps.now.listing c.add-outcome.new.steps.listing (Add name row)
-    (ap (λ (d : Talk). d.batch) c.take_line.ensures ∙ alone) adds)
+    (ap (λ (d : SessionModel). d.batch) c.take_line.ensures ∙ alone) adds)
 
 pub new-requires-in-Del : goal.new-requires-in-Del
-new-requires-in-Del g c = short_to_delete (take c.args.end c.held.result.now) c.in-Del.name.now c.read_row.new.row.items
+new-requires-in-Del g c = short_to_delete (take c.args.end c.input.result.now) c.in-Del.name.now c.read_row.new.row.items
     c.in-Del.ensures
 
 pub returns-in-Del : goal.returns-in-Del
@@ -68,7 +68,7 @@ returns-in-Del g c =
     let line = take c.args.end old.held in
     let name = c.in-Del.name.now in
     let row = c.read_row.new.row.items in
-    let said = subst (λ (bs : Bytes). LineReadsAs (take c.args.end bs) (Ok (Del name row))) c.held.ensures
+    let said = subst (λ (bs : Bytes). LineReadsAs (take c.args.end bs) (Ok (Del name row))) c.input.ensures
     c.in-Del.ensures in
     let named = subst
     (λ (n : Bytes). Deletes c.args.engine.now n c.as_slice-in-Del.result.now (Deleted c.del-outcome.result)
@@ -96,14 +96,14 @@ returns-in-Del g c =
     (reads_as line (Del name row) said) (λ h. absurd h)
     (tells_alone (Deleted c.del-outcome.result) c.args.engine.now c.take_line-in-Del.new.self c.del-outcome.new.self
     c.args.steps.now.listing c.del-outcome.new.steps.listing (Del name row)
-    (ap (λ (d : Talk). d.batch) c.take_line-in-Del.ensures ∙ alone) deletes)
+    (ap (λ (d : SessionModel). d.batch) c.take_line-in-Del.ensures ∙ alone) deletes)
 
 pub returns-in-Refused : goal.returns-in-Refused
 returns-in-Refused g c =
     let old = c.args.session.now in
     let alone : old.batch ≡ None = search rules in
     let line = take c.args.end old.held in
-    let said = subst (λ (bs : Bytes). LineReadsAs (take c.args.end bs) (Err c.in-Refused.refusal)) c.held.ensures
+    let said = subst (λ (bs : Bytes). LineReadsAs (take c.args.end bs) (Err c.in-Refused.refusal)) c.input.ensures
     c.in-Refused.ensures.1 in
     let reply = subst (λ (r : Refusal). Replies c.take_line-in-Refused.new.self c.refuse.new.self (refusal_line r))
     c.refusal_of.ensures c.refuse.ensures in
@@ -113,8 +113,8 @@ returns-in-Refused g c =
     (reads_refused c.args.engine.now c.take_line-in-Refused.new.self c.refuse.new.self line
     (refused_as c.in-Refused.refusal) c.args.steps.now.listing
     (refused_alone c.take_line-in-Refused.new.self.batch line c.in-Refused.refusal
-    (ap (λ (d : Talk). d.batch) c.take_line-in-Refused.ensures ∙ alone) said) reply)
+    (ap (λ (d : SessionModel). d.batch) c.take_line-in-Refused.ensures ∙ alone) said) reply)
 
-pub run_other-requires-clause-other : goal.run_other-requires-clause-other
-run_other-requires-clause-other g c = subst (λ (bs : Bytes). begins_row (tokens (take c.args.end bs)) ≡ false)
-    c.held.ensures c.in-Other.ensures.0
+pub run_non_row-requires-clause-other : goal.run_non_row-requires-clause-other
+run_non_row-requires-clause-other g c = subst (λ (bs : Bytes). begins_row (tokens (take c.args.end bs)) ≡ false)
+    c.input.ensures c.in-Other.ensures.0

@@ -32,7 +32,7 @@ returns-in-Long-clause-copies g c = inl c.in-Long.ensures
 
 pub copy-requires-clause-few : goal.copy-requires-clause-few
 copy-requires-clause-few g c =
-    subst (λ (bs : Bytes). length (take c.in-Line.end bs) ≤ LINE_BYTES) (sym c.held.ensures)
+    subst (λ (bs : Bytes). length (take c.in-Line.end bs) ≤ LINE_BYTES) (sym c.input.ensures)
     (short_front c.args.session.now.held (take c.in-Line.end c.args.session.now.held)
     (drop c.in-Line.rest c.args.session.now.held) c.in-Line.ensures.0)
 
@@ -40,5 +40,5 @@ pub returns-in-Line-clause-copies : goal.returns-in-Line-clause-copies
 returns-in-Line-clause-copies g c =
     let held = c.args.session.now.held in
     subst (λ (bs : Bytes). CopiesFront held bs)
-    (sym (ap (λ (o : OpenCommit). o.line) c.copy.ensures ∙ ap (λ (bs : Bytes). take c.in-Line.end bs) c.held.ensures))
+    (sym (ap (λ (o : OpenCommit). o.line) c.copy.ensures ∙ ap (λ (bs : Bytes). take c.in-Line.end bs) c.input.ensures))
     (inr (drop c.in-Line.rest held, c.in-Line.ensures.0))

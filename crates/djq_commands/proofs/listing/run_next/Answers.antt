@@ -32,8 +32,8 @@ returns-in-Whole g c =
     c.list_answers.new.engine c.list_answers.new.session c.args.listing.now c.list_answers.new.listing) (sym f.2)
     c.in-Whole.ensures)
 
-pub cut_off-requires-clause-own : goal.cut_off-requires-clause-own
-cut_off-requires-clause-own g c =
+pub abort_reply-requires-clause-own : goal.abort_reply-requires-clause-own
+abort_reply-requires-clause-own g c =
     let f = named_some (named c.args.session.now.cursors c.args.name.now) c.in-Some.id (sym c.in-Some.ensures) in
     owns_still c.args.engine.now c.list_answers.new.engine c.args.session.now c.list_answers.new.session c.args.name.now
     f.0 c.args.count c.args.listing.now c.list_answers.new.listing c.requires.ready.own f.1
@@ -43,13 +43,13 @@ cut_off-requires-clause-own g c =
 pub returns-in-Cut : goal.returns-in-Cut
 returns-in-Cut g c =
     let f = named_some (named c.args.session.now.cursors c.args.name.now) c.in-Some.id (sym c.in-Some.ensures) in
-    does_next_cut c.args.engine.now c.list_answers.new.engine c.cut_off.new.engine c.args.session.now
-    c.list_answers.new.session c.cut_off.new.session c.args.name.now f.0 c.args.count c.args.listing.now
+    does_next_cut c.args.engine.now c.list_answers.new.engine c.abort_reply.new.engine c.args.session.now
+    c.list_answers.new.session c.abort_reply.new.session c.args.name.now f.0 c.args.count c.args.listing.now
     c.list_answers.new.listing
     c.requires.ready f.1
     (subst (λ (id : CursorId). Lists c.args.engine.now id c.args.session.now c.args.count Cut c.list_answers.new.engine
     c.list_answers.new.session c.args.listing.now c.list_answers.new.listing) (sym f.2) c.in-Cut.ensures)
-    c.cut_off.ensures
+    c.abort_reply.ensures
 
 pub returns-in-Stale : goal.returns-in-Stale
 returns-in-Stale g c =

@@ -10,7 +10,7 @@ use Rattle.djq_live_query.specs.Live.{IsKept}
 use Rattle.djq_engine.specs.Changing.{IsOld}
 use Rattle.djq_reach.specs.Places.{is_reader, watched_at}
 use Rattle.djq_reach.specs.Reaching.{AllAt}
-use Rattle.djq_reach.specs.Tending.{AreUnwatched, LogsCanBeShown, Costs, Tends, LogTellsAt, Works}
+use Rattle.djq_reach.specs.Tending.{AreUnwatched, LogsCanBeShown, Costs, LogsHold, LogTellsAt, Works}
 use Rattle.djq_engine.proofs.Catalogs.{readers_kept}
 use Rattle.djq_reach.proofs.Logs.{tells_show, tends_quiet}
 use Rattle.djq_engine.proofs.Logs.{counts_rows, shown_tended, tells_rows}
@@ -102,7 +102,7 @@ returns g c =
     deleted_went old.catalog d at cells row c.laws-2.ensures low stand texts (gone row stand).2 in
     let kept = subst (λ (ps : List ℕ). AllAt ps old.queries.items (λ l. IsKept old.catalog l)) (sym places)
     (readers_kept old.catalog old.queries.items old.order old.readers.items whole at low) in
-    let tends = subst (λ (ws : List ℕ). Tends xs (LogTellsAt ws did) old.queries.items old.logs.items logs)
+    let tends = subst (λ (ws : List ℕ). LogsHold xs (LogTellsAt ws did) old.queries.items old.logs.items logs)
     c.as_slice-watchers.ensures.value c.delete_from_readers.ensures.tells in
     record {
       deletes = λ row stand. (

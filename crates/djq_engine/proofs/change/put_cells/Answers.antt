@@ -10,7 +10,7 @@ use Rattle.djq_leaves.specs.Changes.{Came}
 use Rattle.djq_live_query.specs.Live.{IsKept}
 use Rattle.djq_reach.specs.Places.{is_reader, watched_at}
 use Rattle.djq_reach.specs.Reaching.{AllAt}
-use Rattle.djq_reach.specs.Tending.{LogsCanBeShown, AreUnwatched, Costs, LogShows, Tends, LogTellsAt, Works}
+use Rattle.djq_reach.specs.Tending.{LogsCanBeShown, AreUnwatched, Costs, LogShows, LogsHold, LogTellsAt, Works}
 use Rattle.djq_engine.proofs.Catalogs.{readers_kept}
 use Rattle.djq_reach.proofs.Logs.{tends_apart, tends_quiet}
 use Rattle.djq_engine.proofs.Logs.{counts_rows, shown_tended, tells_rows}
@@ -146,7 +146,7 @@ returns-in-Ok g c =
     let costs = subst (λ (ws : List ℕ). Costs did xs ws old.queries.items at c.args.steps.now.listing
     c.insert_into_readers.new.steps.listing) c.as_slice-watchers.ensures.value
     c.insert_into_readers.ensures.counted in
-    let tends = subst (λ (ws : List ℕ). Tends xs (LogTellsAt ws did) old.queries.items old.logs.items logs)
+    let tends = subst (λ (ws : List ℕ). LogsHold xs (LogTellsAt ws did) old.queries.items old.logs.items logs)
     c.as_slice-watchers.ensures.value c.in-Ok.ensures.tells in
     record {
       adds = λ row stand. (

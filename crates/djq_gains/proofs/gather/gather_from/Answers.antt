@@ -4,13 +4,13 @@ use Rattle.std.specs.Prelude.{IsSome, IsSomeAnd}
 use Rattle.std.proofs.lemmas.List.{take_all}
 use Rattle.djq_live_query.specs.Live.{Live}
 use Rattle.djq_live_query.specs.Member.{head_types, query_at}
-use Rattle.djq_engine.specs.Kept.{Kept, PlacesAreRegistered, registered_at}
+use Rattle.djq_engine.specs.StoreModel.{StoreModel, PlacesAreRegistered, registered_at}
 use Rattle.djq_gains.specs.Gains.{told_of_member, changes_in}
-use Rattle.djq_gains.proofs.MemberDeltas.{some_with, is_there, counted, AreCounted, TakesIn, line_below}
+use Rattle.djq_gains.proofs.MemberDeltas.{some_with, is_there, counted, AreCounted, QueryInserts, line_below}
 use Rattle.djq_gains.proofs.MemberDeltas.{all_counted, takes_none, takes_more}
 use Rattle.djq_gains.proofs.gather.gather_from.Goals as goal
 
-registered : (k : Kept) (place width : ℕ) → PlacesAreRegistered k
+registered : (k : StoreModel) (place width : ℕ) → PlacesAreRegistered k
     → IsSomeAnd (query_at k.places place) (λ l. length (head_types l) ≡ width)
     → IsSome (registered_at k.registered (record { at = place }))
 registered k place width listed query =
@@ -73,7 +73,7 @@ returns-clause-gathered c =
     let long = all_counted c.args.engine.now c.args.place told.changes told.is in
     let as_long = told.long in
     let last = c.loop-line-test.false in
-    subst (TakesIn (c.args.engine.now.store).texts c.args.gains.now.gains c.loop-line.gains.gains c.args.nth)
+    subst (QueryInserts (c.args.engine.now.store).texts c.args.gains.now.gains c.loop-line.gains.gains c.args.nth)
     (take_all c.loop-line.line (changes_in c.args.engine.now c.args.place) (omega arith))
     c.loop-line.invariant.takes
 

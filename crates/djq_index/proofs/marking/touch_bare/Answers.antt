@@ -5,8 +5,8 @@ use Rattle.djq_index.proofs.Removals.{find_row, its_held, its_room, Renews, touc
 use Rattle.djq_index.proofs.Removals.{same_tuple_at}
 use Rattle.djq_index.proofs.marking.touch_bare.Goals as goal
 
-pub renew-requires : goal.renew-requires
-renew-requires c =
+pub move_to_end-requires : goal.move_to_end-requires
+move_to_end-requires c =
     let f = find_row c.args.raw.now c.args.place c.requires.unmarked.tuple
     c.requires.unmarked.is_at in
     rw c.slot-slot.ensures
@@ -29,7 +29,7 @@ returns-clause-raw c =
     let m : Raw = record {
       kind = c.args.raw.now.kind;
       key = c.args.raw.now.key;
-      rows = c.renew.new.self;
+      rows = c.move_to_end.new.self;
       notes = c.args.raw.now.notes;
       links = c.args.raw.now.links;
       keys = c.args.raw.now.keys;
@@ -39,8 +39,8 @@ returns-clause-raw c =
     } in
     let k : Renews c.args.raw.now c.mark.new.raw c.args.place.slot = renews_from c.args.raw.now m
     c.mark.new.raw c.args.place.slot c.slot-slot.result c.slot-slot.ensures
-    c.mark.ensures refl refl refl refl c.laws.ensures c.renew.ensures.width
-    c.renew.ensures.room c.renew.ensures.renewed in
+    c.mark.ensures refl refl refl refl c.laws.ensures c.move_to_end.ensures.width
+    c.move_to_end.ensures.room c.move_to_end.ensures.renewed in
     touched_bare c.args.raw.now c.mark.new.raw c.args.place c.requires.unmarked.tuple
     c.requires.raw f c.requires.unmarked.plain c.requires.unmarked.is_at k
 
@@ -50,7 +50,7 @@ returns-clause-touched c = λ u at.
     let m : Raw = record {
       kind = c.args.raw.now.kind;
       key = c.args.raw.now.key;
-      rows = c.renew.new.self;
+      rows = c.move_to_end.new.self;
       notes = c.args.raw.now.notes;
       links = c.args.raw.now.links;
       keys = c.args.raw.now.keys;
@@ -60,8 +60,8 @@ returns-clause-touched c = λ u at.
     } in
     let k : Renews c.args.raw.now c.mark.new.raw c.args.place.slot = renews_from c.args.raw.now m
     c.mark.new.raw c.args.place.slot c.slot-slot.result c.slot-slot.ensures
-    c.mark.ensures refl refl refl refl c.laws.ensures c.renew.ensures.width
-    c.renew.ensures.room c.renew.ensures.renewed in
+    c.mark.ensures refl refl refl refl c.laws.ensures c.move_to_end.ensures.width
+    c.move_to_end.ensures.room c.move_to_end.ensures.renewed in
     touched_one c.args.raw.now c.mark.new.raw c.args.place u c.requires.raw f
     (same_tuple_at c.args.raw.now c.args.place u c.requires.unmarked.tuple c.requires.raw at
     c.requires.unmarked.is_at c.requires.unmarked.plain) at k

@@ -107,8 +107,8 @@ join-requires-clause-last c =
     (pair_at c.args.raw.now.links.items i)
     (ends_at c.args.raw.now.ends.items c.note_of-note.result.head))) c.slot-slot.ensures))
 
-pub renew-requires : goal.renew-requires
-renew-requires c =
+pub move_to_end-requires : goal.move_to_end-requires
+move_to_end-requires c =
     let f = find_row c.args.raw.now c.args.place c.requires.unmarked.tuple
     c.requires.unmarked.is_at in
     rw c.slot-slot.ensures
@@ -131,7 +131,7 @@ returns-clause-raw c =
     let m : Raw = record {
       kind = c.args.raw.now.kind;
       key = c.args.raw.now.key;
-      rows = c.renew.new.self;
+      rows = c.move_to_end.new.self;
       notes = c.args.raw.now.notes;
       links = c.join.new.links;
       keys = c.args.raw.now.keys;
@@ -141,8 +141,8 @@ returns-clause-raw c =
     } in
     let k : Renews c.args.raw.now c.mark.new.raw c.args.place.slot = renews_from c.args.raw.now m
     c.mark.new.raw c.args.place.slot c.slot-slot.result c.slot-slot.ensures
-    c.mark.ensures refl refl refl refl c.laws.ensures c.renew.ensures.width
-    c.renew.ensures.room c.renew.ensures.renewed in
+    c.mark.ensures refl refl refl refl c.laws.ensures c.move_to_end.ensures.width
+    c.move_to_end.ensures.room c.move_to_end.ensures.renewed in
     touched_bare c.args.raw.now c.mark.new.raw c.args.place c.requires.unmarked.tuple
     c.requires.raw f c.requires.unmarked.plain c.requires.unmarked.is_at k
 
@@ -155,7 +155,7 @@ returns-clause-heads c =
     let m : Raw = record {
       kind = c.args.raw.now.kind;
       key = c.args.raw.now.key;
-      rows = c.renew.new.self;
+      rows = c.move_to_end.new.self;
       notes = c.args.raw.now.notes;
       links = c.join.new.links;
       keys = c.args.raw.now.keys;
@@ -165,8 +165,8 @@ returns-clause-heads c =
     } in
     let k : Renews c.args.raw.now c.mark.new.raw c.args.place.slot = renews_from c.args.raw.now m
     c.mark.new.raw c.args.place.slot c.slot-slot.result c.slot-slot.ensures
-    c.mark.ensures refl refl refl refl c.laws.ensures c.renew.ensures.width
-    c.renew.ensures.room c.renew.ensures.renewed in
+    c.mark.ensures refl refl refl refl c.laws.ensures c.move_to_end.ensures.width
+    c.move_to_end.ensures.room c.move_to_end.ensures.renewed in
     touched_heads c.args.raw.now c.mark.new.raw c.args.place c.requires.unmarked.tuple
     c.requires.raw c.requires.heads f c.requires.unmarked.plain c.requires.unmarked.is_at
     (touches_from c.args.raw.now m c.mark.new.raw c.args.place.slot c.slot-slot.result
@@ -180,7 +180,7 @@ returns-clause-touched c = λ u at.
     let m : Raw = record {
       kind = c.args.raw.now.kind;
       key = c.args.raw.now.key;
-      rows = c.renew.new.self;
+      rows = c.move_to_end.new.self;
       notes = c.args.raw.now.notes;
       links = c.join.new.links;
       keys = c.args.raw.now.keys;
@@ -190,8 +190,8 @@ returns-clause-touched c = λ u at.
     } in
     let k : Renews c.args.raw.now c.mark.new.raw c.args.place.slot = renews_from c.args.raw.now m
     c.mark.new.raw c.args.place.slot c.slot-slot.result c.slot-slot.ensures
-    c.mark.ensures refl refl refl refl c.laws.ensures c.renew.ensures.width
-    c.renew.ensures.room c.renew.ensures.renewed in
+    c.mark.ensures refl refl refl refl c.laws.ensures c.move_to_end.ensures.width
+    c.move_to_end.ensures.room c.move_to_end.ensures.renewed in
     touched_one c.args.raw.now c.mark.new.raw c.args.place u c.requires.raw f
     (same_tuple_at c.args.raw.now c.args.place u c.requires.unmarked.tuple c.requires.raw at
     c.requires.unmarked.is_at c.requires.unmarked.plain) at k

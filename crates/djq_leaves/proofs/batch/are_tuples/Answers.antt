@@ -9,8 +9,8 @@ use Rattle.djq_leaves.proofs.batch.are_tuples.Goals as goal
 pub rows-init : goal.rows-init
 rows-init c = own_none c.args.rows.now c.args.pattern.now
 
-pub lend-requires : goal.lend-requires
-lend-requires c =
+pub project-requires : goal.project-requires
+project-requires c =
     c.requires.fit c.as_slice-row.result.now (row_at c.args.rows.now c.rows.i c.as_slice-row.result.now c.rows-test.true
     (read_as c.args.rows.now c.rows.i c.index-rows-i.result c.as_slice-row.result.now c.as_slice-row.ensures
     c.index-rows-i.is))

@@ -12,8 +12,8 @@ rows-init c =
     subst (λ (us : List (List ℕ)). AreTuplesOf (take 0 c.args.rows.now) c.args.pattern.now us)
     (sym c.new-tuples.ensures) (tuples_none c.args.rows.now c.args.pattern.now)
 
-pub lend-requires : goal.lend-requires
-lend-requires c =
+pub project-requires : goal.project-requires
+project-requires c =
     c.requires.fit c.as_slice.result.now (row_at c.args.rows.now c.rows.i c.as_slice.result.now c.rows-test.true
     (read_as c.args.rows.now c.rows.i c.index-rows-i.result c.as_slice.result.now c.as_slice.ensures c.index-rows-i.is))
 

@@ -14,8 +14,8 @@ rows-init g c = record {
   counted = omega arith;
 }
 
-pub lend-requires : goal.lend-requires
-lend-requires g c =
+pub project-requires : goal.project-requires
+project-requires g c =
     c.requires.fit c.as_slice.result.now (row_at c.args.rows.now c.rows.i c.as_slice.result.now c.rows-test.true
     (read_as c.args.rows.now c.rows.i c.index-rows-i.result c.as_slice.result.now c.as_slice.ensures c.index-rows-i.is))
 

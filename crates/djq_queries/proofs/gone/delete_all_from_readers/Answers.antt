@@ -5,13 +5,13 @@ use Rattle.djq_live_query.specs.Updating.{CanDeleteAll}
 use Rattle.djq_reach.specs.Batching.{LogsAt}
 use Rattle.djq_reach.proofs.PlacedQueries.{reach_next, reach_none, still}
 use Rattle.djq_reach.proofs.Logs.{costs_front, costs_none, costs_next, place_within, tends_next, tends_none}
-use Rattle.djq_queries.specs.Going.{LetsGoAll}
+use Rattle.djq_queries.specs.Going.{QueryDeletesRows}
 use Rattle.djq_queries.proofs.Works.{all_leave, gone_front, gone_next, gone_none}
 use Rattle.djq_queries.proofs.gone.delete_all_from_readers.Goals as goal
 
 pub loop-at-init : goal.loop-at-init
 loop-at-init g c = record {
-  reach = reach_none (LetsGoAll c.args.relation.at c.args.rows.now) c.args.queries.now.items;
+  reach = reach_none (QueryDeletesRows c.args.relation.at c.args.rows.now) c.args.queries.now.items;
   tends = tends_none (LogsAt c.args.watchers.now (λ x d. WentAll x d c.args.relation.at c.args.rows.now))
       c.args.queries.now.items c.args.logs.now.items;
   works = gone_none c.args.queries.now.items c.args.relation.at (length c.args.rows.now) c.args.steps.now.update;
@@ -22,7 +22,7 @@ loop-at-init g c = record {
 
 pub delete_rows_at-requires-clause-can : goal.delete_rows_at-requires-clause-can
 delete_rows_at-requires-clause-can g c =
-    still (LetsGoAll c.args.relation.at c.args.rows.now) c.args.places.now c.loop-at.at 0
+    still (QueryDeletesRows c.args.relation.at c.args.rows.now) c.args.places.now c.loop-at.at 0
     c.args.queries.now.items c.loop-at.queries.items
     (λ l. CanDeleteAll l c.args.relation.at c.args.rows.now) c.requires.once c.loop-at-test.true
     c.loop-at.invariant.reach
@@ -44,22 +44,22 @@ delete_rows_at-requires-clause-logged g c =
 
 pub loop-at-preserved : goal.loop-at-preserved
 loop-at-preserved g c = record {
-  reach = reach_next (LetsGoAll c.args.relation.at c.args.rows.now) c.args.places.now c.loop-at.at 0
+  reach = reach_next (QueryDeletesRows c.args.relation.at c.args.rows.now) c.args.places.now c.loop-at.at 0
       c.args.queries.now.items c.loop-at.queries.items c.delete_rows_at.new.queries.items
       c.requires.once c.loop-at-test.true c.loop-at.invariant.reach c.delete_rows_at.ensures.gone;
-  tends = tends_next (LetsGoAll c.args.relation.at c.args.rows.now)
+  tends = tends_next (QueryDeletesRows c.args.relation.at c.args.rows.now)
       (LogsAt c.args.watchers.now (λ x d. WentAll x d c.args.relation.at c.args.rows.now))
       c.args.places.now c.loop-at.at 0
       c.args.queries.now.items c.loop-at.queries.items c.args.logs.now.items c.loop-at.logs.items
       c.delete_rows_at.new.logs.items c.requires.once c.loop-at-test.true c.loop-at.invariant.reach
       c.loop-at.invariant.tends c.delete_rows_at.ensures.tells;
-  works = gone_next (LetsGoAll c.args.relation.at c.args.rows.now) c.args.places.now c.loop-at.at 0
+  works = gone_next (QueryDeletesRows c.args.relation.at c.args.rows.now) c.args.places.now c.loop-at.at 0
       c.args.queries.now.items c.loop-at.queries.items c.args.relation.at (length c.args.rows.now)
       c.args.steps.now.update c.loop-at.steps.update c.delete_rows_at.new.steps.update
       c.requires.once c.loop-at-test.true c.loop-at.invariant.reach c.loop-at.invariant.works
       c.delete_rows_at.ensures.updates;
   counted = costs_next (λ x d. WentAll x d c.args.relation.at c.args.rows.now) c.args.watchers.now c.args.relation.at
-      (LetsGoAll c.args.relation.at c.args.rows.now) c.args.places.now c.loop-at.at 0
+      (QueryDeletesRows c.args.relation.at c.args.rows.now) c.args.places.now c.loop-at.at 0
       c.args.queries.now.items c.loop-at.queries.items c.args.steps.now.listing c.loop-at.steps.listing
       c.delete_rows_at.new.steps.listing c.requires.once c.loop-at-test.true c.loop-at.invariant.reach
       c.loop-at.invariant.counted c.delete_rows_at.ensures.counted;

@@ -1,15 +1,15 @@
 use Rattle.std.proofs.Common.{take, ◌≡◌, length}
 use Rattle.djq_leaves.specs.Changes.{WentAll}
 use Rattle.djq_reach.specs.Reaching.{Reach}
-use Rattle.djq_reach.specs.Tending.{AreUnwatched, Tends, Costs}
+use Rattle.djq_reach.specs.Tending.{AreUnwatched, LogsHold, Costs}
 use Rattle.djq_reach.specs.Batching.{LogsAt}
-use Rattle.djq_queries.specs.Going.{LetsGoAll, WorksGone}
+use Rattle.djq_queries.specs.Going.{QueryDeletesRows, WorksGone}
 use Rattle.djq_queries.proofs.gone.delete_all_from_readers.Given as goal
 
 abbrev pub invariant-loop-at : goal.invariant-loop-at
 invariant-loop-at g l = record {
-  reach : Reach (take l.at l.places) (LetsGoAll l.relation.at l.rows) l.fn.queries.items l.queries.items;
-  tends : Tends (take l.at l.places) (LogsAt l.watchers (λ c d. WentAll c d l.relation.at l.rows)) l.fn.queries.items
+  reach : Reach (take l.at l.places) (QueryDeletesRows l.relation.at l.rows) l.fn.queries.items l.queries.items;
+  tends : LogsHold (take l.at l.places) (LogsAt l.watchers (λ c d. WentAll c d l.relation.at l.rows)) l.fn.queries.items
       l.fn.logs.items l.logs.items;
   works : WorksGone (take l.at l.places) l.fn.queries.items l.relation.at (length l.rows) l.fn.steps.update
       l.steps.update;

@@ -4,7 +4,7 @@ use Rattle.std.specs.Prelude.{filter, sum_by, ⊤}
 use Rattle.djq_reach.specs.declared.group.Group.{Group}
 use Rattle.djq_reach.specs.Places.{AreOnce, is_reader}
 use Rattle.djq_reach.specs.Batching.{LogsAt}
-use Rattle.djq_reach.specs.Tending.{Tends}
+use Rattle.djq_reach.specs.Tending.{LogsHold}
 use Rattle.djq_reach.specs.Grouping.{batch_cost_at, group_relations, reached}
 use Rattle.djq_reach.proofs.CatalogChains.{renewed}
 use Rattle.djq_reach.proofs.Costs.{fresh_group, sum_more}
@@ -97,7 +97,7 @@ returns-clause-gone g c x d leads kept =
 
 pub returns-clause-tells : goal.returns-clause-tells
 returns-clause-tells g c =
-    subst (λ (xs : List Group). Tends (reached c.args.readers.now c.args.groups.now)
+    subst (λ (xs : List Group). LogsHold (reached c.args.readers.now c.args.groups.now)
     (LogsAt c.args.watchers.now (λ x d (w : ⊤). GroupsGo c.args.readers.now xs c.args.queries.now.items x d))
     c.args.queries.now.items c.args.logs.now.items c.loop-at.logs.items)
     (take_whole c.args.groups.now c.loop-at.at (omega (arith, c.loop-at-test.false))) c.loop-at.invariant.tends

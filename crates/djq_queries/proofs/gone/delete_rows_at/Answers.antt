@@ -7,7 +7,7 @@ use Rattle.djq_live_query.specs.Updating.{CanDeleteAll, LogsWhere}
 use Rattle.djq_reach.specs.Batching.{LogsAt}
 use Rattle.djq_reach.proofs.PlacedQueries.{below_some, place_read, reach_read}
 use Rattle.djq_reach.proofs.Logs.{costs_one, lists_nothing, tends_read}
-use Rattle.djq_queries.specs.Going.{LetsGoAll}
+use Rattle.djq_queries.specs.Going.{QueryDeletesRows}
 use Rattle.djq_queries.proofs.Works.{gone_one}
 use Rattle.djq_queries.proofs.gone.delete_rows_at.Goals as goal
 
@@ -25,7 +25,7 @@ returns g c =
     let there = place_read gs i query l (below_some gs i (λ m. CanDeleteAll m at cells) c.requires.can)
     c.index_mut.ensures.value c.in-Some.is in
     record {
-      gone = reach_read (LetsGoAll at cells) gs i query l c.delete_many.new.self (λ m. CanDeleteAll m at cells)
+      gone = reach_read (QueryDeletesRows at cells) gs i query l c.delete_many.new.self (λ m. CanDeleteAll m at cells)
           c.requires.can c.index_mut.ensures.value c.in-Some.is
           (record {
             follows = c.delete_many.ensures.deleted;

@@ -6,7 +6,7 @@ use Rattle.djq_propagate.specs.Updates.{HasAtMost}
 use Rattle.djq_live_query.specs.Live.{SameQuery}
 use Rattle.djq_leaves.proofs.Costs.{fewer_stay}
 use Rattle.djq_reach.specs.declared.group.Group.{Group}
-use Rattle.djq_reach.specs.Batching.{LetsOutAll}
+use Rattle.djq_reach.specs.Batching.{QueryDeletesAll}
 use Rattle.djq_reach.specs.Places.{AreOnce, is_reader, readers_at}
 use Rattle.djq_reach.specs.Reaching.{Reach}
 use Rattle.djq_reach.specs.Tending.{work_at}
@@ -53,7 +53,7 @@ loop-left-preserved g c =
     let new = c.give_all_back.new.queries.items in
     let places = c.places_of-places.result.now in
     let group = c.index-groups-left.result in
-    let Does = LetsOutAll group.relation.at c.as_slice.result.now in
+    let Does = QueryDeletesAll group.relation.at c.as_slice.result.now in
     let sub : (i : ℕ) → is_reader places i ≡ true → is_reader (reached readers groups) i ≡ true =
     λ i e. reached_one readers groups (c.loop-left.left - 1) group i
     (omega (arith, c.loop-left-test.true, c.loop-left.invariant.low)) c.index-groups-left.is

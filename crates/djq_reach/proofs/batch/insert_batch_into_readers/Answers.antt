@@ -5,7 +5,7 @@ use Rattle.djq_propagate.specs.Updates.{HasAtMost}
 use Rattle.djq_reach.specs.Reaching.{AllAt}
 use Rattle.djq_reach.specs.declared.group.Group.{Group}
 use Rattle.djq_reach.specs.Places.{AreOnce, readers_at}
-use Rattle.djq_reach.specs.Tending.{LogTellsAt, Tends, work_at}
+use Rattle.djq_reach.specs.Tending.{LogTellsAt, LogsHold, work_at}
 use Rattle.djq_reach.specs.Grouping.{GroupsLead, group_work, reached, rows_of_groups, times_back}
 use Rattle.djq_reach.proofs.CatalogChains.{all_kept, few_more, group_comes, in_reached, renewed, takes_more, takes_same}
 use Rattle.djq_reach.proofs.Costs.{costs_all, costs_on, fresh_group, group_counts, rows_front, rows_more, sum_more}
@@ -210,7 +210,7 @@ returns-clause-taken g c x d leads kept =
 
 pub returns-clause-tells : goal.returns-clause-tells
 returns-clause-tells g c =
-    subst (λ (xs : List Group). Tends (reached c.args.readers.now c.args.groups.now)
+    subst (λ (xs : List Group). LogsHold (reached c.args.readers.now c.args.groups.now)
     (LogTellsAt c.args.watchers.now (λ x d (w : ⊤). GroupsLead c.args.readers.now xs c.args.queries.now.items x d))
     c.args.queries.now.items c.args.logs.now.items c.loop-at.logs.items)
     (take_whole c.args.groups.now c.loop-at.at (omega (arith, c.loop-at-test.false))) c.loop-at.invariant.tends

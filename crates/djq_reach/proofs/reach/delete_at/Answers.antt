@@ -5,7 +5,7 @@ use Rattle.djq_model.specs.Data.{Tuple}
 use Rattle.djq_database.specs.Catalog.{Catalog}
 use Rattle.djq_leaves.specs.Changes.{Went}
 use Rattle.djq_live_query.specs.Updating.{CanDelete}
-use Rattle.djq_reach.specs.Reaching.{LetsOut}
+use Rattle.djq_reach.specs.Reaching.{QueryDeletes}
 use Rattle.djq_reach.specs.Tending.{LogTellsAt, TellsWhere}
 use Rattle.djq_reach.proofs.PlacedQueries.{below_some, place_read, reach_read}
 use Rattle.djq_reach.proofs.Logs.{costs_one, lists_nothing, tells_where, tends_read, works_one}
@@ -25,7 +25,7 @@ returns g c =
     let there = place_read gs i query l (below_some gs i (λ l. CanDelete l at cells) c.requires.can)
     c.index_mut.ensures.value c.in-Some.is in
     record {
-      reach = reach_read (LetsOut at cells) gs i query l c.delete.new.self (λ l. CanDelete l at cells) c.requires.can
+      reach = reach_read (QueryDeletes at cells) gs i query l c.delete.new.self (λ l. CanDelete l at cells) c.requires.can
           c.index_mut.ensures.value c.in-Some.is
           (record { follows = c.delete.ensures.deleted; same = c.delete.ensures.same });
       tells = tends_read (LogTellsAt c.args.watchers.now went) gs c.args.logs.now.items i l log c.delete.new.log

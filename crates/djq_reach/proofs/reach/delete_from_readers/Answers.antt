@@ -2,7 +2,7 @@
 use Rattle.std.proofs.Common.{arith, ◌∙◌, refl}
 use Rattle.djq_leaves.specs.Changes.{Went}
 use Rattle.djq_live_query.specs.Updating.{CanDelete}
-use Rattle.djq_reach.specs.Reaching.{LetsOut}
+use Rattle.djq_reach.specs.Reaching.{QueryDeletes}
 use Rattle.djq_reach.specs.Tending.{LogTellsAt}
 use Rattle.djq_reach.proofs.PlacedQueries.{all_go, reach_next, reach_none, still}
 use Rattle.djq_reach.proofs.Logs.{costs_front, costs_none, costs_next, place_within, tends_next, tends_none}
@@ -11,7 +11,7 @@ use Rattle.djq_reach.proofs.reach.delete_from_readers.Goals as goal
 
 pub loop-at-init : goal.loop-at-init
 loop-at-init g c = record {
-  reach = reach_none (LetsOut c.args.relation.at c.args.cells.now) c.args.queries.now.items;
+  reach = reach_none (QueryDeletes c.args.relation.at c.args.cells.now) c.args.queries.now.items;
   tends = tends_none (LogTellsAt c.args.watchers.now (λ x d. Went x d c.args.relation.at c.args.cells.now))
       c.args.queries.now.items c.args.logs.now.items;
   works = works_none c.args.queries.now.items c.args.relation.at 1 c.args.steps.now.update;
@@ -22,7 +22,7 @@ loop-at-init g c = record {
 
 pub delete_at-requires-clause-can : goal.delete_at-requires-clause-can
 delete_at-requires-clause-can g c =
-    still (LetsOut c.args.relation.at c.args.cells.now) c.args.places.now c.loop-at.at 0
+    still (QueryDeletes c.args.relation.at c.args.cells.now) c.args.places.now c.loop-at.at 0
     c.args.queries.now.items c.loop-at.queries.items
     (λ l. CanDelete l c.args.relation.at c.args.cells.now) c.requires.once c.loop-at-test.true
     c.loop-at.invariant.reach
@@ -45,23 +45,23 @@ delete_at-requires-clause-logged g c =
 
 pub loop-at-preserved : goal.loop-at-preserved
 loop-at-preserved g c = record {
-  reach = reach_next (LetsOut c.args.relation.at c.args.cells.now) c.args.places.now c.loop-at.at 0
+  reach = reach_next (QueryDeletes c.args.relation.at c.args.cells.now) c.args.places.now c.loop-at.at 0
       c.args.queries.now.items c.loop-at.queries.items c.delete_at.new.queries.items
       c.requires.once c.loop-at-test.true c.loop-at.invariant.reach c.delete_at.ensures.reach;
-  tends = tends_next (LetsOut c.args.relation.at c.args.cells.now)
+  tends = tends_next (QueryDeletes c.args.relation.at c.args.cells.now)
       (LogTellsAt c.args.watchers.now (λ x d. Went x d c.args.relation.at c.args.cells.now))
       c.args.places.now c.loop-at.at
       0
       c.args.queries.now.items c.loop-at.queries.items c.args.logs.now.items c.loop-at.logs.items
       c.delete_at.new.logs.items
       c.requires.once c.loop-at-test.true c.loop-at.invariant.reach c.loop-at.invariant.tends c.delete_at.ensures.tells;
-  works = works_next (LetsOut c.args.relation.at c.args.cells.now) c.args.places.now c.loop-at.at 0
+  works = works_next (QueryDeletes c.args.relation.at c.args.cells.now) c.args.places.now c.loop-at.at 0
       c.args.queries.now.items c.loop-at.queries.items c.args.relation.at 1 c.args.steps.now.update
       c.loop-at.steps.update c.delete_at.new.steps.update
       c.requires.once c.loop-at-test.true c.loop-at.invariant.reach c.loop-at.invariant.works
       c.delete_at.ensures.updates;
   counted = costs_next (λ x d. Went x d c.args.relation.at c.args.cells.now) c.args.watchers.now c.args.relation.at
-      (LetsOut c.args.relation.at c.args.cells.now) c.args.places.now c.loop-at.at 0
+      (QueryDeletes c.args.relation.at c.args.cells.now) c.args.places.now c.loop-at.at 0
       c.args.queries.now.items c.loop-at.queries.items c.args.steps.now.listing c.loop-at.steps.listing
       c.delete_at.new.steps.listing
       c.requires.once c.loop-at-test.true c.loop-at.invariant.reach c.loop-at.invariant.counted

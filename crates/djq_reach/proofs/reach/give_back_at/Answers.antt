@@ -1,13 +1,13 @@
 -- The place has a query, which is the one read, and what is done to it is done in this place alone.
 use Rattle.djq_live_query.specs.Updating.{CanDelete}
-use Rattle.djq_reach.specs.Reaching.{LetsOut}
+use Rattle.djq_reach.specs.Reaching.{QueryDeletes}
 use Rattle.djq_reach.proofs.PlacedQueries.{below_some, place_read, reach_read}
 use Rattle.djq_reach.proofs.Logs.{works_one}
 use Rattle.djq_reach.proofs.reach.give_back_at.Goals as goal
 
 pub returns-clause-reach : goal.returns-clause-reach
 returns-clause-reach g c =
-    reach_read (LetsOut c.args.relation.at c.args.cells.now) c.args.queries.now.items c.args.at
+    reach_read (QueryDeletes c.args.relation.at c.args.cells.now) c.args.queries.now.items c.args.at
     c.index_mut.result.now c.in-Some.query c.give_back.new.self
     (λ l. CanDelete l c.args.relation.at c.args.cells.now) c.requires c.index_mut.ensures.value
     c.in-Some.is

@@ -6,7 +6,7 @@ use Rattle.djq_model.specs.Data.{Tuple}
 use Rattle.djq_database.specs.Catalog.{Catalog}
 use Rattle.djq_leaves.specs.Changes.{Came}
 use Rattle.djq_live_query.specs.Updating.{CanAdd}
-use Rattle.djq_reach.specs.Reaching.{Remains, TakesIn}
+use Rattle.djq_reach.specs.Reaching.{QueryUnchanged, QueryInserts}
 use Rattle.djq_reach.specs.Tending.{LogShows, LogTellsAt, TellsWhere}
 use Rattle.djq_reach.proofs.PlacedQueries.{below_some, place_read, reach_read}
 use Rattle.djq_reach.proofs.Logs.{costs_one, lists_nothing, on_both, on_err, on_ok, on_refused, shows_either}
@@ -31,11 +31,11 @@ returns g c =
     (λ h. tells_where came wanted l log c.clear_if.new.log c.add.new.log c.clear_if.ensures h) c.add.ensures.log in
     record {
       ok = on_both c.add.result
-          (λ h k. reach_read (TakesIn at cells) gs i query l c.add.new.self (λ l. CanAdd l at cells) c.requires.can
+          (λ h k. reach_read (QueryInserts at cells) gs i query l c.add.new.self (λ l. CanAdd l at cells) c.requires.can
           c.index_mut.ensures.value c.in-Some.is (record { follows = h; same = c.add.ensures.same; grows = k }))
           c.add.ensures.added c.add.ensures.grows;
       err = on_err c.add.result
-          (λ h. reach_read Remains gs i query l c.add.new.self (λ l. CanAdd l at cells) c.requires.can
+          (λ h. reach_read QueryUnchanged gs i query l c.add.new.self (λ l. CanAdd l at cells) c.requires.can
           c.index_mut.ensures.value c.in-Some.is (record { kept = h; same = c.add.ensures.same }))
           c.add.ensures.refused;
       tells = on_ok c.add.result

@@ -2,7 +2,7 @@
 use Rattle.std.proofs.Common.{◌+◌, arith, take, ◌∙◌, refl}
 use Rattle.djq_leaves.specs.Changes.{Came}
 use Rattle.djq_live_query.specs.Updating.{CanAdd}
-use Rattle.djq_reach.specs.Reaching.{TakesIn}
+use Rattle.djq_reach.specs.Reaching.{QueryInserts}
 use Rattle.djq_reach.specs.Tending.{LogShows, LogTellsAt}
 use Rattle.djq_reach.proofs.PlacedQueries.{all_come, front_goes, given_back, once_front, reach_next, reach_none, still}
 use Rattle.djq_reach.proofs.Logs.{costs_front, costs_next, costs_none, place_within, shows_front, tells_show}
@@ -11,7 +11,7 @@ use Rattle.djq_reach.proofs.reach.insert_into_readers.Goals as goal
 
 pub loop-at-init : goal.loop-at-init
 loop-at-init g c = record {
-  reach = reach_none (TakesIn c.args.relation.at c.args.cells.now) c.args.queries.now.items;
+  reach = reach_none (QueryInserts c.args.relation.at c.args.cells.now) c.args.queries.now.items;
   tends = tends_none (LogTellsAt c.args.watchers.now (λ x d. Came x d c.args.relation.at c.args.cells.now))
       c.args.queries.now.items c.args.logs.now.items;
   works = works_none c.args.queries.now.items c.args.relation.at 1 c.args.steps.now.update;
@@ -22,7 +22,7 @@ loop-at-init g c = record {
 
 pub insert_at-requires-clause-can : goal.insert_at-requires-clause-can
 insert_at-requires-clause-can g c =
-    still (TakesIn c.args.relation.at c.args.cells.now) c.args.places.now c.loop-at.at 0
+    still (QueryInserts c.args.relation.at c.args.cells.now) c.args.places.now c.loop-at.at 0
     c.args.queries.now.items c.loop-at.queries.items
     (λ l. CanAdd l c.args.relation.at c.args.cells.now) c.requires.once c.loop-at-test.true
     c.loop-at.invariant.reach
@@ -63,7 +63,7 @@ pub returns-in-Err-clause-shows : goal.returns-in-Err-clause-shows
 returns-in-Err-clause-shows g c =
     shows_front (λ x d. Came x d c.args.relation.at c.args.cells.now) c.args.places.now (c.loop-at.at + 1)
     c.args.queries.now.items c.args.logs.now.items c.insert_at.new.logs.items
-    (tends_next (TakesIn c.args.relation.at c.args.cells.now)
+    (tends_next (QueryInserts c.args.relation.at c.args.cells.now)
     (LogShows (λ x d. Came x d c.args.relation.at c.args.cells.now)) c.args.places.now c.loop-at.at 0
     c.args.queries.now.items c.loop-at.queries.items c.args.logs.now.items c.loop-at.logs.items
     c.insert_at.new.logs.items
@@ -79,7 +79,7 @@ returns-in-Err-clause-counted g c =
     c.args.places.now (c.loop-at.at + 1) c.args.queries.now.items c.args.steps.now.listing
     c.give_back.new.steps.listing
     (costs_next (λ x d. Came x d c.args.relation.at c.args.cells.now) c.args.watchers.now c.args.relation.at
-    (TakesIn c.args.relation.at c.args.cells.now) c.args.places.now c.loop-at.at 0
+    (QueryInserts c.args.relation.at c.args.cells.now) c.args.places.now c.loop-at.at 0
     c.args.queries.now.items c.loop-at.queries.items c.args.steps.now.listing c.loop-at.steps.listing
     c.give_back.new.steps.listing
     c.requires.once c.loop-at-test.true c.loop-at.invariant.reach c.loop-at.invariant.counted
@@ -115,22 +115,22 @@ returns-clause-counted g c =
 
 pub loop-at-preserved : goal.loop-at-preserved
 loop-at-preserved g c = record {
-  reach = reach_next (TakesIn c.args.relation.at c.args.cells.now) c.args.places.now c.loop-at.at 0
+  reach = reach_next (QueryInserts c.args.relation.at c.args.cells.now) c.args.places.now c.loop-at.at 0
       c.args.queries.now.items c.loop-at.queries.items c.insert_at.new.queries.items c.requires.once
       c.loop-at-test.true c.loop-at.invariant.reach c.in-Ok.ensures.ok;
-  tends = tends_next (TakesIn c.args.relation.at c.args.cells.now)
+  tends = tends_next (QueryInserts c.args.relation.at c.args.cells.now)
       (LogTellsAt c.args.watchers.now (λ x d. Came x d c.args.relation.at c.args.cells.now))
       c.args.places.now c.loop-at.at
       0
       c.args.queries.now.items c.loop-at.queries.items c.args.logs.now.items c.loop-at.logs.items
       c.insert_at.new.logs.items
       c.requires.once c.loop-at-test.true c.loop-at.invariant.reach c.loop-at.invariant.tends c.in-Ok.ensures.tells;
-  works = works_next (TakesIn c.args.relation.at c.args.cells.now) c.args.places.now c.loop-at.at 0
+  works = works_next (QueryInserts c.args.relation.at c.args.cells.now) c.args.places.now c.loop-at.at 0
       c.args.queries.now.items c.loop-at.queries.items c.args.relation.at 1 c.args.steps.now.update
       c.loop-at.steps.update c.insert_at.new.steps.update
       c.requires.once c.loop-at-test.true c.loop-at.invariant.reach c.loop-at.invariant.works c.in-Ok.ensures.updates;
   counted = costs_next (λ x d. Came x d c.args.relation.at c.args.cells.now) c.args.watchers.now c.args.relation.at
-      (TakesIn c.args.relation.at c.args.cells.now) c.args.places.now c.loop-at.at 0
+      (QueryInserts c.args.relation.at c.args.cells.now) c.args.places.now c.loop-at.at 0
       c.args.queries.now.items c.loop-at.queries.items c.args.steps.now.listing c.loop-at.steps.listing
       c.insert_at.new.steps.listing
       c.requires.once c.loop-at-test.true c.loop-at.invariant.reach c.loop-at.invariant.counted

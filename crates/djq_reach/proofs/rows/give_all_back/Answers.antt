@@ -1,7 +1,7 @@
 -- No place stands twice, so the query in the next place is as it was and still has the rows to give.
 use Rattle.std.proofs.Common.{◌∙◌, ◌+◌, refl, false, length}
 use Rattle.djq_propagate.specs.Updates.{HasAtMost}
-use Rattle.djq_reach.specs.Batching.{CanGiveAll, LetsOutAll}
+use Rattle.djq_reach.specs.Batching.{CanGiveAll, QueryDeletesAll}
 use Rattle.djq_reach.specs.Tending.{work_of}
 use Rattle.djq_reach.proofs.Batches.{all_go_out, bounds_front, bounds_next, bounds_none}
 use Rattle.djq_reach.proofs.PlacedQueries.{reach_next, reach_none, still}
@@ -9,7 +9,7 @@ use Rattle.djq_reach.proofs.rows.give_all_back.Goals as goal
 
 pub loop-at-init : goal.loop-at-init
 loop-at-init g c = record {
-  reach = reach_none (LetsOutAll c.args.relation.at c.args.rows.now) c.args.queries.now.items;
+  reach = reach_none (QueryDeletesAll c.args.relation.at c.args.rows.now) c.args.queries.now.items;
   works = bounds_none (λ n l. HasAtMost l.reducts n)
       (λ n o. work_of c.args.relation.at (length c.args.rows.now) (n + 0) false o) c.args.queries.now.items
       c.args.steps.now.update;
@@ -25,7 +25,7 @@ returns-clause-updates g c =
 
 pub give_rows_back_at-requires : goal.give_rows_back_at-requires
 give_rows_back_at-requires g c =
-    still (LetsOutAll c.args.relation.at c.args.rows.now) c.args.places.now c.loop-at.at 0
+    still (QueryDeletesAll c.args.relation.at c.args.rows.now) c.args.places.now c.loop-at.at 0
     c.args.queries.now.items c.loop-at.queries.items
     (λ l. CanGiveAll l c.args.relation.at c.args.rows.now) c.requires.once c.loop-at-test.true
     c.loop-at.invariant.reach
@@ -34,12 +34,12 @@ give_rows_back_at-requires g c =
 
 pub loop-at-preserved : goal.loop-at-preserved
 loop-at-preserved g c = record {
-  reach = reach_next (LetsOutAll c.args.relation.at c.args.rows.now) c.args.places.now c.loop-at.at 0
+  reach = reach_next (QueryDeletesAll c.args.relation.at c.args.rows.now) c.args.places.now c.loop-at.at 0
       c.args.queries.now.items c.loop-at.queries.items c.give_rows_back_at.new.queries.items
       c.requires.once c.loop-at-test.true c.loop-at.invariant.reach c.give_rows_back_at.ensures.reach;
   works = bounds_next (λ n l. HasAtMost l.reducts n)
       (λ n o. work_of c.args.relation.at (length c.args.rows.now) (n + 0) false o)
-      (LetsOutAll c.args.relation.at c.args.rows.now) c.args.places.now c.loop-at.at 0
+      (QueryDeletesAll c.args.relation.at c.args.rows.now) c.args.places.now c.loop-at.at 0
       c.args.queries.now.items c.loop-at.queries.items c.args.steps.now.update
       c.loop-at.steps.update c.give_rows_back_at.new.steps.update
       c.requires.once c.loop-at-test.true c.loop-at.invariant.reach c.loop-at.invariant.works

@@ -3,7 +3,7 @@ use Rattle.std.proofs.Common.{◌+◌, arith, take, ◌∙◌, refl, false, leng
 use Rattle.djq_propagate.specs.Updates.{HasAtMost}
 use Rattle.djq_leaves.specs.Changes.{CameAll}
 use Rattle.djq_live_query.specs.Updating.{CanAddAll}
-use Rattle.djq_reach.specs.Batching.{LogsAt, TakesInAll}
+use Rattle.djq_reach.specs.Batching.{LogsAt, QueryInsertsAll}
 use Rattle.djq_reach.specs.Tending.{work_of}
 use Rattle.djq_reach.proofs.Batches.{all_come_in, batch_back, bounds_front, bounds_next, bounds_none, front_gives}
 use Rattle.djq_reach.proofs.Batches.{given_all_back, others_front, others_next, others_none}
@@ -13,7 +13,7 @@ use Rattle.djq_reach.proofs.rows.insert_all_into_readers.Goals as goal
 
 pub loop-at-init : goal.loop-at-init
 loop-at-init g c = record {
-  reach = reach_none (TakesInAll c.args.relation.at c.args.rows.now) c.args.queries.now.items;
+  reach = reach_none (QueryInsertsAll c.args.relation.at c.args.rows.now) c.args.queries.now.items;
   tends = tends_none (LogsAt c.args.watchers.now (λ x d. CameAll x d c.args.relation.at c.args.rows.now))
       c.args.queries.now.items c.args.logs.now.items;
   others = others_none c.args.logs.now.items;
@@ -27,7 +27,7 @@ loop-at-init g c = record {
 
 pub insert_rows_at-requires-clause-can : goal.insert_rows_at-requires-clause-can
 insert_rows_at-requires-clause-can g c =
-    still (TakesInAll c.args.relation.at c.args.rows.now) c.args.places.now c.loop-at.at 0
+    still (QueryInsertsAll c.args.relation.at c.args.rows.now) c.args.places.now c.loop-at.at 0
     c.args.queries.now.items c.loop-at.queries.items
     (λ l. CanAddAll l c.args.relation.at c.args.rows.now) c.requires.once c.loop-at-test.true
     c.loop-at.invariant.reach
@@ -77,7 +77,7 @@ returns-in-Err-clause-counted g c =
     c.args.places.now (c.loop-at.at + 1) c.args.queries.now.items c.args.steps.now.listing
     c.give_all_back.new.steps.listing
     (costs_next (λ x d. CameAll x d c.args.relation.at c.args.rows.now) c.args.watchers.now c.args.relation.at
-    (TakesInAll c.args.relation.at c.args.rows.now) c.args.places.now c.loop-at.at 0
+    (QueryInsertsAll c.args.relation.at c.args.rows.now) c.args.places.now c.loop-at.at 0
     c.args.queries.now.items c.loop-at.queries.items c.args.steps.now.listing c.loop-at.steps.listing
     c.give_all_back.new.steps.listing
     c.requires.once c.loop-at-test.true c.loop-at.invariant.reach c.loop-at.invariant.counted
@@ -119,10 +119,10 @@ returns-clause-unlisted g c = c.loop-at.invariant.unlisted
 
 pub loop-at-preserved : goal.loop-at-preserved
 loop-at-preserved g c = record {
-  reach = reach_next (TakesInAll c.args.relation.at c.args.rows.now) c.args.places.now c.loop-at.at 0
+  reach = reach_next (QueryInsertsAll c.args.relation.at c.args.rows.now) c.args.places.now c.loop-at.at 0
       c.args.queries.now.items c.loop-at.queries.items c.insert_rows_at.new.queries.items c.requires.once
       c.loop-at-test.true c.loop-at.invariant.reach c.in-Ok.ensures.ok;
-  tends = tends_next (TakesInAll c.args.relation.at c.args.rows.now)
+  tends = tends_next (QueryInsertsAll c.args.relation.at c.args.rows.now)
       (LogsAt c.args.watchers.now (λ x d. CameAll x d c.args.relation.at c.args.rows.now)) c.args.places.now
       c.loop-at.at 0
       c.args.queries.now.items c.loop-at.queries.items c.args.logs.now.items c.loop-at.logs.items
@@ -133,12 +133,12 @@ loop-at-preserved g c = record {
       c.loop-at-test.true c.loop-at.invariant.others c.insert_rows_at.ensures.others;
   works = bounds_next (λ n l. HasAtMost l.reducts n)
       (λ n o. work_of c.args.relation.at 1 (n + length c.args.rows.now) false o)
-      (TakesInAll c.args.relation.at c.args.rows.now) c.args.places.now c.loop-at.at 0
+      (QueryInsertsAll c.args.relation.at c.args.rows.now) c.args.places.now c.loop-at.at 0
       c.args.queries.now.items c.loop-at.queries.items c.args.steps.now.update
       c.loop-at.steps.update c.insert_rows_at.new.steps.update
       c.requires.once c.loop-at-test.true c.loop-at.invariant.reach c.loop-at.invariant.works c.in-Ok.ensures.updates;
   counted = costs_next (λ x d. CameAll x d c.args.relation.at c.args.rows.now) c.args.watchers.now c.args.relation.at
-      (TakesInAll c.args.relation.at c.args.rows.now) c.args.places.now c.loop-at.at 0
+      (QueryInsertsAll c.args.relation.at c.args.rows.now) c.args.places.now c.loop-at.at 0
       c.args.queries.now.items c.loop-at.queries.items c.args.steps.now.listing c.loop-at.steps.listing
       c.insert_rows_at.new.steps.listing
       c.requires.once c.loop-at-test.true c.loop-at.invariant.reach c.loop-at.invariant.counted

@@ -3,7 +3,7 @@ use Rattle.std.proofs.Common.{◌∙◌, ◌+◌, subst, Bool, false, length}
 use Rattle.djq_leaves.specs.Changes.{CameAll}
 use Rattle.djq_live_query.specs.Updating.{CanAddAll, LogsWhere}
 use Rattle.djq_propagate.specs.Updates.{HasAtMost}
-use Rattle.djq_reach.specs.Batching.{LogsAt, StaysUnchanged, TakesInAll}
+use Rattle.djq_reach.specs.Batching.{LogsAt, StaysUnchanged, QueryInsertsAll}
 use Rattle.djq_reach.specs.Tending.{work_of}
 use Rattle.djq_reach.proofs.Batches.{bounds_one, others_set}
 use Rattle.djq_reach.proofs.PlacedQueries.{below_some, place_read, reach_read}
@@ -13,7 +13,7 @@ use Rattle.djq_reach.proofs.rows.insert_rows_at.Goals as goal
 pub returns-clause-ok : goal.returns-clause-ok
 returns-clause-ok g c =
     on_both c.add_many.result
-    (λ h k. reach_read (TakesInAll c.args.relation.at c.args.rows.now) c.args.queries.now.items c.args.at
+    (λ h k. reach_read (QueryInsertsAll c.args.relation.at c.args.rows.now) c.args.queries.now.items c.args.at
     c.index_mut.result.now c.in-Some.query c.add_many.new.self
     (λ l. CanAddAll l c.args.relation.at c.args.rows.now) c.requires.can c.index_mut.ensures.value c.in-Some.is
     (record { follows = h; same = c.add_many.ensures.same; grows = k })) c.add_many.ensures.added

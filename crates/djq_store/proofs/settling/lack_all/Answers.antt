@@ -1,6 +1,6 @@
 -- Unions before the slot are settled and those from it on are as they were, so their members are still there.
 use Rattle.std.proofs.Common.{◌<◌, ◌∙◌, arith, length}
-use Rattle.djq_store.specs.declared.settling.Turn.TheVariants.{Lacked}
+use Rattle.djq_store.specs.declared.settling.UnionUpdate.TheVariants.{Lacked}
 use Rattle.djq_store.specs.Settling.{named_by}
 use Rattle.djq_store.proofs.Readers.{slot_old, members_there, done_more, rest_more, long_more}
 use Rattle.djq_store.proofs.settling.lack_all.Goals as goal

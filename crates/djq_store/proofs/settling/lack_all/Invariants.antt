@@ -1,5 +1,5 @@
 use Rattle.std.proofs.Common.{◌≡◌, ◌<◌, ◌≤◌, ℕ, length}
-use Rattle.djq_store.specs.declared.settling.Turn.TheVariants.{Lacked}
+use Rattle.djq_store.specs.declared.settling.UnionUpdate.TheVariants.{Lacked}
 use Rattle.djq_store.specs.Places.{joined_at}
 use Rattle.djq_store.specs.Settling.{SettlesAt, named_by}
 use Rattle.djq_store.proofs.settling.lack_all.Given as goal

@@ -2,7 +2,7 @@
 use Rattle.std.proofs.Common.{◌≡◌, ◌+◌, ◌-◌, ◌<◌, ◌∙◌, ℕ, List, [], length, get_or, sym, subst, ap, arith}
 use Rattle.std.proofs.lemmas.List.{get_or_default}
 use Rattle.std.specs.Prelude.{Option, Some, IsSomeAnd, AllPairs}
-use Rattle.djq_engine.specs.Kept.{Kept, registered_at, with_watchers}
+use Rattle.djq_engine.specs.StoreModel.{StoreModel, registered_at, with_watchers}
 use Rattle.djq_engine.specs.Places.{id_at}
 use Rattle.djq_store.specs.declared.joined.Joined.{Joined}
 use Rattle.djq_store.specs.Counting.{with_watchers_at}
@@ -11,16 +11,16 @@ use Rattle.djq_store.specs.Whole.{IsListed, IsCounted}
 use Rattle.djq_store.proofs.UnionWatchers.{old_is, on_listed, on_seen, on_counted, last_counted, member_heard, old_few}
 use Rattle.djq_store.proofs.watching.unwatch_union.Goals as goal
 
-pub ignore-requires : goal.ignore-requires
-ignore-requires c =
+pub remove_watcher-requires : goal.remove_watcher-requires
+remove_watcher-requires c =
     let j = c.joined_in-joined.result.now in
     let found = subst (λ (us : List (Option Joined)). joined_at us c.args.slot ≡ Some j) c.as_slice.ensures.value
     c.joined_in-joined.ensures in
     let some = subst (λ (o : Option Joined). IsSomeAnd o (λ j. 0 < j.watchers)) found c.requires.some in
     subst (λ (o : Option Joined). IsSomeAnd o (λ j. 0 < j.watchers)) (sym found) some
 
-pub ignore-requires-2 : goal.ignore-requires-2
-ignore-requires-2 c =
+pub remove_watcher-requires-2 : goal.remove_watcher-requires-2
+remove_watcher-requires-2 c =
     let j = c.joined_in-joined.result.now in
     let found = subst (λ (us : List (Option Joined)). joined_at us c.args.slot ≡ Some j) c.as_slice.ensures.value
     c.joined_in-joined.ensures in
@@ -34,30 +34,30 @@ returns-then-joined-gt1 c =
     let found = subst (λ (us : List (Option Joined)). joined_at us c.args.slot ≡ Some j) c.as_slice.ensures.value
     c.joined_in-joined.ensures in
     let some = subst (λ (o : Option Joined). IsSomeAnd o (λ j. 0 < j.watchers)) found c.requires.some in
-    let m = c.ignore.ensures in
+    let m = c.remove_watcher.ensures in
     let is = old_is old.engine old.unions.items old.order.items old.sessions.items old.affected.items
-    c.requires.whole.listed c.requires.whole.counted c.args.slot (λ n. n - 1) c.ignore.new.unions.items m j found in
+    c.requires.whole.listed c.requires.whole.counted c.args.slot (λ n. n - 1) c.remove_watcher.new.unions.items m j found in
     let same : m.old.watchers ≡ j.watchers = ap (λ (x : Joined). x.watchers) is in
     record {
       whole = record {
         listed = on_listed old.engine old.unions.items old.order.items old.sessions.items old.affected.items
-            c.requires.whole.listed c.requires.whole.counted c.args.slot (λ n. n - 1) c.ignore.new.unions.items m
+            c.requires.whole.listed c.requires.whole.counted c.args.slot (λ n. n - 1) c.remove_watcher.new.unions.items m
             (λ n. n)
             [];
         counted = on_counted old.engine old.unions.items old.order.items old.sessions.items old.affected.items
-            c.requires.whole.listed c.requires.whole.counted c.args.slot (λ n. n - 1) c.ignore.new.unions.items m
+            c.requires.whole.listed c.requires.whole.counted c.args.slot (λ n. n - 1) c.remove_watcher.new.unions.items m
             (omega (arith, same, some)) (omega (arith, same, c.if-joined-gt1.true))
             (omega (
               arith,
               old_few old.engine old.unions.items old.order.items old.sessions.items old.affected.items
                   c.requires.whole.listed c.requires.whole.counted c.args.slot (λ n. n - 1)
-                  c.ignore.new.unions.items m,
+                  c.remove_watcher.new.unions.items m,
             ));
         roomy = record { order = c.requires.whole.roomy.order; affected = c.requires.whole.roomy.affected };
       };
       watches = on_seen old.engine old.unions.items old.order.items old.sessions.items old.affected.items
           c.requires.whole.listed
-          c.requires.whole.counted c.args.slot (λ n. n - 1) c.ignore.new.unions.items m old.engine.registered;
+          c.requires.whole.counted c.args.slot (λ n. n - 1) c.remove_watcher.new.unions.items m old.engine.registered;
     }
 
 pub unwatch_members-requires : goal.unwatch_members-requires
@@ -87,32 +87,32 @@ returns c =
     let found = subst (λ (us : List (Option Joined)). joined_at us c.args.slot ≡ Some j) c.as_slice.ensures.value
     c.joined_in-joined.ensures in
     let some = subst (λ (o : Option Joined). IsSomeAnd o (λ j. 0 < j.watchers)) found c.requires.some in
-    let m = c.ignore-2.ensures in
+    let m = c.remove_watcher-2.ensures in
     let is = old_is old.engine old.unions.items old.order.items old.sessions.items old.affected.items
-    c.requires.whole.listed c.requires.whole.counted c.args.slot (λ n. n - 1) c.ignore-2.new.unions.items m j found in
+    c.requires.whole.listed c.requires.whole.counted c.args.slot (λ n. n - 1) c.remove_watcher-2.new.unions.items m j found in
     let same : m.old.watchers ≡ j.watchers = ap (λ (x : Joined). x.watchers) is in
     let members = c.members.ensures ∙ ap (λ (x : Joined). x.union.members) (sym is) in
     record {
       whole = record {
-        listed = subst (λ (x : Kept). IsListed x c.ignore-2.new.unions.items old.order.items)
+        listed = subst (λ (x : StoreModel). IsListed x c.remove_watcher-2.new.unions.items old.order.items)
             (sym c.unwatch_members.ensures)
             (on_listed old.engine old.unions.items old.order.items old.sessions.items old.affected.items
-            c.requires.whole.listed c.requires.whole.counted c.args.slot (λ n. n - 1) c.ignore-2.new.unions.items m
+            c.requires.whole.listed c.requires.whole.counted c.args.slot (λ n. n - 1) c.remove_watcher-2.new.unions.items m
             (λ n. n - 1) c.members.result.now);
-        counted = subst (λ (x : Kept). IsCounted x c.ignore-2.new.unions.items old.sessions.items)
+        counted = subst (λ (x : StoreModel). IsCounted x c.remove_watcher-2.new.unions.items old.sessions.items)
             (sym c.unwatch_members.ensures)
             (last_counted old.engine old.unions.items old.order.items old.sessions.items old.affected.items
-            c.requires.whole.listed c.requires.whole.counted c.args.slot (λ n. n - 1) c.ignore-2.new.unions.items m
+            c.requires.whole.listed c.requires.whole.counted c.args.slot (λ n. n - 1) c.remove_watcher-2.new.unions.items m
             (omega (arith, same, some)) (omega (arith, same, c.if-joined-gt1.false)) c.members.result.now members);
         roomy = record { order = c.requires.whole.roomy.order; affected = c.requires.whole.roomy.affected };
       };
-      watches = subst (λ (x : Kept). store_seen x c.ignore-2.new.unions.items old.order.items old.sessions.items
+      watches = subst (λ (x : StoreModel). store_seen x c.remove_watcher-2.new.unions.items old.order.items old.sessions.items
           old.affected.items
           ≡ record (store_kept_in old)
           { registered = with_watchers (id_at (256 + c.args.slot)) (λ n. n - 1) (store_kept_in old).registered })
           (sym c.unwatch_members.ensures)
           (on_seen old.engine old.unions.items old.order.items old.sessions.items old.affected.items
           c.requires.whole.listed
-          c.requires.whole.counted c.args.slot (λ n. n - 1) c.ignore-2.new.unions.items m
+          c.requires.whole.counted c.args.slot (λ n. n - 1) c.remove_watcher-2.new.unions.items m
           (with_watchers_at (λ n. n - 1) c.members.result.now old.engine.registered));
     }

@@ -3,8 +3,8 @@ use Rattle.std.proofs.Common.{◌≡◌, ◌<◌, ◌∙◌, length, length-set,
 use Rattle.djq_texts.proofs.Index.{place_inside, came}
 use Rattle.djq_texts.proofs.store.append.Goals as goal
 
-pub push_bucket-requires-clause-class : goal.push_bucket-requires-clause-class
-push_bucket-requires-clause-class c = subst (λ (n : ℕ). n < length c.args.store.now.heads.items) (sym c.requires.to)
+pub push_bucket-requires-clause-bucket_number : goal.push_bucket-requires-clause-bucket_number
+push_bucket-requires-clause-bucket_number c = subst (λ (n : ℕ). n < length c.args.store.now.heads.items) (sym c.requires.to)
     (place_inside (length c.args.store.now.heads.items) c.args.entry c.requires.index.some)
 
 pub returns-clause-index : goal.returns-clause-index

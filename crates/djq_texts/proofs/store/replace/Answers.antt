@@ -4,16 +4,16 @@ use Rattle.djq_arena.proofs.Buckets.{unlisted_links, unlisted_heads}
 use Rattle.djq_texts.proofs.Index.{falls_inside, place_inside, stands, moved}
 use Rattle.djq_texts.proofs.store.replace.Goals as goal
 
-pub unlist-requires-clause-class : goal.unlist-requires-clause-class
-unlist-requires-clause-class c = falls_inside c.args.store.now.entries.items c.args.store.now.links.items
+pub unlist-requires-clause-bucket_number : goal.unlist-requires-clause-bucket_number
+unlist-requires-clause-bucket_number c = falls_inside c.args.store.now.entries.items c.args.store.now.links.items
     c.args.store.now.heads.items c.args.number c.args.from c.requires.index c.requires.from
 
 pub unlist-requires-clause-stands : goal.unlist-requires-clause-stands
 unlist-requires-clause-stands c = stands c.args.store.now.entries.items c.args.store.now.links.items
     c.args.store.now.heads.items c.args.number c.args.from c.requires.index c.requires.number c.requires.from
 
-pub push_bucket-requires-clause-class : goal.push_bucket-requires-clause-class
-push_bucket-requires-clause-class c = omega (
+pub push_bucket-requires-clause-bucket_number : goal.push_bucket-requires-clause-bucket_number
+push_bucket-requires-clause-bucket_number c = omega (
   arith,
   unlisted_heads _ _ _ _ c.args.from c.args.number c.unlist.ensures.unlisted,
   subst (λ (n : ℕ). n < length c.args.store.now.heads.items) (sym c.requires.to)

@@ -10,8 +10,8 @@ use Rattle.djq_transaction.specs.Grouped.{IsEntryOf}
 use Rattle.djq_transaction.proofs.Entries.{HasLine, line_of}
 use Rattle.djq_transaction.proofs.Joining.{came_joins, went_joins, not_came, not_went, came_for_good, all_grouped}
 use Rattle.djq_transaction.proofs.groups.group_rows.Goals as goal
-use Rattle.djq_transaction.proofs.groups.group_rows.Goals.{then-came+in_ok-join_group, else-came+else-went}
-use Rattle.djq_transaction.proofs.groups.group_rows.Goals.{else-came+then-went+in_ok-join_group-2}
+use Rattle.djq_transaction.proofs.groups.group_rows.Goals.{then-came+in_ok-push_to_group, else-came+else-went}
+use Rattle.djq_transaction.proofs.groups.group_rows.Goals.{else-came+then-went+in_ok-push_to_group-2}
 
 -- the line at the place
 module _ (c : goal.Joined-came) (lines : List spec.HeldLine)
@@ -29,13 +29,13 @@ module _ (c : goal.Joined-came) (lines : List spec.HeldLine)
 
 pub loop-place-preserved : goal.loop-place-preserved
 loop-place-preserved c = elim c.if-came.branch [
-  | then-came+in_ok-join_group w ↦ record {
+  | then-came+in_ok-push_to_group w ↦ record {
     come = λ lines j.
         ap (λ (v : Vec Group Global). v.items) w.come-is
         ∙ came_joins c.args.catalog.now.relations c.args.catalog.now.texts lines c.loop-place.place c.index.result.now
         c.row-cells.result.0 c.row-cells.result.1 j.rows.suit (line c lines j) (entry c lines j)
-        c.loop-place.come.items w.join_group.new.groups.items (sym c.came.ensures ∙ w.if-came.true)
-        (c.loop-place.invariant.come lines j) w.in_ok-join_group.ensures;
+        c.loop-place.come.items w.push_to_group.new.groups.items (sym c.came.ensures ∙ w.if-came.true)
+        (c.loop-place.invariant.come lines j) w.in_ok-push_to_group.ensures;
     gone = λ lines j.
         ap (λ (v : Vec Group Global). v.items) w.gone-is
         ∙ not_went c.args.catalog.now.relations c.args.catalog.now.texts lines c.loop-place.place c.index.result.now
@@ -44,7 +44,7 @@ loop-place-preserved c = elim c.if-came.branch [
         c.loop-place.place c.index.result.now c.row-cells.result.0 c.row-cells.result.1 j.rows.suit (line c lines j)
         (entry c lines j) (sym c.came.ensures ∙ w.if-came.true)) (c.loop-place.invariant.gone lines j);
   }
-  | else-came+then-went+in_ok-join_group-2 w ↦ record {
+  | else-came+then-went+in_ok-push_to_group-2 w ↦ record {
     come = λ lines j.
         ap (λ (v : Vec Group Global). v.items) w.come-is
         ∙ not_came c.args.catalog.now.relations c.args.catalog.now.texts lines c.loop-place.place c.index.result.now
@@ -54,8 +54,8 @@ loop-place-preserved c = elim c.if-came.branch [
         ap (λ (v : Vec Group Global). v.items) w.gone-is
         ∙ went_joins c.args.catalog.now.relations c.args.catalog.now.texts lines c.loop-place.place c.index.result.now
         c.row-cells.result.0 c.row-cells.result.1 j.rows.suit (line c lines j) (entry c lines j)
-        c.loop-place.gone.items w.join_group-then-went.new.groups.items (sym w.went.ensures ∙ w.if-went.true)
-        (c.loop-place.invariant.gone lines j) w.in_ok-join_group-2.ensures;
+        c.loop-place.gone.items w.push_to_group-then-went.new.groups.items (sym w.went.ensures ∙ w.if-went.true)
+        (c.loop-place.invariant.gone lines j) w.in_ok-push_to_group-2.ensures;
   }
   | else-came+else-went w ↦ record {
     come = λ lines j.

@@ -7,7 +7,7 @@ use Rattle.djq_machine.specs.Step.{closed}
 use Rattle.djq_machine.specs.Run.{pending_of}
 use Rattle.djq_machine.specs.Call.{Makes}
 use Rattle.djq_commands.specs.Sound.{BatchSuits, IsSound}
-use Rattle.djq_commands.specs.Views.{Talk, state_in, Visible}
+use Rattle.djq_commands.specs.Views.{SessionModel, state_in, Visible}
 use Rattle.djq_core.specs.Sessions.{opened_at}
 use Rattle.djq_core.proofs.Loads.{suits_at, suited_gone, suited_set}
 use Rattle.djq_core.proofs.SessionSteps.{here, is_there, stands, owns, closes}
@@ -17,8 +17,8 @@ pub find-at-requires : goal.find-at-requires
 find-at-requires c = is_there c.self.inside.engine (c.args.self.now).state c.self.inside.stopped
     c.self.inside.sessions c.args.id (ap (λ (v : Visible). v.state) c.self.view_is) c.requires
 
-pub give_up-requires : goal.give_up-requires
-give_up-requires c =
+pub release_session-requires : goal.release_session-requires
+release_session-requires c =
     let h = here c.self.inside.engine c.self.inside.sessions c.find-at.result c.args.id
     c.get_mut-found.result.now c.self.invariant.0 c.find-at.ensures.within c.find-at.ensures.there
     c.get_mut-found.ensures.value in
@@ -31,21 +31,21 @@ invariant_of-self c =
     c.get_mut-found.result.now c.self.invariant.0 c.find-at.ensures.within c.find-at.ensures.there
     c.get_mut-found.ensures.value in
     let within = c.find-at.ensures.within in
-    let d = c.give_up.new.session in
-    let same = ap (λ (x : Talk). x.batch) c.give_up.ensures.gives_up.session in
+    let d = c.release_session.new.session in
+    let same = ap (λ (x : SessionModel). x.batch) c.release_session.ensures.gives_up.session in
     let own = subst (BatchSuits (c.self.inside.engine).store) (sym same)
     (suits_at (c.self.inside.engine).store c.self.inside.batch c.self.inside.sessions c.find-at.result
     (opened_at c.self.inside.sessions c.find-at.result c.get_mut-found.result.now) c.self.invariant.1 within (stands
     c.self.inside.sessions c.find-at.result (opened_at c.self.inside.sessions c.find-at.result
     c.get_mut-found.result.now) c.get_mut-found.ensures.value)) in
-    let put = suited_set (c.self.inside.engine).store (c.give_up.new.engine).store c.self.inside.batch
+    let put = suited_set (c.self.inside.engine).store (c.release_session.new.engine).store c.self.inside.batch
     c.self.inside.sessions c.find-at.result (opened_at c.self.inside.sessions c.find-at.result d)
-    c.self.invariant.1 c.give_up.ensures.gives_up.store own in (
-      subst (IsSound c.give_up.new.engine) (sym c.remove.ensures)
-          (closes c.self.inside.engine c.give_up.new.engine c.self.inside.sessions c.find-at.result c.args.id
+    c.self.invariant.1 c.release_session.ensures.gives_up.store own in (
+      subst (IsSound c.release_session.new.engine) (sym c.remove.ensures)
+          (closes c.self.inside.engine c.release_session.new.engine c.self.inside.sessions c.find-at.result c.args.id
           (opened_at c.self.inside.sessions c.find-at.result c.get_mut-found.result.now) d c.self.inside.stopped h within
-          c.give_up.ensures.gives_up).1,
-      suited_gone (c.give_up.new.engine).store c.self.inside.batch
+          c.release_session.ensures.gives_up).1,
+      suited_gone (c.release_session.new.engine).store c.self.inside.batch
           (set c.self.inside.sessions c.find-at.result (opened_at c.self.inside.sessions c.find-at.result d))
           c.remove.new.self c.find-at.result put c.remove.ensures,
     )
@@ -58,13 +58,13 @@ returns c =
     let within = c.find-at.ensures.within in
     subst (λ (ys : List OpenSession). Makes (c.args.self.now).state
     (closed c.args.id (pending_of (c.args.self.now).state c.args.id))
-    (state_in c.give_up.new.engine c.self.inside.stopped ys)) (sym c.remove.ensures)
+    (state_in c.release_session.new.engine c.self.inside.stopped ys)) (sym c.remove.ensures)
     (subst (λ (st : State). Makes st (closed c.args.id (pending_of st c.args.id))
-    (state_in c.give_up.new.engine c.self.inside.stopped
+    (state_in c.release_session.new.engine c.self.inside.stopped
     (remove (set c.self.inside.sessions c.find-at.result
-    (opened_at c.self.inside.sessions c.find-at.result c.give_up.new.session)) c.find-at.result)))
+    (opened_at c.self.inside.sessions c.find-at.result c.release_session.new.session)) c.find-at.result)))
     (ap (λ (v : Visible). v.state) c.self.view_is)
-    (closes c.self.inside.engine c.give_up.new.engine c.self.inside.sessions
+    (closes c.self.inside.engine c.release_session.new.engine c.self.inside.sessions
     c.find-at.result c.args.id (opened_at c.self.inside.sessions c.find-at.result c.get_mut-found.result.now)
-    c.give_up.new.session c.self.inside.stopped
-    h within c.give_up.ensures.gives_up).0)
+    c.release_session.new.session c.self.inside.stopped
+    h within c.release_session.ensures.gives_up).0)

@@ -8,7 +8,7 @@ use Rattle.djq_machine.specs.Effect.{EndsWith}
 use Rattle.djq_machine.specs.declared.machine.Fed.TheVariants.{Ended}
 use Rattle.djq_machine.specs.Step.{fed}
 use Rattle.djq_machine.specs.Call.{Makes, FedGives}
-use Rattle.djq_commands.specs.Views.{Talk, state_in, Visible}
+use Rattle.djq_commands.specs.Views.{SessionModel, state_in, Visible}
 use Rattle.djq_commands.specs.Sound.{BatchSuits, BatchesSuit, IsOwn, IsSound, batches_of}
 use Rattle.djq_core.specs.Sessions.{opened_at}
 use Rattle.djq_core.proofs.Loads.{suits_at, suits_none, suited_set}
@@ -72,7 +72,7 @@ invariant_of-self-in-Ok c =
     c.get_mut-found.ensures.value in
     let running = sym c.cause.ensures ∙ c.in_default.is in
     let within = c.find-at.ensures.within in
-    let own = subst (BatchSuits (c.self.inside.engine).store) (sym (ap (λ (x : Talk). x.batch) c.in-Ok.ensures.held))
+    let own = subst (BatchSuits (c.self.inside.engine).store) (sym (ap (λ (x : SessionModel). x.batch) c.in-Ok.ensures.held))
     (suits_at (c.self.inside.engine).store c.self.inside.batch c.self.inside.sessions c.find-at.result
     (opened_at c.self.inside.sessions c.find-at.result c.get_mut-found.result.now) c.self.invariant.1 within (stands
     c.self.inside.sessions c.find-at.result (opened_at c.self.inside.sessions c.find-at.result
@@ -91,7 +91,7 @@ end_by-requires-clause-own c =
     let h = here c.self.inside.engine c.self.inside.sessions c.find-at.result c.args.id
     c.get_mut-found.result.now c.self.invariant.0 c.find-at.ensures.within c.find-at.ensures.there
     c.get_mut-found.ensures.value in
-    subst (λ (d : Talk). IsOwn c.self.inside.engine d) (sym c.in-Err.ensures.stays)
+    subst (λ (d : SessionModel). IsOwn c.self.inside.engine d) (sym c.in-Err.ensures.stays)
     (owns c.self.inside.engine c.self.inside.sessions c.find-at.result c.args.id
     (opened_at c.self.inside.sessions c.find-at.result c.get_mut-found.result.now) h)
 
@@ -101,7 +101,7 @@ invariant_of-self-in-Err c =
     c.get_mut-found.result.now c.self.invariant.0 c.find-at.ensures.within c.find-at.ensures.there
     c.get_mut-found.ensures.value in
     let running = sym c.cause.ensures ∙ c.in_default.is in
-    let lacking = subst (λ (d : Talk). Performs (λ st i x eff st'. EndsWith end_memory Memory st i eff st') false
+    let lacking = subst (λ (d : SessionModel). Performs (λ st i x eff st'. EndsWith end_memory Memory st i eff st') false
     c.self.inside.engine d c.end_by.new.engine c.end_by.new.session 0 0) c.in-Err.ensures.stays
     c.end_by.ensures.performs in
     let ended = c.end_by.ensures.ended in (
@@ -147,7 +147,7 @@ returns-in-Err-clause-makes c =
     c.get_mut-found.result.now c.self.invariant.0 c.find-at.ensures.within c.find-at.ensures.there
     c.get_mut-found.ensures.value in
     let running = sym c.cause.ensures ∙ c.in_default.is in
-    let lacking = subst (λ (d : Talk). Performs (λ st i x eff st'. EndsWith end_memory Memory st i eff st') false
+    let lacking = subst (λ (d : SessionModel). Performs (λ st i x eff st'. EndsWith end_memory Memory st i eff st') false
     c.self.inside.engine d c.end_by.new.engine c.end_by.new.session 0 0) c.in-Err.ensures.stays
     c.end_by.ensures.performs in
     let ended = c.end_by.ensures.ended in
@@ -167,7 +167,7 @@ returns-in-Err-clause-answer c =
     c.get_mut-found.result.now c.self.invariant.0 c.find-at.ensures.within c.find-at.ensures.there
     c.get_mut-found.ensures.value in
     let running = sym c.cause.ensures ∙ c.in_default.is in
-    let lacking = subst (λ (d : Talk). Performs (λ st i x eff st'. EndsWith end_memory Memory st i eff st') false
+    let lacking = subst (λ (d : SessionModel). Performs (λ st i x eff st'. EndsWith end_memory Memory st i eff st') false
     c.self.inside.engine d c.end_by.new.engine c.end_by.new.session 0 0) c.in-Err.ensures.stays
     c.end_by.ensures.performs in
     let ended = c.end_by.ensures.ended in

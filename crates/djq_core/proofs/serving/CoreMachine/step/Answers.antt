@@ -4,7 +4,7 @@ use Rattle.std.proofs.Common.{drop, ap, append-nil}
 use Rattle.std.specs.Prelude.{IsSomeAnd}
 use Rattle.djq_protocol.specs.declared.limits.TheConstants.{REPLY_BYTES, LAST_LINE_BYTES}
 use Rattle.djq_machine.specs.Call.{StepsLine, counts}
-use Rattle.djq_commands.specs.declared.change.Left.{Left}
+use Rattle.djq_commands.specs.declared.change.AfterCommand.{AfterCommand}
 use Rattle.djq_commands.specs.declared.open.OpenSession.{OpenSession}
 use Rattle.djq_commands.specs.Changing.{is_accepted, lines_logged, reply_of}
 use Rattle.djq_commands.specs.Performs.{among}
@@ -73,7 +73,7 @@ invariant_of-self g c =
     let before = counts c.args.steps.now.listing c.args.steps.now.update c.args.steps.now.rows in
     let now = counts c.step_session-left.new.steps.listing c.step_session-left.new.steps.update
     c.step_session-left.new.steps.rows in
-    let leaves = subst (λ (l : Left). LeavesTo l c.self.inside.engine
+    let leaves = subst (λ (l : AfterCommand). LeavesTo l c.self.inside.engine
     c.get_mut-found.result.now c.step_session-left.new.engine c.step_session-left.new.session
     before now) c.in-Nothing.is c.step_session-left.ensures.leaves in
     let makes = steps c.self.inside.engine c.step_session-left.new.engine c.self.inside.sessions
@@ -97,7 +97,7 @@ returns-in-Nothing g c =
     let before = counts c.args.steps.now.listing c.args.steps.now.update c.args.steps.now.rows in
     let now = counts c.step_session-left.new.steps.listing c.step_session-left.new.steps.update
     c.step_session-left.new.steps.rows in
-    let leaves = subst (λ (l : Left). LeavesTo l c.self.inside.engine
+    let leaves = subst (λ (l : AfterCommand). LeavesTo l c.self.inside.engine
     c.get_mut-found.result.now c.step_session-left.new.engine c.step_session-left.new.session
     before now) c.in-Nothing.is c.step_session-left.ensures.leaves in
     let makes = steps c.self.inside.engine c.step_session-left.new.engine c.self.inside.sessions
@@ -119,7 +119,7 @@ invariant_of-self-in-Stopping g c =
     let before = counts c.args.steps.now.listing c.args.steps.now.update c.args.steps.now.rows in
     let now = counts c.step_session-left.new.steps.listing c.step_session-left.new.steps.update
     c.step_session-left.new.steps.rows in
-    let leaves = subst (λ (l : Left). LeavesTo l c.self.inside.engine
+    let leaves = subst (λ (l : AfterCommand). LeavesTo l c.self.inside.engine
     c.get_mut-found.result.now c.step_session-left.new.engine c.step_session-left.new.session
     before now) c.in-Stopping.is c.step_session-left.ensures.leaves in
     let makes = steps c.self.inside.engine c.step_session-left.new.engine c.self.inside.sessions
@@ -143,7 +143,7 @@ returns-in-Stopping g c =
     let before = counts c.args.steps.now.listing c.args.steps.now.update c.args.steps.now.rows in
     let now = counts c.step_session-left.new.steps.listing c.step_session-left.new.steps.update
     c.step_session-left.new.steps.rows in
-    let leaves = subst (λ (l : Left). LeavesTo l c.self.inside.engine
+    let leaves = subst (λ (l : AfterCommand). LeavesTo l c.self.inside.engine
     c.get_mut-found.result.now c.step_session-left.new.engine c.step_session-left.new.session
     before now) c.in-Stopping.is c.step_session-left.ensures.leaves in
     let makes = steps c.self.inside.engine c.step_session-left.new.engine c.self.inside.sessions
@@ -158,15 +158,15 @@ returns-in-Stopping g c =
     (ap (λ (v : Visible). v.commit) c.self.view_is) c.step_session-left.ensures.commit
     (sym (append-nil c.step_session-left.new.commit.lines)) makes
 
-pub tell_change-requires-clause-sound : goal.tell_change-requires-clause-sound
-tell_change-requires-clause-sound g c =
+pub publish_change-requires-clause-sound : goal.publish_change-requires-clause-sound
+publish_change-requires-clause-sound g c =
     let h = here c.self.inside.engine c.self.inside.sessions c.find-at.result c.args.id
     c.get_mut-found.result.now c.self.invariant.0 c.find-at.ensures.within c.find-at.ensures.there
     c.get_mut-found.ensures.value in
     let before = counts c.args.steps.now.listing c.args.steps.now.update c.args.steps.now.rows in
     let now = counts c.step_session-left.new.steps.listing c.step_session-left.new.steps.update
     c.step_session-left.new.steps.rows in
-    let leaves = subst (λ (l : Left). LeavesTo l c.self.inside.engine
+    let leaves = subst (λ (l : AfterCommand). LeavesTo l c.self.inside.engine
     c.get_mut-found.result.now c.step_session-left.new.engine c.step_session-left.new.session
     before now) c.in-Telling.is c.step_session-left.ensures.leaves in
     subst (λ (ys : List OpenSession). IsSound c.step_session-left.new.engine ys)
@@ -174,12 +174,12 @@ tell_change-requires-clause-sound g c =
     (sound_left c.in-Telling.outcome c.self.inside.engine c.step_session-left.new.engine _ c.args.id
     c.get_mut-found.result.now c.step_session-left.new.session _ before.listing now.listing leaves h.sound)
 
-pub tell_change-requires-clause-room : goal.tell_change-requires-clause-room
-tell_change-requires-clause-room g c =
+pub publish_change-requires-clause-room : goal.publish_change-requires-clause-room
+publish_change-requires-clause-room g c =
     let before = counts c.args.steps.now.listing c.args.steps.now.update c.args.steps.now.rows in
     let now = counts c.step_session-left.new.steps.listing c.step_session-left.new.steps.update
     c.step_session-left.new.steps.rows in
-    let leaves = subst (λ (l : Left). LeavesTo l c.self.inside.engine
+    let leaves = subst (λ (l : AfterCommand). LeavesTo l c.self.inside.engine
     c.get_mut-found.result.now c.step_session-left.new.engine c.step_session-left.new.session
     before now) c.in-Telling.is c.step_session-left.ensures.leaves in
     let y : OpenSession = opened_at c.self.inside.sessions c.find-at.result c.step_session-left.new.session in
@@ -187,12 +187,12 @@ tell_change-requires-clause-room g c =
     (λ (x : OpenSession). REPLY_BYTES + LAST_LINE_BYTES ≤ (x.session).room))
     (sym (set_there c.self.inside.sessions c.find-at.result y c.find-at.ensures.within)) leaves.room
 
-pub tell_change-requires-clause-registered : goal.tell_change-requires-clause-registered
-tell_change-requires-clause-registered g c =
+pub publish_change-requires-clause-registered : goal.publish_change-requires-clause-registered
+publish_change-requires-clause-registered g c =
     let before = counts c.args.steps.now.listing c.args.steps.now.update c.args.steps.now.rows in
     let now = counts c.step_session-left.new.steps.listing c.step_session-left.new.steps.update
     c.step_session-left.new.steps.rows in
-    let leaves = subst (λ (l : Left). LeavesTo l c.self.inside.engine
+    let leaves = subst (λ (l : AfterCommand). LeavesTo l c.self.inside.engine
     c.get_mut-found.result.now c.step_session-left.new.engine c.step_session-left.new.session
     before now) c.in-Telling.is c.step_session-left.ensures.leaves in
     registered_left c.in-Telling.outcome c.self.inside.engine c.step_session-left.new.engine
@@ -206,40 +206,40 @@ invariant_of-self-in-Telling g c =
     let before = counts c.args.steps.now.listing c.args.steps.now.update c.args.steps.now.rows in
     let now = counts c.step_session-left.new.steps.listing c.step_session-left.new.steps.update
     c.step_session-left.new.steps.rows in
-    let leaves = subst (λ (l : Left). LeavesTo l c.self.inside.engine
+    let leaves = subst (λ (l : AfterCommand). LeavesTo l c.self.inside.engine
     c.get_mut-found.result.now c.step_session-left.new.engine c.step_session-left.new.session
     before now) c.in-Telling.is c.step_session-left.ensures.leaves in
     let y : OpenSession = opened_at c.self.inside.sessions c.find-at.result c.step_session-left.new.session in
     let all : TellsAll (is_accepted c.in-Telling.outcome)
     (reply_of c.in-Telling.outcome ((c.step_session-left.new.engine).store).seq)
     c.step_session-left.new.engine y.id (set c.self.inside.sessions c.find-at.result y)
-    c.tell_change.new.engine c.tell_change.new.sessions
+    c.publish_change.new.engine c.publish_change.new.sessions
     = told_there (λ (x : OpenSession). TellsAll (is_accepted c.in-Telling.outcome)
     (reply_of c.in-Telling.outcome ((c.step_session-left.new.engine).store).seq)
     c.step_session-left.new.engine x.id (set c.self.inside.sessions c.find-at.result y)
-    c.tell_change.new.engine c.tell_change.new.sessions)
-    c.self.inside.sessions c.find-at.result y c.find-at.ensures.within c.tell_change.ensures in
+    c.publish_change.new.engine c.publish_change.new.sessions)
+    c.self.inside.sessions c.find-at.result y c.find-at.ensures.within c.publish_change.ensures in
     let front = take c.find-at.result c.self.inside.sessions in
     let back = drop (suc c.find-at.result) c.self.inside.sessions in
     let told = subst (λ (n : ℕ). TellsAll (is_accepted c.in-Telling.outcome)
     (reply_of c.in-Telling.outcome ((c.step_session-left.new.engine).store).seq)
     c.step_session-left.new.engine n (among front c.args.id c.step_session-left.new.session back)
-    c.tell_change.new.engine c.tell_change.new.sessions) c.find-at.ensures.there
+    c.publish_change.new.engine c.publish_change.new.sessions) c.find-at.ensures.there
     (subst (λ (xs : List OpenSession). TellsAll (is_accepted c.in-Telling.outcome)
     (reply_of c.in-Telling.outcome ((c.step_session-left.new.engine).store).seq)
-    c.step_session-left.new.engine y.id xs c.tell_change.new.engine c.tell_change.new.sessions)
+    c.step_session-left.new.engine y.id xs c.publish_change.new.engine c.publish_change.new.sessions)
     (h.put c.step_session-left.new.session) all) in
     let makes = subst (λ (xs : List OpenSession). StepsLine (state_in c.self.inside.engine c.self.inside.stopped xs)
-    c.args.id (state_in c.tell_change.new.engine c.self.inside.stopped c.tell_change.new.sessions) before now
+    c.args.id (state_in c.publish_change.new.engine c.self.inside.stopped c.publish_change.new.sessions) before now
     c.self.inside.commit.lines
     (c.self.inside.commit.lines ++ lines_logged c.in-Telling.outcome c.step_session-left.new.commit.line)) (sym h.is)
-    (change_steps c.in-Telling.outcome c.self.inside.engine c.step_session-left.new.engine c.tell_change.new.engine
+    (change_steps c.in-Telling.outcome c.self.inside.engine c.step_session-left.new.engine c.publish_change.new.engine
     c.get_mut-found.result.now c.step_session-left.new.session front c.args.id back
-    c.tell_change.new.sessions c.self.inside.stopped c.step_session-left.new.commit.line before now
+    c.publish_change.new.sessions c.self.inside.stopped c.step_session-left.new.commit.line before now
     c.self.inside.commit.lines leaves h.sound told c.step_session-left.ensures.copies) in (
       all.sound,
-      suited_behind c.self.inside.engine c.tell_change.new.engine c.self.inside.batch c.self.inside.stopped
-          c.self.inside.stopped c.self.inside.sessions c.tell_change.new.sessions c.args.id before now
+      suited_behind c.self.inside.engine c.publish_change.new.engine c.self.inside.batch c.self.inside.stopped
+          c.self.inside.stopped c.self.inside.sessions c.publish_change.new.sessions c.args.id before now
           c.self.inside.commit.lines _ c.self.invariant.1 makes,
     )
 
@@ -251,39 +251,39 @@ returns-in-Telling g c =
     let before = counts c.args.steps.now.listing c.args.steps.now.update c.args.steps.now.rows in
     let now = counts c.step_session-left.new.steps.listing c.step_session-left.new.steps.update
     c.step_session-left.new.steps.rows in
-    let leaves = subst (λ (l : Left). LeavesTo l c.self.inside.engine
+    let leaves = subst (λ (l : AfterCommand). LeavesTo l c.self.inside.engine
     c.get_mut-found.result.now c.step_session-left.new.engine c.step_session-left.new.session
     before now) c.in-Telling.is c.step_session-left.ensures.leaves in
     let y : OpenSession = opened_at c.self.inside.sessions c.find-at.result c.step_session-left.new.session in
     let all : TellsAll (is_accepted c.in-Telling.outcome)
     (reply_of c.in-Telling.outcome ((c.step_session-left.new.engine).store).seq)
     c.step_session-left.new.engine y.id (set c.self.inside.sessions c.find-at.result y)
-    c.tell_change.new.engine c.tell_change.new.sessions
+    c.publish_change.new.engine c.publish_change.new.sessions
     = told_there (λ (x : OpenSession). TellsAll (is_accepted c.in-Telling.outcome)
     (reply_of c.in-Telling.outcome ((c.step_session-left.new.engine).store).seq)
     c.step_session-left.new.engine x.id (set c.self.inside.sessions c.find-at.result y)
-    c.tell_change.new.engine c.tell_change.new.sessions)
-    c.self.inside.sessions c.find-at.result y c.find-at.ensures.within c.tell_change.ensures in
+    c.publish_change.new.engine c.publish_change.new.sessions)
+    c.self.inside.sessions c.find-at.result y c.find-at.ensures.within c.publish_change.ensures in
     let front = take c.find-at.result c.self.inside.sessions in
     let back = drop (suc c.find-at.result) c.self.inside.sessions in
     let told = subst (λ (n : ℕ). TellsAll (is_accepted c.in-Telling.outcome)
     (reply_of c.in-Telling.outcome ((c.step_session-left.new.engine).store).seq)
     c.step_session-left.new.engine n (among front c.args.id c.step_session-left.new.session back)
-    c.tell_change.new.engine c.tell_change.new.sessions) c.find-at.ensures.there
+    c.publish_change.new.engine c.publish_change.new.sessions) c.find-at.ensures.there
     (subst (λ (xs : List OpenSession). TellsAll (is_accepted c.in-Telling.outcome)
     (reply_of c.in-Telling.outcome ((c.step_session-left.new.engine).store).seq)
-    c.step_session-left.new.engine y.id xs c.tell_change.new.engine c.tell_change.new.sessions)
+    c.step_session-left.new.engine y.id xs c.publish_change.new.engine c.publish_change.new.sessions)
     (h.put c.step_session-left.new.session) all) in
     let makes = subst (λ (xs : List OpenSession). StepsLine (state_in c.self.inside.engine c.self.inside.stopped xs)
-    c.args.id (state_in c.tell_change.new.engine c.self.inside.stopped c.tell_change.new.sessions) before now
+    c.args.id (state_in c.publish_change.new.engine c.self.inside.stopped c.publish_change.new.sessions) before now
     c.self.inside.commit.lines
     (c.self.inside.commit.lines ++ lines_logged c.in-Telling.outcome c.step_session-left.new.commit.line)) (sym h.is)
-    (change_steps c.in-Telling.outcome c.self.inside.engine c.step_session-left.new.engine c.tell_change.new.engine
+    (change_steps c.in-Telling.outcome c.self.inside.engine c.step_session-left.new.engine c.publish_change.new.engine
     c.get_mut-found.result.now c.step_session-left.new.session front c.args.id back
-    c.tell_change.new.sessions c.self.inside.stopped c.step_session-left.new.commit.line before now
+    c.publish_change.new.sessions c.self.inside.stopped c.step_session-left.new.commit.line before now
     c.self.inside.commit.lines leaves h.sound told c.step_session-left.ensures.copies) in
     as_seen (state_in c.self.inside.engine c.self.inside.stopped c.self.inside.sessions) (c.args.self.now).state
-    (state_in c.tell_change.new.engine c.self.inside.stopped c.tell_change.new.sessions) c.args.id before now
+    (state_in c.publish_change.new.engine c.self.inside.stopped c.publish_change.new.sessions) c.args.id before now
     c.self.inside.commit c.step_session-left.new.commit (c.args.self.now).commit _ c.log_outcome.new.self.lines
     (ap (λ (v : Visible). v.state) c.self.view_is) (ap (λ (v : Visible). v.commit) c.self.view_is)
     c.step_session-left.ensures.commit c.log_outcome.ensures makes

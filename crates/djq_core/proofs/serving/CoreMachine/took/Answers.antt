@@ -6,7 +6,7 @@ use Rattle.djq_machine.specs.Step.{took}
 use Rattle.djq_machine.specs.Run.{pending_of}
 use Rattle.djq_machine.specs.Call.{Makes}
 use Rattle.djq_commands.specs.Sound.{BatchSuits}
-use Rattle.djq_commands.specs.Views.{Talk, state_in, Visible}
+use Rattle.djq_commands.specs.Views.{SessionModel, state_in, Visible}
 use Rattle.djq_core.specs.Sessions.{opened_at}
 use Rattle.djq_core.proofs.SessionSteps.{stands, here, is_there, pending_at, takes}
 use Rattle.djq_core.proofs.Loads.{suits_at, suited_set}
@@ -32,18 +32,18 @@ invariant_of-self c =
     c.get_mut.result.now c.self.invariant.0 c.find-at.ensures.within c.find-at.ensures.there
     c.get_mut.ensures.value in
     let within = c.find-at.ensures.within in
-    let own = subst (BatchSuits (c.self.inside.engine).store) (sym (ap (λ (x : Talk). x.batch) c.took.ensures))
+    let own = subst (BatchSuits (c.self.inside.engine).store) (sym (ap (λ (x : SessionModel). x.batch) c.advance.ensures))
     (suits_at (c.self.inside.engine).store c.self.inside.batch c.self.inside.sessions c.find-at.result
     (opened_at c.self.inside.sessions c.find-at.result c.get_mut.result.now) c.self.invariant.1 within (stands
     c.self.inside.sessions c.find-at.result (opened_at c.self.inside.sessions c.find-at.result c.get_mut.result.now)
     c.get_mut.ensures.value)) in (
       (takes c.self.inside.engine c.self.inside.sessions c.find-at.result
-          c.args.id c.args.count (opened_at c.self.inside.sessions c.find-at.result c.get_mut.result.now) c.took.new.self
+          c.args.id c.args.count (opened_at c.self.inside.sessions c.find-at.result c.get_mut.result.now) c.advance.new.self
           c.self.inside.stopped h
-          c.took.ensures).1,
+          c.advance.ensures).1,
       suited_set (c.self.inside.engine).store (c.self.inside.engine).store c.self.inside.batch
           c.self.inside.sessions c.find-at.result
-          (opened_at c.self.inside.sessions c.find-at.result c.took.new.self) c.self.invariant.1 refl own,
+          (opened_at c.self.inside.sessions c.find-at.result c.advance.new.self) c.self.invariant.1 refl own,
     )
 
 pub returns : goal.returns
@@ -53,7 +53,7 @@ returns c =
     c.get_mut.ensures.value in
     let new = state_in c.self.inside.engine c.self.inside.stopped
     (set c.self.inside.sessions c.find-at.result
-    (opened_at c.self.inside.sessions c.find-at.result c.took.new.self)) in
+    (opened_at c.self.inside.sessions c.find-at.result c.advance.new.self)) in
     let pending = ap (λ (st : State). pending_of st c.args.id) (sym (ap (λ (v : Visible). v.state) c.self.view_is))
     ∙ pending_at c.self.inside.engine c.self.inside.stopped c.self.inside.sessions c.find-at.result
     c.args.id (opened_at c.self.inside.sessions c.find-at.result c.get_mut.result.now) h in
@@ -61,6 +61,6 @@ returns c =
     (subst (λ (st : State). Makes st (took c.args.id (take c.args.count (c.get_mut.result.now).pending))
     new) (ap (λ (v : Visible). v.state) c.self.view_is)
     (takes c.self.inside.engine c.self.inside.sessions c.find-at.result
-    c.args.id c.args.count (opened_at c.self.inside.sessions c.find-at.result c.get_mut.result.now) c.took.new.self
+    c.args.id c.args.count (opened_at c.self.inside.sessions c.find-at.result c.get_mut.result.now) c.advance.new.self
     c.self.inside.stopped h
-    c.took.ensures).0)
+    c.advance.ensures).0)

@@ -3,7 +3,7 @@ use Rattle.std.proofs.Common.{ℕ, suc, ◌≡◌, ◌+◌, ◌<◌, ◌∙◌, 
 use Rattle.djq_commands.specs.Sound.{Rises}
 use Rattle.djq_core.proofs.Placed.{passes_from, is_found, key_is, low_le, none_found, passed_low, passed_lower}
 use Rattle.djq_core.proofs.Placed.{passed_quiet, seen_ids, seen_length}
-use Rattle.djq_core.proofs.sessions.Sessions.first_due.Goals.{else-from-via-then-from+else-is_due}
+use Rattle.djq_core.proofs.sessions.Sessions.first_due.Goals.{else-from-via-then-from+else-has_pending}
 use Rattle.djq_core.proofs.sessions.Sessions.first_due.Goals.{else-from-via-else-from}
 use Rattle.djq_session.specs.Dialog.{dialog_is_due}
 use Rattle.djq_core.proofs.sessions.Sessions.first_due.Goals as goal
@@ -39,14 +39,14 @@ get-requires c = omega (
   seen_length _ _ _ _ _ _ c.self.invariant.0 c.self.view_is,
 )
 
-pub returns-then-is_due : goal.returns-then-is_due
-returns-then-is_due c =
+pub returns-then-has_pending : goal.returns-then-has_pending
+returns-then-has_pending c =
     let within : c.loop-at.at < length c.self.inside.ids.items = omega
     (arith, c.loop-at-test.true, c.len-at-end.ensures, c.self.inside.ids.ok.0) in
     let same = ap (λ (ns : List ℕ). get_or ns c.loop-at.at 0) (seen_ids _ _ _ _ _ _ c.self.invariant.0 c.self.view_is)
     ∙ key_is c.self.inside.ids.items c.loop-at.at c.index-id.result.now within c.index-id.ensures in
     is_found dialog_is_due c.args.self.now c.args.from c.loop-at.at c.index-id.result.now c.get.result.now c.loop-at.invariant
-    c.get.ensures same (omega (arith, c.if-from.true, c.from.ensures)) (sym c.is_due.ensures ∙ c.if-is_due.true)
+    c.get.ensures same (omega (arith, c.if-from.true, c.from.ensures)) (sym c.has_pending.ensures ∙ c.if-has_pending.true)
 
 pub loop-at-preserved : goal.loop-at-preserved
 loop-at-preserved c =
@@ -58,9 +58,9 @@ loop-at-preserved c =
     subst (λ (at : ℕ). find (passes_from dialog_is_due c.args.from) c.args.self.now
     ≡ find (passes_from dialog_is_due c.args.from) (drop at c.args.self.now)) next
     (c.loop-at.invariant ∙ elim c.else-from.branch [
-      | else-from-via-then-from+else-is_due w ↦
+      | else-from-via-then-from+else-has_pending w ↦
           passed_quiet dialog_is_due c.args.self.now c.args.from c.loop-at.at w.get.result.now w.get.ensures
-          (sym w.is_due.ensures ∙ w.if-is_due.false)
+          (sym w.has_pending.ensures ∙ w.if-has_pending.false)
       | else-from-via-else-from w ↦
           passed_lower dialog_is_due c.args.self.now c.args.from c.loop-at.at
           (omega (arith, within, seen_length _ _ _ _ _ _ c.self.invariant.0 c.self.view_is))

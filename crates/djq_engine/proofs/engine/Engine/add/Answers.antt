@@ -122,8 +122,8 @@ empty_logs-requires g c =
     (readers_within old put s at m.relation.below rest.readers) c.index.ensures c.as_slice.ensures))
     (have_logs old put s at m.relation.below t rest)
 
-pub outdate_readers-requires-clause-once : goal.outdate_readers-requires-clause-once
-outdate_readers-requires-clause-once g c =
+pub mark_cursors_stale-requires-clause-once : goal.mark_cursors_stale-requires-clause-once
+mark_cursors_stale-requires-clause-once g c =
     let old = c.self.inside.parts in
     let s = c.self.invariant.0 in
     let at = c.in_ok-id.id.at in
@@ -137,8 +137,8 @@ outdate_readers-requires-clause-once g c =
     let names = names_kept old.catalog put.catalog lacks.1.relations in
     mid_once old mid s at m.relation.below lacks.1.carries rest.readers rest.order names
 
-pub outdate_readers-requires-clause-there : goal.outdate_readers-requires-clause-there
-outdate_readers-requires-clause-there g c =
+pub mark_cursors_stale-requires-clause-there : goal.mark_cursors_stale-requires-clause-there
+mark_cursors_stale-requires-clause-there g c =
     let old = c.self.inside.parts in
     let s = c.self.invariant.0 in
     let at = c.in_ok-id.id.at in
@@ -167,8 +167,8 @@ invariant_of-self-in-Err-NoMem g c =
     let lacks = subst (λ (r : AddRefusal). AddsTo at row old (Err r) put) c.in-Err-NoMem.field-0-is
     c.in-Err-NoMem.ensures.adds in
     let names = names_kept old.catalog put.catalog lacks.1.relations in
-    let new = c.outdate_readers.new.parts in
-    let ages = c.outdate_readers.ensures in
+    let new = c.mark_cursors_stale.new.parts in
+    let ages = c.mark_cursors_stale.ensures in
     let now = aged old mid s at m.relation.below lacks.1.carries rest.readers rest.order names new name m.relation.named
     ages in
     let long = c.empty_logs.ensures.long ∙ rest.long in (
@@ -195,8 +195,8 @@ returns-in-Err-NoMem g c =
     let lacks = subst (λ (r : AddRefusal). AddsTo at row old (Err r) put) c.in-Err-NoMem.field-0-is
     c.in-Err-NoMem.ensures.adds in
     let names = names_kept old.catalog put.catalog lacks.1.relations in
-    let new = c.outdate_readers.new.parts in
-    let ages = c.outdate_readers.ensures in
+    let new = c.mark_cursors_stale.new.parts in
+    let ages = c.mark_cursors_stale.ensures in
     let now = aged old mid s at m.relation.below lacks.1.carries rest.readers rest.order names new name m.relation.named
     ages in
     let long = c.empty_logs.ensures.long ∙ rest.long in
@@ -287,8 +287,8 @@ affect-requires-clause-room g c =
     readers_few c.self.inside.parts c.put_row.new.parts c.self.invariant.0 c.in_ok-id.id.at
     c.in_ok-id.ensures.ok.relation.below c.put_row.ensures.rest c.self.invariant.1
 
-pub outdate_readers-requires-2-clause-once : goal.outdate_readers-requires-2-clause-once
-outdate_readers-requires-2-clause-once g c =
+pub mark_cursors_stale-requires-2-clause-once : goal.mark_cursors_stale-requires-2-clause-once
+mark_cursors_stale-requires-2-clause-once g c =
     let old = c.self.inside.parts in
     let s = c.self.invariant.0 in
     let at = c.in_ok-id.id.at in
@@ -303,8 +303,8 @@ outdate_readers-requires-2-clause-once g c =
     m.relation.below came.1.has.relations in
     mid_once old mid s at m.relation.below came.1.has.carries rest.readers rest.order names
 
-pub outdate_readers-requires-2-clause-there : goal.outdate_readers-requires-2-clause-there
-outdate_readers-requires-2-clause-there g c =
+pub mark_cursors_stale-requires-2-clause-there : goal.mark_cursors_stale-requires-2-clause-there
+mark_cursors_stale-requires-2-clause-there g c =
     let old = c.self.inside.parts in
     let s = c.self.invariant.0 in
     let at = c.in_ok-id.id.at in
@@ -335,8 +335,8 @@ invariant_of-self-2 g c =
     c.in-Ok-First.ensures.adds in
     let names = same_names old.catalog put.catalog at (with_row (counted_at old.catalog.relations at) row)
     m.relation.below came.1.has.relations in
-    let new = c.outdate_readers-2.new.parts in
-    let ages = c.outdate_readers-2.ensures in
+    let new = c.mark_cursors_stale-2.new.parts in
+    let ages = c.mark_cursors_stale-2.ensures in
     let now = aged old mid s at m.relation.below came.1.has.carries rest.readers rest.order names new name
     m.relation.named ages in (
       now.whole,
@@ -362,8 +362,8 @@ returns g c =
     c.in-Ok-First.ensures.adds in
     let names = same_names old.catalog put.catalog at (with_row (counted_at old.catalog.relations at) row)
     m.relation.below came.1.has.relations in
-    let new = c.outdate_readers-2.new.parts in
-    let ages = c.outdate_readers-2.ensures in
+    let new = c.mark_cursors_stale-2.new.parts in
+    let ages = c.mark_cursors_stale-2.ensures in
     let now = aged old mid s at m.relation.below came.1.has.carries rest.readers rest.order names new name
     m.relation.named ages in
     let alike = alike_now old mid new at name came.1.has.carries rest.watchers rest.order rest.long ages in

@@ -3,12 +3,12 @@ use Rattle.std.proofs.Common.{◌∙◌, sym, subst}
 use Rattle.djq_engine.specs.Whole.{watches_in}
 use Rattle.djq_engine.proofs.Cursors.{closes, readable, held_cursor}
 use Rattle.djq_engine.proofs.CarriedQueries.{closed_kept}
-use Rattle.djq_engine.specs.Kept.{Kept, IsHeld}
+use Rattle.djq_engine.specs.StoreModel.{StoreModel, IsHeld}
 use Rattle.djq_engine.proofs.engine.Engine.close.Goals as goal
 
 pub close_at-requires : goal.close_at-requires
 close_at-requires c =
-    let held = subst (λ (k : Kept). IsHeld k c.args.id) (sym c.self.view_is) c.requires in
+    let held = subst (λ (k : StoreModel). IsHeld k c.args.id) (sym c.self.view_is) c.requires in
     readable c.self.inside.parts.catalog c.self.inside.parts.queries.items c.self.inside.parts.order
     c.self.inside.parts.readers.items c.self.inside.parts.seq (watches_in c.self.inside.parts) c.self.invariant.0
     c.args.id
@@ -19,7 +19,7 @@ close_at-requires c =
 
 pub invariant_of-self : goal.invariant_of-self
 invariant_of-self c =
-    let held = subst (λ (k : Kept). IsHeld k c.args.id) (sym c.self.view_is) c.requires in
+    let held = subst (λ (k : StoreModel). IsHeld k c.args.id) (sym c.self.view_is) c.requires in
     let old = c.self.inside.parts in
     let k = closed_kept old.catalog old.queries.items c.close_at.new.queries.items old.order old.readers.items
     c.self.invariant.0 old.logs.items c.args.id.query.at c.args.id.cursor c.close_at.ensures in (
@@ -40,7 +40,7 @@ invariant_of-self c =
 
 pub returns-clause-closes : goal.returns-clause-closes
 returns-clause-closes c =
-    let held = subst (λ (k : Kept). IsHeld k c.args.id) (sym c.self.view_is) c.requires in
+    let held = subst (λ (k : StoreModel). IsHeld k c.args.id) (sym c.self.view_is) c.requires in
     rw (← c.self.view_is)
     ((closes c.self.inside.parts.catalog c.self.inside.parts.queries.items c.self.inside.parts.order
     c.self.inside.parts.readers.items c.self.inside.parts.seq (watches_in c.self.inside.parts) c.self.invariant.0

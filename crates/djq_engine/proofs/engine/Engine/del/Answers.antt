@@ -8,7 +8,7 @@ use Rattle.djq_live_query.specs.Live.{Live}
 use Rattle.djq_store_spec.specs.Changes.{row_out}
 use Rattle.djq_engine.proofs.CarriedQueries.{keeps_changed, keeps_equal}
 use Rattle.djq_database.specs.declared.relation_id.RelationId.{RelationId}
-use Rattle.djq_engine.specs.Kept.{held_at}
+use Rattle.djq_engine.specs.StoreModel.{held_at}
 use Rattle.djq_reach.specs.Places.{readers_at}
 use Rattle.djq_engine.specs.Places.{query_cursors_from}
 use Rattle.djq_engine.specs.declared.parts.Parts.{Parts}
@@ -183,8 +183,8 @@ affect-requires-clause-room g c =
     c.check_delete.new.cells j) c.in-Some.is c.in_ok-judged.ensures.ok in
     readers_few old c.drop_cells.new.parts s at may.relation.below c.drop_cells.ensures.rest c.self.invariant.1
 
-pub outdate_readers-requires-clause-once : goal.outdate_readers-requires-clause-once
-outdate_readers-requires-clause-once g c =
+pub mark_cursors_stale-requires-clause-once : goal.mark_cursors_stale-requires-clause-once
+mark_cursors_stale-requires-clause-once g c =
     let old = c.self.inside.parts in
     let s = c.self.invariant.0 in
     let at = c.in-Some.relation.at in
@@ -202,8 +202,8 @@ outdate_readers-requires-clause-once g c =
     c.args.row.now) may.relation.below went.2.has.relations in
     mid_once old mid s at may.relation.below went.2.has.carries rest.readers rest.order names
 
-pub outdate_readers-requires-clause-there : goal.outdate_readers-requires-clause-there
-outdate_readers-requires-clause-there g c =
+pub mark_cursors_stale-requires-clause-there : goal.mark_cursors_stale-requires-clause-there
+mark_cursors_stale-requires-clause-there g c =
     let old = c.self.inside.parts in
     let s = c.self.invariant.0 in
     let at = c.in-Some.relation.at in
@@ -240,8 +240,8 @@ invariant_of-self-2 g c =
     let names = same_names old.catalog gone.catalog at (without_copies (counted_at old.catalog.relations at)
     c.args.row.now) may.relation.below went.2.has.relations in
     let name = c.args.name.now in
-    let new = c.outdate_readers.new.parts in
-    let ages = c.outdate_readers.ensures in
+    let new = c.mark_cursors_stale.new.parts in
+    let ages = c.mark_cursors_stale.ensures in
     let now = aged old mid s at may.relation.below went.2.has.carries rest.readers rest.order names new name
     may.relation.named ages in (
       now.whole,
@@ -270,8 +270,8 @@ returns g c =
     let names = same_names old.catalog gone.catalog at (without_copies (counted_at old.catalog.relations at)
     c.args.row.now) may.relation.below went.2.has.relations in
     let name = c.args.name.now in
-    let new = c.outdate_readers.new.parts in
-    let ages = c.outdate_readers.ensures in
+    let new = c.mark_cursors_stale.new.parts in
+    let ages = c.mark_cursors_stale.ensures in
     let now = aged old mid s at may.relation.below went.2.has.carries rest.readers rest.order names new name
     may.relation.named ages in
     let row = c.args.row.now in

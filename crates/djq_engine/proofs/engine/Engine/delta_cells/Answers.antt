@@ -7,7 +7,7 @@ use Rattle.djq_live_query.specs.Member.{head_types}
 use Rattle.djq_database.specs.Cells.{StandFor}
 use Rattle.djq_engine.proofs.RegisteredQueries.{all_got, below_queries, line_is, line_there, query_kept_there}
 use Rattle.djq_engine.proofs.RegisteredQueries.{there_not_none}
-use Rattle.djq_engine.specs.Kept.{told_at, Kept, IsRegistered}
+use Rattle.djq_engine.specs.StoreModel.{told_at, StoreModel, IsRegistered}
 use Rattle.djq_engine.specs.Lending.{sign_of}
 use Rattle.djq_engine.specs.Whole.{kept_in}
 use Rattle.djq_engine.proofs.QueryPlaces.{There}
@@ -19,15 +19,15 @@ use Rattle.djq_engine.proofs.engine.Engine.delta_cells.Goals as goal
 pub index-requires : goal.index-requires
 index-requires c =
     let p = c.self.inside.parts in
-    let registered = subst (λ (k : Kept). IsRegistered k c.args.id) (sym c.self.view_is) c.requires.registered in
+    let registered = subst (λ (k : StoreModel). IsRegistered k c.args.id) (sym c.self.view_is) c.requires.registered in
     let t = query_kept_there p c.self.invariant.0 c.args.id registered in
     omega (arith, below_queries p c.self.invariant.0 c.args.id t, c.self.invariant.1.logged)
 
 pub line_at-line-requires : goal.line_at-line-requires
 line_at-line-requires c =
     let p = c.self.inside.parts in
-    let registered = subst (λ (k : Kept). IsRegistered k c.args.id) (sym c.self.view_is) c.requires.registered in
-    let within = subst (λ (k : Kept). IsSomeAnd (told_at k c.args.id) (λ changes. c.args.nth < length changes))
+    let registered = subst (λ (k : StoreModel). IsRegistered k c.args.id) (sym c.self.view_is) c.requires.registered in
+    let within = subst (λ (k : StoreModel). IsSomeAnd (told_at k c.args.id) (λ changes. c.args.nth < length changes))
     (sym c.self.view_is) c.requires.within in
     let t = query_kept_there p c.self.invariant.0 c.args.id registered in
     let low : c.args.id.at < length p.logs.items = omega
@@ -39,7 +39,7 @@ line_at-line-requires c =
 pub index-requires-2 : goal.index-requires-2
 index-requires-2 c =
     let p = c.self.inside.parts in
-    let registered = subst (λ (k : Kept). IsRegistered k c.args.id) (sym c.self.view_is) c.requires.registered in
+    let registered = subst (λ (k : StoreModel). IsRegistered k c.args.id) (sym c.self.view_is) c.requires.registered in
     omega (
       arith,
       below_queries p c.self.invariant.0 c.args.id
@@ -49,14 +49,14 @@ index-requires-2 c =
 pub unreachable-requires : goal.unreachable-requires
 unreachable-requires c =
     let p = c.self.inside.parts in
-    let registered = subst (λ (k : Kept). IsRegistered k c.args.id) (sym c.self.view_is) c.requires.registered in
+    let registered = subst (λ (k : StoreModel). IsRegistered k c.args.id) (sym c.self.view_is) c.requires.registered in
     there_not_none p.queries.items c.args.id.at (query_kept_there p c.self.invariant.0 c.args.id registered)
     c.index-2.result.now c.index-2.ensures c.in-None.is
 
 pub put_in_head-requires-clause-kept : goal.put_in_head-requires-clause-kept
 put_in_head-requires-clause-kept c =
     let p = c.self.inside.parts in
-    let registered = subst (λ (k : Kept). IsRegistered k c.args.id) (sym c.self.view_is) c.requires.registered in
+    let registered = subst (λ (k : StoreModel). IsRegistered k c.args.id) (sym c.self.view_is) c.requires.registered in
     let is = place_read p.queries.items c.args.id.at c.index-2.result.now c.in-Some.live
     (below_queries p c.self.invariant.0 c.args.id
     (query_kept_there p c.self.invariant.0 c.args.id registered)) c.index-2.ensures c.in-Some.is in
@@ -65,8 +65,8 @@ put_in_head-requires-clause-kept c =
 pub put_in_head-requires-clause-wide : goal.put_in_head-requires-clause-wide
 put_in_head-requires-clause-wide c =
     let p = c.self.inside.parts in
-    let registered = subst (λ (k : Kept). IsRegistered k c.args.id) (sym c.self.view_is) c.requires.registered in
-    let within = subst (λ (k : Kept). IsSomeAnd (told_at k c.args.id) (λ changes. c.args.nth < length changes))
+    let registered = subst (λ (k : StoreModel). IsRegistered k c.args.id) (sym c.self.view_is) c.requires.registered in
+    let within = subst (λ (k : StoreModel). IsSomeAnd (told_at k c.args.id) (λ changes. c.args.nth < length changes))
     (sym c.self.view_is) c.requires.within in
     let k = query_kept_there p c.self.invariant.0 c.args.id registered in
     let there = place_read p.queries.items c.args.id.at c.index-2.result.now c.in-Some.live
@@ -82,8 +82,8 @@ put_in_head-requires-clause-wide c =
 pub returns : goal.returns
 returns c =
     let p = c.self.inside.parts in
-    let registered = subst (λ (k : Kept). IsRegistered k c.args.id) (sym c.self.view_is) c.requires.registered in
-    let within = subst (λ (k : Kept). IsSomeAnd (told_at k c.args.id) (λ changes. c.args.nth < length changes))
+    let registered = subst (λ (k : StoreModel). IsRegistered k c.args.id) (sym c.self.view_is) c.requires.registered in
+    let within = subst (λ (k : StoreModel). IsSomeAnd (told_at k c.args.id) (λ changes. c.args.nth < length changes))
     (sym c.self.view_is) c.requires.within in
     let k = query_kept_there p c.self.invariant.0 c.args.id registered in
     let there = place_read p.queries.items c.args.id.at c.index-2.result.now c.in-Some.live

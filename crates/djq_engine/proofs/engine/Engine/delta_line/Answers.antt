@@ -8,21 +8,21 @@ use Rattle.djq_engine.proofs.RegisteredQueries.{there_not_none}
 use Rattle.djq_engine.proofs.QueryPlaces.{There}
 use Rattle.djq_reach.proofs.PlacedQueries.{place_read}
 use Rattle.djq_reach.proofs.Logs.{log_read}
-use Rattle.djq_engine.specs.Kept.{Kept, IsRegistered, told_at}
+use Rattle.djq_engine.specs.StoreModel.{StoreModel, IsRegistered, told_at}
 use Rattle.djq_engine.proofs.engine.Engine.delta_line.Goals as goal
 
 pub index-requires : goal.index-requires
 index-requires c =
     let p = c.self.inside.parts in
-    let registered = subst (λ (k : Kept). IsRegistered k c.args.id) (sym c.self.view_is) c.requires.registered in
+    let registered = subst (λ (k : StoreModel). IsRegistered k c.args.id) (sym c.self.view_is) c.requires.registered in
     let t = query_kept_there p c.self.invariant.0 c.args.id registered in
     omega (arith, below_queries p c.self.invariant.0 c.args.id t, c.self.invariant.1.logged)
 
 pub line_at-line-requires : goal.line_at-line-requires
 line_at-line-requires c =
     let p = c.self.inside.parts in
-    let registered = subst (λ (k : Kept). IsRegistered k c.args.id) (sym c.self.view_is) c.requires.registered in
-    let within = subst (λ (k : Kept). IsSomeAnd (told_at k c.args.id) (λ changes. c.args.nth < length changes))
+    let registered = subst (λ (k : StoreModel). IsRegistered k c.args.id) (sym c.self.view_is) c.requires.registered in
+    let within = subst (λ (k : StoreModel). IsSomeAnd (told_at k c.args.id) (λ changes. c.args.nth < length changes))
     (sym c.self.view_is) c.requires.within in
     let t = query_kept_there p c.self.invariant.0 c.args.id registered in
     let low : c.args.id.at < length p.logs.items = omega
@@ -34,7 +34,7 @@ line_at-line-requires c =
 pub index-requires-2 : goal.index-requires-2
 index-requires-2 c =
     let p = c.self.inside.parts in
-    let registered = subst (λ (k : Kept). IsRegistered k c.args.id) (sym c.self.view_is) c.requires.registered in
+    let registered = subst (λ (k : StoreModel). IsRegistered k c.args.id) (sym c.self.view_is) c.requires.registered in
     omega (
       arith,
       below_queries p c.self.invariant.0 c.args.id
@@ -44,14 +44,14 @@ index-requires-2 c =
 pub unreachable-requires : goal.unreachable-requires
 unreachable-requires c =
     let p = c.self.inside.parts in
-    let registered = subst (λ (k : Kept). IsRegistered k c.args.id) (sym c.self.view_is) c.requires.registered in
+    let registered = subst (λ (k : StoreModel). IsRegistered k c.args.id) (sym c.self.view_is) c.requires.registered in
     there_not_none p.queries.items c.args.id.at (query_kept_there p c.self.invariant.0 c.args.id registered)
     c.index-2.result.now c.index-2.ensures c.in-None.is
 
 pub new-requires-clause-live : goal.new-requires-clause-live
 new-requires-clause-live c =
     let p = c.self.inside.parts in
-    let registered = subst (λ (k : Kept). IsRegistered k c.args.id) (sym c.self.view_is) c.requires.registered in
+    let registered = subst (λ (k : StoreModel). IsRegistered k c.args.id) (sym c.self.view_is) c.requires.registered in
     let t : There p.queries.items c.args.id.at = record {
       query = c.in-Some.live;
       is = place_read p.queries.items c.args.id.at c.index-2.result.now c.in-Some.live
@@ -63,8 +63,8 @@ new-requires-clause-live c =
 pub new-requires-clause-showable : goal.new-requires-clause-showable
 new-requires-clause-showable c =
     let p = c.self.inside.parts in
-    let registered = subst (λ (k : Kept). IsRegistered k c.args.id) (sym c.self.view_is) c.requires.registered in
-    let within = subst (λ (k : Kept). IsSomeAnd (told_at k c.args.id) (λ changes. c.args.nth < length changes))
+    let registered = subst (λ (k : StoreModel). IsRegistered k c.args.id) (sym c.self.view_is) c.requires.registered in
+    let within = subst (λ (k : StoreModel). IsSomeAnd (told_at k c.args.id) (λ changes. c.args.nth < length changes))
     (sym c.self.view_is) c.requires.within in
     let k = query_kept_there p c.self.invariant.0 c.args.id registered in
     let t : There p.queries.items c.args.id.at = record {
@@ -83,8 +83,8 @@ new-requires-clause-showable c =
 pub returns : goal.returns
 returns c =
     let p = c.self.inside.parts in
-    let registered = subst (λ (k : Kept). IsRegistered k c.args.id) (sym c.self.view_is) c.requires.registered in
-    let within = subst (λ (k : Kept). IsSomeAnd (told_at k c.args.id) (λ changes. c.args.nth < length changes))
+    let registered = subst (λ (k : StoreModel). IsRegistered k c.args.id) (sym c.self.view_is) c.requires.registered in
+    let within = subst (λ (k : StoreModel). IsSomeAnd (told_at k c.args.id) (λ changes. c.args.nth < length changes))
     (sym c.self.view_is) c.requires.within in
     let k = query_kept_there p c.self.invariant.0 c.args.id registered in
     let t : There p.queries.items c.args.id.at = record {

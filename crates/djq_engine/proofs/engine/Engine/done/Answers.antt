@@ -14,7 +14,7 @@ use Rattle.djq_transaction.proofs.LeadingLines.{lines_spare_others}
 use Rattle.djq_transaction.proofs.LeadingLines.{rows_left}
 use Rattle.djq_transaction.proofs.SuitingLines.{lines_suit}
 use Rattle.djq_engine.specs.declared.parts.Parts.{Parts}
-use Rattle.djq_engine.specs.Kept.{Kept, is_tried}
+use Rattle.djq_engine.specs.StoreModel.{StoreModel, is_tried}
 use Rattle.djq_engine.specs.Carrying.{come_of, gone_of, places_changed}
 use Rattle.djq_engine.specs.Whole.{kept_in}
 use Rattle.djq_engine.proofs.CarriedLines.{carried_cursors, carried_out, carried_places, carried_registered}
@@ -59,7 +59,7 @@ judge_done-judged-requires g c =
     let old = c.self.inside.parts in
     let lines = c.args.held.now.lines in
     let suit : SuitAll (kept_in old).store lines =
-    subst (λ (x : Kept). SuitAll x.store lines) (sym c.self.view_is) c.requires in
+    subst (λ (x : StoreModel). SuitAll x.store lines) (sym c.self.view_is) c.requires in
     record { suit = lines_suit (kept_in old).store lines suit }
 
 pub refuse-requires-clause-readers : goal.refuse-requires-clause-readers
@@ -69,7 +69,7 @@ refuse-requires-clause-readers g c =
     let t = c.self.invariant.1 in
     let lines = c.args.held.now.lines in
     let suit : SuitAll (kept_in old).store lines =
-    subst (λ (x : Kept). SuitAll x.store lines) (sym c.self.view_is) c.requires in
+    subst (λ (x : StoreModel). SuitAll x.store lines) (sym c.self.view_is) c.requires in
     let found = all_found (kept_in old).store lines suit in
     let d = c.judge_done-judged.new.catalog in
     let rel = c.judge_done-judged.ensures.relations in
@@ -86,7 +86,7 @@ refuse-requires-clause-logged g c =
     let t = c.self.invariant.1 in
     let lines = c.args.held.now.lines in
     let suit : SuitAll (kept_in old).store lines =
-    subst (λ (x : Kept). SuitAll x.store lines) (sym c.self.view_is) c.requires in
+    subst (λ (x : StoreModel). SuitAll x.store lines) (sym c.self.view_is) c.requires in
     let found = all_found (kept_in old).store lines suit in
     let d = c.judge_done-judged.new.catalog in
     let rel = c.judge_done-judged.ensures.relations in
@@ -103,7 +103,7 @@ refuse-requires-clause-found g c =
     let t = c.self.invariant.1 in
     let lines = c.args.held.now.lines in
     let suit : SuitAll (kept_in old).store lines =
-    subst (λ (x : Kept). SuitAll x.store lines) (sym c.self.view_is) c.requires in
+    subst (λ (x : StoreModel). SuitAll x.store lines) (sym c.self.view_is) c.requires in
     let found = all_found (kept_in old).store lines suit in
     let d = c.judge_done-judged.new.catalog in
     let rel = c.judge_done-judged.ensures.relations in
@@ -120,7 +120,7 @@ invariant_of-self g c =
     let t = c.self.invariant.1 in
     let lines = c.args.held.now.lines in
     let suit : SuitAll (kept_in old).store lines =
-    subst (λ (x : Kept). SuitAll x.store lines) (sym c.self.view_is) c.requires in
+    subst (λ (x : StoreModel). SuitAll x.store lines) (sym c.self.view_is) c.requires in
     let found = all_found (kept_in old).store lines suit in
     let d = c.judge_done-judged.new.catalog in
     let rel = c.judge_done-judged.ensures.relations in
@@ -142,7 +142,7 @@ returns-in-Err g c =
     let t = c.self.invariant.1 in
     let lines = c.args.held.now.lines in
     let suit : SuitAll (kept_in old).store lines =
-    subst (λ (x : Kept). SuitAll x.store lines) (sym c.self.view_is) c.requires in
+    subst (λ (x : StoreModel). SuitAll x.store lines) (sym c.self.view_is) c.requires in
     let found = all_found (kept_in old).store lines suit in
     let d = c.judge_done-judged.new.catalog in
     let rel = c.judge_done-judged.ensures.relations in
@@ -184,7 +184,7 @@ overflow_add-count g c =
     let t = c.self.invariant.1 in
     let lines = c.args.held.now.lines in
     let suit : SuitAll (kept_in old).store lines =
-    subst (λ (x : Kept). SuitAll x.store lines) (sym c.self.view_is) c.requires in
+    subst (λ (x : StoreModel). SuitAll x.store lines) (sym c.self.view_is) c.requires in
     let found = all_found (kept_in old).store lines suit in
     let d = c.judge_done-judged.new.catalog in
     let rel = c.judge_done-judged.ensures.relations in
@@ -222,7 +222,7 @@ remove_rows-requires g c =
     let t = c.self.invariant.1 in
     let lines = c.args.held.now.lines in
     let suit : SuitAll (kept_in old).store lines =
-    subst (λ (x : Kept). SuitAll x.store lines) (sym c.self.view_is) c.requires in
+    subst (λ (x : StoreModel). SuitAll x.store lines) (sym c.self.view_is) c.requires in
     let found = all_found (kept_in old).store lines suit in
     let d = c.judge_done-judged.new.catalog in
     let rel = c.judge_done-judged.ensures.relations in
@@ -254,7 +254,7 @@ invariant_of-self-then-count-eq0 g c =
     let t = c.self.invariant.1 in
     let lines = c.args.held.now.lines in
     let suit : SuitAll (kept_in old).store lines =
-    subst (λ (x : Kept). SuitAll x.store lines) (sym c.self.view_is) c.requires in
+    subst (λ (x : StoreModel). SuitAll x.store lines) (sym c.self.view_is) c.requires in
     let found = all_found (kept_in old).store lines suit in
     let d = c.judge_done-judged.new.catalog in
     let rel = c.judge_done-judged.ensures.relations in
@@ -298,7 +298,7 @@ returns-then-count-eq0 g c =
     let t = c.self.invariant.1 in
     let lines = c.args.held.now.lines in
     let suit : SuitAll (kept_in old).store lines =
-    subst (λ (x : Kept). SuitAll x.store lines) (sym c.self.view_is) c.requires in
+    subst (λ (x : StoreModel). SuitAll x.store lines) (sym c.self.view_is) c.requires in
     let found = all_found (kept_in old).store lines suit in
     let d = c.judge_done-judged.new.catalog in
     let rel = c.judge_done-judged.ensures.relations in
@@ -368,7 +368,7 @@ carry_out-requires-clause-whole g c =
     let t = c.self.invariant.1 in
     let lines = c.args.held.now.lines in
     let suit : SuitAll (kept_in old).store lines =
-    subst (λ (x : Kept). SuitAll x.store lines) (sym c.self.view_is) c.requires in
+    subst (λ (x : StoreModel). SuitAll x.store lines) (sym c.self.view_is) c.requires in
     let found = all_found (kept_in old).store lines suit in
     let d = c.judge_done-judged.new.catalog in
     let rel = c.judge_done-judged.ensures.relations in
@@ -390,7 +390,7 @@ carry_out-requires-clause-tended g c =
     let t = c.self.invariant.1 in
     let lines = c.args.held.now.lines in
     let suit : SuitAll (kept_in old).store lines =
-    subst (λ (x : Kept). SuitAll x.store lines) (sym c.self.view_is) c.requires in
+    subst (λ (x : StoreModel). SuitAll x.store lines) (sym c.self.view_is) c.requires in
     let found = all_found (kept_in old).store lines suit in
     let d = c.judge_done-judged.new.catalog in
     let rel = c.judge_done-judged.ensures.relations in
@@ -412,7 +412,7 @@ carry_out-requires-clause-found g c =
     let t = c.self.invariant.1 in
     let lines = c.args.held.now.lines in
     let suit : SuitAll (kept_in old).store lines =
-    subst (λ (x : Kept). SuitAll x.store lines) (sym c.self.view_is) c.requires in
+    subst (λ (x : StoreModel). SuitAll x.store lines) (sym c.self.view_is) c.requires in
     let found = all_found (kept_in old).store lines suit in
     let d = c.judge_done-judged.new.catalog in
     let rel = c.judge_done-judged.ensures.relations in
@@ -432,7 +432,7 @@ carry_out-requires-clause-judged g c =
     let t = c.self.invariant.1 in
     let lines = c.args.held.now.lines in
     let suit : SuitAll (kept_in old).store lines =
-    subst (λ (x : Kept). SuitAll x.store lines) (sym c.self.view_is) c.requires in
+    subst (λ (x : StoreModel). SuitAll x.store lines) (sym c.self.view_is) c.requires in
     let found = all_found (kept_in old).store lines suit in
     let d = c.judge_done-judged.new.catalog in
     let rel = c.judge_done-judged.ensures.relations in
@@ -445,14 +445,14 @@ carry_out-requires-clause-judged g c =
     let gone = gone_of over lines in
     j
 
-pub give_up-requires-clause-readers : goal.give_up-requires-clause-readers
-give_up-requires-clause-readers g c =
+pub discard_deltas-requires-clause-readers : goal.discard_deltas-requires-clause-readers
+discard_deltas-requires-clause-readers g c =
     let old = c.self.inside.parts in
     let s = c.self.invariant.0 in
     let t = c.self.invariant.1 in
     let lines = c.args.held.now.lines in
     let suit : SuitAll (kept_in old).store lines =
-    subst (λ (x : Kept). SuitAll x.store lines) (sym c.self.view_is) c.requires in
+    subst (λ (x : StoreModel). SuitAll x.store lines) (sym c.self.view_is) c.requires in
     let found = all_found (kept_in old).store lines suit in
     let d = c.judge_done-judged.new.catalog in
     let rel = c.judge_done-judged.ensures.relations in
@@ -470,14 +470,14 @@ give_up-requires-clause-readers g c =
     (touched_reads old s lines d c.laws-2.ensures rel after.0 texts live_stays found c.in-Ok.net j) in
     lacks_readers old mid s t lines places k
 
-pub give_up-requires-clause-logged : goal.give_up-requires-clause-logged
-give_up-requires-clause-logged g c =
+pub discard_deltas-requires-clause-logged : goal.discard_deltas-requires-clause-logged
+discard_deltas-requires-clause-logged g c =
     let old = c.self.inside.parts in
     let s = c.self.invariant.0 in
     let t = c.self.invariant.1 in
     let lines = c.args.held.now.lines in
     let suit : SuitAll (kept_in old).store lines =
-    subst (λ (x : Kept). SuitAll x.store lines) (sym c.self.view_is) c.requires in
+    subst (λ (x : StoreModel). SuitAll x.store lines) (sym c.self.view_is) c.requires in
     let found = all_found (kept_in old).store lines suit in
     let d = c.judge_done-judged.new.catalog in
     let rel = c.judge_done-judged.ensures.relations in
@@ -495,14 +495,14 @@ give_up-requires-clause-logged g c =
     (touched_reads old s lines d c.laws-2.ensures rel after.0 texts live_stays found c.in-Ok.net j) in
     lacks_logged old mid s t lines places k
 
-pub give_up-requires-clause-found : goal.give_up-requires-clause-found
-give_up-requires-clause-found g c =
+pub discard_deltas-requires-clause-found : goal.discard_deltas-requires-clause-found
+discard_deltas-requires-clause-found g c =
     let old = c.self.inside.parts in
     let s = c.self.invariant.0 in
     let t = c.self.invariant.1 in
     let lines = c.args.held.now.lines in
     let suit : SuitAll (kept_in old).store lines =
-    subst (λ (x : Kept). SuitAll x.store lines) (sym c.self.view_is) c.requires in
+    subst (λ (x : StoreModel). SuitAll x.store lines) (sym c.self.view_is) c.requires in
     let found = all_found (kept_in old).store lines suit in
     let d = c.judge_done-judged.new.catalog in
     let rel = c.judge_done-judged.ensures.relations in
@@ -527,7 +527,7 @@ invariant_of-self-in-Err-carry_out g c =
     let t = c.self.invariant.1 in
     let lines = c.args.held.now.lines in
     let suit : SuitAll (kept_in old).store lines =
-    subst (λ (x : Kept). SuitAll x.store lines) (sym c.self.view_is) c.requires in
+    subst (λ (x : StoreModel). SuitAll x.store lines) (sym c.self.view_is) c.requires in
     let found = all_found (kept_in old).store lines suit in
     let d = c.judge_done-judged.new.catalog in
     let rel = c.judge_done-judged.ensures.relations in
@@ -543,8 +543,8 @@ invariant_of-self-in-Err-carry_out g c =
     let k = lacks_left old mid s lines d c.laws-2.ensures rel after.0 texts live_stays come gone
     c.in-Err-carry_out.ensures.err c.carry_out.ensures.rest
     (touched_reads old s lines d c.laws-2.ensures rel after.0 texts live_stays found c.in-Ok.net j) in
-    let new = c.give_up.new.parts in
-    let g' = c.give_up.ensures in (
+    let new = c.discard_deltas.new.parts in
+    let g' = c.discard_deltas.ensures in (
       lacks_whole old mid new s t lines places k g',
       lacks_tended old mid new s t lines places k g' showable_stays,
     )
@@ -556,7 +556,7 @@ returns-in-Err-carry_out g c =
     let t = c.self.invariant.1 in
     let lines = c.args.held.now.lines in
     let suit : SuitAll (kept_in old).store lines =
-    subst (λ (x : Kept). SuitAll x.store lines) (sym c.self.view_is) c.requires in
+    subst (λ (x : StoreModel). SuitAll x.store lines) (sym c.self.view_is) c.requires in
     let found = all_found (kept_in old).store lines suit in
     let d = c.judge_done-judged.new.catalog in
     let rel = c.judge_done-judged.ensures.relations in
@@ -572,8 +572,8 @@ returns-in-Err-carry_out g c =
     let k = lacks_left old mid s lines d c.laws-2.ensures rel after.0 texts live_stays come gone
     c.in-Err-carry_out.ensures.err c.carry_out.ensures.rest
     (touched_reads old s lines d c.laws-2.ensures rel after.0 texts live_stays found c.in-Ok.net j) in
-    let new = c.give_up.new.parts in
-    let g' = c.give_up.ensures in
+    let new = c.discard_deltas.new.parts in
+    let g' = c.discard_deltas.ensures in
     let are = groups_of old s lines d c.laws-2.ensures rel after.0 texts live_stays found c.in-Ok.net j in
     rw (← c.self.view_is) (record {
       does = record {
@@ -606,7 +606,7 @@ settle-requires-clause-come g c =
     let t = c.self.invariant.1 in
     let lines = c.args.held.now.lines in
     let suit : SuitAll (kept_in old).store lines =
-    subst (λ (x : Kept). SuitAll x.store lines) (sym c.self.view_is) c.requires in
+    subst (λ (x : StoreModel). SuitAll x.store lines) (sym c.self.view_is) c.requires in
     let found = all_found (kept_in old).store lines suit in
     let d = c.judge_done-judged.new.catalog in
     let rel = c.judge_done-judged.ensures.relations in
@@ -632,7 +632,7 @@ settle-requires-clause-gone g c =
     let t = c.self.invariant.1 in
     let lines = c.args.held.now.lines in
     let suit : SuitAll (kept_in old).store lines =
-    subst (λ (x : Kept). SuitAll x.store lines) (sym c.self.view_is) c.requires in
+    subst (λ (x : StoreModel). SuitAll x.store lines) (sym c.self.view_is) c.requires in
     let found = all_found (kept_in old).store lines suit in
     let d = c.judge_done-judged.new.catalog in
     let rel = c.judge_done-judged.ensures.relations in
@@ -658,7 +658,7 @@ settle-requires-clause-readers g c =
     let t = c.self.invariant.1 in
     let lines = c.args.held.now.lines in
     let suit : SuitAll (kept_in old).store lines =
-    subst (λ (x : Kept). SuitAll x.store lines) (sym c.self.view_is) c.requires in
+    subst (λ (x : StoreModel). SuitAll x.store lines) (sym c.self.view_is) c.requires in
     let found = all_found (kept_in old).store lines suit in
     let d = c.judge_done-judged.new.catalog in
     let rel = c.judge_done-judged.ensures.relations in
@@ -682,7 +682,7 @@ settle-requires-clause-found g c =
     let t = c.self.invariant.1 in
     let lines = c.args.held.now.lines in
     let suit : SuitAll (kept_in old).store lines =
-    subst (λ (x : Kept). SuitAll x.store lines) (sym c.self.view_is) c.requires in
+    subst (λ (x : StoreModel). SuitAll x.store lines) (sym c.self.view_is) c.requires in
     let found = all_found (kept_in old).store lines suit in
     let d = c.judge_done-judged.new.catalog in
     let rel = c.judge_done-judged.ensures.relations in
@@ -707,7 +707,7 @@ invariant_of-self-2 g c =
     let t = c.self.invariant.1 in
     let lines = c.args.held.now.lines in
     let suit : SuitAll (kept_in old).store lines =
-    subst (λ (x : Kept). SuitAll x.store lines) (sym c.self.view_is) c.requires in
+    subst (λ (x : StoreModel). SuitAll x.store lines) (sym c.self.view_is) c.requires in
     let found = all_found (kept_in old).store lines suit in
     let d = c.judge_done-judged.new.catalog in
     let rel = c.judge_done-judged.ensures.relations in
@@ -739,7 +739,7 @@ returns g c =
     let t = c.self.invariant.1 in
     let lines = c.args.held.now.lines in
     let suit : SuitAll (kept_in old).store lines =
-    subst (λ (x : Kept). SuitAll x.store lines) (sym c.self.view_is) c.requires in
+    subst (λ (x : StoreModel). SuitAll x.store lines) (sym c.self.view_is) c.requires in
     let found = all_found (kept_in old).store lines suit in
     let d = c.judge_done-judged.new.catalog in
     let rel = c.judge_done-judged.ensures.relations in

@@ -6,7 +6,7 @@ use Rattle.djq_live_query.specs.Live.{Live}
 use Rattle.djq_reach.specs.Places.{place_at, watched_at}
 use Rattle.djq_engine.specs.Places.{is_query}
 use Rattle.djq_engine.proofs.Registrations.{lists_once}
-use Rattle.djq_engine.specs.Kept.{Registered}
+use Rattle.djq_engine.specs.StoreModel.{Registered}
 use Rattle.djq_engine.proofs.RegisteredQueries.{name_found}
 use Rattle.djq_engine.proofs.QueryPlaces.{first_query}
 use Rattle.djq_reach.proofs.PlacedQueries.{place_below}
@@ -67,7 +67,7 @@ invariant_of-self c =
     (c.in-Some.ensures ∙ ap (position (is_query c.args.query.now)) c.as_slice.ensures.value) in (
       (drop_done old c.self.invariant.0 c.args.query.now c.in-Some.at n
           (set old.queries.items c.in-Some.at None) c.leave_out.new.places c.leave_all.new.lists.items
-          c.clear.new.self c.unaffect.new.places.items c.unaffect.ensures.items refl c.leave_out.ensures
+          c.clear.new.self c.remove_affected.new.places.items c.remove_affected.ensures.items refl c.leave_out.ensures
           c.leave_all.ensures
           ((idle_as old.queries.items c.in-Some.at n.query c.is_idle.result n.there
           (subst (λ (gs : List (Option Live)). IsSomeAnd (place_at gs c.in-Some.at)
@@ -82,7 +82,7 @@ invariant_of-self c =
         room = omega (
           arith,
           c.self.invariant.1.room,
-          c.unaffect.ensures.room,
+          c.remove_affected.ensures.room,
           filter_few (λ i. not (i == c.in-Some.at))
               old.order,
           ap (λ (xs : List ℕ). length xs) c.leave_out.ensures,
@@ -100,7 +100,7 @@ returns-clause-gives c =
     (c.in-Some.ensures ∙ ap (position (is_query c.args.query.now)) c.as_slice.ensures.value) in
     rw (← c.self.view_is) ((drop_done old c.self.invariant.0 c.args.query.now c.in-Some.at n
     (set old.queries.items c.in-Some.at None) c.leave_out.new.places c.leave_all.new.lists.items
-    c.clear.new.self c.unaffect.new.places.items c.unaffect.ensures.items refl c.leave_out.ensures c.leave_all.ensures
+    c.clear.new.self c.remove_affected.new.places.items c.remove_affected.ensures.items refl c.leave_out.ensures c.leave_all.ensures
     ((idle_as old.queries.items c.in-Some.at n.query c.is_idle.result n.there
     (subst (λ (gs : List (Option Live)). IsSomeAnd (place_at gs c.in-Some.at)
     (λ x. c.is_idle.result ≡ are_vacant x.cursors)) c.as_slice-3.ensures.value c.is_idle.ensures))

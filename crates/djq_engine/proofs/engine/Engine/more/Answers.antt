@@ -3,12 +3,12 @@ use Rattle.std.proofs.Common.{◌∙◌, sym, subst}
 use Rattle.djq_engine.specs.Whole.{kept_in, watches_in}
 use Rattle.djq_engine.proofs.Cursors.{more_gives, freshly, fresh_held, held_cursor}
 use Rattle.djq_engine.proofs.CarriedQueries.{looked_kept}
-use Rattle.djq_engine.specs.Kept.{Kept, IsFresh}
+use Rattle.djq_engine.specs.StoreModel.{StoreModel, IsFresh}
 use Rattle.djq_engine.proofs.engine.Engine.more.Goals as goal
 
 pub more_at-requires : goal.more_at-requires
 more_at-requires g c =
-    let fresh = subst (λ (k : Kept). IsFresh k c.args.id) (sym c.self.view_is) c.requires in
+    let fresh = subst (λ (k : StoreModel). IsFresh k c.args.id) (sym c.self.view_is) c.requires in
     freshly c.self.inside.parts.catalog c.self.inside.parts.queries.items c.self.inside.parts.order
     c.self.inside.parts.readers.items c.self.inside.parts.seq (watches_in c.self.inside.parts) c.self.invariant.0
     c.args.id
@@ -19,7 +19,7 @@ more_at-requires g c =
 
 pub invariant_of-self : goal.invariant_of-self
 invariant_of-self g c =
-    let fresh = subst (λ (k : Kept). IsFresh k c.args.id) (sym c.self.view_is) c.requires in
+    let fresh = subst (λ (k : StoreModel). IsFresh k c.args.id) (sym c.self.view_is) c.requires in
     let old = c.self.inside.parts in
     let k = looked_kept old.catalog old.queries.items c.more_at.new.queries.items old.order old.readers.items
     c.self.invariant.0 old.logs.items c.args.id.query.at c.args.id.cursor c.more_at.result c.args.listing.now
@@ -42,7 +42,7 @@ invariant_of-self g c =
 
 pub returns-clause-gives : goal.returns-clause-gives
 returns-clause-gives g c =
-    let fresh = subst (λ (k : Kept). IsFresh k c.args.id) (sym c.self.view_is) c.requires in
+    let fresh = subst (λ (k : StoreModel). IsFresh k c.args.id) (sym c.self.view_is) c.requires in
     rw (← c.self.view_is)
     ((more_gives c.self.inside.parts.catalog c.self.inside.parts.queries.items c.self.inside.parts.order
     c.self.inside.parts.readers.items c.self.inside.parts.seq (watches_in c.self.inside.parts) c.self.invariant.0

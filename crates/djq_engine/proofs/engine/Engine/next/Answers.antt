@@ -3,12 +3,12 @@ use Rattle.std.proofs.Common.{◌∙◌, sym, subst}
 use Rattle.djq_engine.specs.Whole.{watches_in}
 use Rattle.djq_engine.proofs.Cursors.{next_gives, readable, held_cursor}
 use Rattle.djq_engine.proofs.CarriedQueries.{read_kept}
-use Rattle.djq_engine.specs.Kept.{Kept, IsHeld}
+use Rattle.djq_engine.specs.StoreModel.{StoreModel, IsHeld}
 use Rattle.djq_engine.proofs.engine.Engine.next.Goals as goal
 
 pub next_at-requires : goal.next_at-requires
 next_at-requires g c =
-    let held = subst (λ (k : Kept). IsHeld k c.args.id) (sym c.self.view_is) c.requires in
+    let held = subst (λ (k : StoreModel). IsHeld k c.args.id) (sym c.self.view_is) c.requires in
     readable c.self.inside.parts.catalog c.self.inside.parts.queries.items c.self.inside.parts.order
     c.self.inside.parts.readers.items c.self.inside.parts.seq (watches_in c.self.inside.parts) c.self.invariant.0
     c.args.id
@@ -19,7 +19,7 @@ next_at-requires g c =
 
 pub invariant_of-self : goal.invariant_of-self
 invariant_of-self g c =
-    let held = subst (λ (k : Kept). IsHeld k c.args.id) (sym c.self.view_is) c.requires in
+    let held = subst (λ (k : StoreModel). IsHeld k c.args.id) (sym c.self.view_is) c.requires in
     let old = c.self.inside.parts in
     let k = read_kept old.catalog old.queries.items c.next_at.new.queries.items old.order old.readers.items
     c.self.invariant.0 old.logs.items c.args.id.query.at c.args.id.cursor c.next_at.result c.next_at.new.answer
@@ -42,7 +42,7 @@ invariant_of-self g c =
 
 pub returns-clause-gives : goal.returns-clause-gives
 returns-clause-gives g c =
-    let held = subst (λ (k : Kept). IsHeld k c.args.id) (sym c.self.view_is) c.requires in
+    let held = subst (λ (k : StoreModel). IsHeld k c.args.id) (sym c.self.view_is) c.requires in
     rw (← c.self.view_is)
     ((next_gives c.self.inside.parts.catalog c.self.inside.parts.queries.items c.self.inside.parts.order
     c.self.inside.parts.readers.items c.self.inside.parts.seq (watches_in c.self.inside.parts) c.self.invariant.0

@@ -12,7 +12,7 @@ use Rattle.djq_protocol.specs.declared.limits.TheConstants.{TEXTS}
 use Rattle.djq_store_spec.specs.Relations.{LearnsAll, LearnsFirst}
 use Rattle.djq_database.specs.Catalog.{Catalog}
 use Rattle.djq_engine.specs.declared.parts.Parts.{Parts}
-use Rattle.djq_engine.specs.Kept.{Registered, TellsOfQuery}
+use Rattle.djq_engine.specs.StoreModel.{Registered, TellsOfQuery}
 use Rattle.djq_reach.specs.Places.{log_at, place_at}
 use Rattle.djq_engine.specs.Places.{id_at, query_in, queries_in, registered_in, told_from}
 use Rattle.djq_reach.specs.Tending.{LogsCanBeShown}

@@ -1,7 +1,7 @@
 -- Names differ, by the invariant, so the first place that has the name is that of its registered query.
 use Rattle.std.proofs.Common.{◌∙◌, ap, sym}
 use Rattle.std.specs.Prelude.{position, option_map}
-use Rattle.djq_engine.specs.Kept.{Registered}
+use Rattle.djq_engine.specs.StoreModel.{Registered}
 use Rattle.djq_engine.specs.Places.{is_query}
 use Rattle.djq_engine.proofs.RegisteredQueries.{name_found, name_unknown}
 use Rattle.djq_engine.proofs.QueryPlaces.{first_query}

@@ -7,13 +7,13 @@ use Rattle.djq_live_query.specs.Live.{Live}
 use Rattle.djq_engine.specs.Places.{query_in}
 use Rattle.djq_engine.proofs.RegisteredQueries.{below_queries, gives_that, query_kept_there, there_not_none}
 use Rattle.djq_reach.proofs.PlacedQueries.{place_read}
-use Rattle.djq_engine.specs.Kept.{Kept, IsRegistered}
+use Rattle.djq_engine.specs.StoreModel.{StoreModel, IsRegistered}
 use Rattle.djq_engine.proofs.engine.Engine.query_name.Goals as goal
 
 pub index-requires : goal.index-requires
 index-requires c =
     let p = c.self.inside.parts in
-    let registered = subst (λ (k : Kept). IsRegistered k c.args.id) (sym c.self.view_is) c.requires in
+    let registered = subst (λ (k : StoreModel). IsRegistered k c.args.id) (sym c.self.view_is) c.requires in
     omega (
       arith,
       below_queries p c.self.invariant.0 c.args.id
@@ -23,14 +23,14 @@ index-requires c =
 pub unreachable-requires : goal.unreachable-requires
 unreachable-requires c =
     let p = c.self.inside.parts in
-    let registered = subst (λ (k : Kept). IsRegistered k c.args.id) (sym c.self.view_is) c.requires in
+    let registered = subst (λ (k : StoreModel). IsRegistered k c.args.id) (sym c.self.view_is) c.requires in
     there_not_none p.queries.items c.args.id.at (query_kept_there p c.self.invariant.0 c.args.id registered)
     c.index.result.now c.index.ensures c.in-None.is
 
 pub returns : goal.returns
 returns c =
     let p = c.self.inside.parts in
-    let registered = subst (λ (k : Kept). IsRegistered k c.args.id) (sym c.self.view_is) c.requires in
+    let registered = subst (λ (k : StoreModel). IsRegistered k c.args.id) (sym c.self.view_is) c.requires in
     let t = query_kept_there p c.self.invariant.0 c.args.id registered in
     let there = place_read p.queries.items c.args.id.at c.index.result.now c.in-Some.live
     (below_queries p c.self.invariant.0 c.args.id t) c.index.ensures c.in-Some.is in

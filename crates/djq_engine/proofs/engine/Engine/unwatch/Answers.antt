@@ -2,14 +2,14 @@
 use Rattle.std.proofs.Common.{◌<◌, ◌-◌, ◌∙◌, ap, arith, ℕ, length, subst, sym}
 use Rattle.std.proofs.lemmas.List.{get_or_default}
 use Rattle.djq_engine.proofs.RegisteredQueries.{below_queries, has_query, has_that, watched_more}
-use Rattle.djq_engine.specs.Kept.{Kept, registered_at}
+use Rattle.djq_engine.specs.StoreModel.{StoreModel, registered_at}
 use Rattle.std.specs.Prelude.{IsSomeAnd}
 use Rattle.djq_engine.proofs.engine.Engine.unwatch.Goals as goal
 
 pub index_mut-requires : goal.index_mut-requires
 index_mut-requires c =
     let p = c.self.inside.parts in
-    let some = subst (λ (k : Kept). IsSomeAnd (registered_at k.registered c.args.id) (λ r. 0 < r.watchers))
+    let some = subst (λ (k : StoreModel). IsSomeAnd (registered_at k.registered c.args.id) (λ r. 0 < r.watchers))
     (sym c.self.view_is) c.requires in
     let t = has_query p c.self.invariant.0 c.args.id (λ r. 0 < r.watchers) some in
     omega (arith, below_queries p c.self.invariant.0 c.args.id t, c.self.invariant.1.watched)
@@ -17,7 +17,7 @@ index_mut-requires c =
 pub overflow_sub-index_mut : goal.overflow_sub-index_mut
 overflow_sub-index_mut c =
     let p = c.self.inside.parts in
-    let some = subst (λ (k : Kept). IsSomeAnd (registered_at k.registered c.args.id) (λ r. 0 < r.watchers))
+    let some = subst (λ (k : StoreModel). IsSomeAnd (registered_at k.registered c.args.id) (λ r. 0 < r.watchers))
     (sym c.self.view_is) c.requires in
     let t = has_query p c.self.invariant.0 c.args.id (λ r. 0 < r.watchers) some in
     let low : c.args.id.at < length p.watchers.items = omega
@@ -29,7 +29,7 @@ overflow_sub-index_mut c =
 pub returns : goal.returns
 returns c =
     let p = c.self.inside.parts in
-    let some = subst (λ (k : Kept). IsSomeAnd (registered_at k.registered c.args.id) (λ r. 0 < r.watchers))
+    let some = subst (λ (k : StoreModel). IsSomeAnd (registered_at k.registered c.args.id) (λ r. 0 < r.watchers))
     (sym c.self.view_is) c.requires in
     let t = has_query p c.self.invariant.0 c.args.id (λ r. 0 < r.watchers) some in
     let low : c.args.id.at < length p.watchers.items = omega

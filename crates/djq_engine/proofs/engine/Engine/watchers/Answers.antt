@@ -2,20 +2,20 @@
 use Rattle.std.proofs.Common.{◌≡◌, ◌<◌, ◌∙◌, arith, length, subst, sym}
 use Rattle.std.proofs.lemmas.List.{get_or_default}
 use Rattle.djq_engine.proofs.RegisteredQueries.{below_queries, gives_that, query_kept_there}
-use Rattle.djq_engine.specs.Kept.{Kept, IsRegistered}
+use Rattle.djq_engine.specs.StoreModel.{StoreModel, IsRegistered}
 use Rattle.djq_engine.proofs.engine.Engine.watchers.Goals as goal
 
 pub index-requires : goal.index-requires
 index-requires c =
     let p = c.self.inside.parts in
-    let registered = subst (λ (k : Kept). IsRegistered k c.args.id) (sym c.self.view_is) c.requires in
+    let registered = subst (λ (k : StoreModel). IsRegistered k c.args.id) (sym c.self.view_is) c.requires in
     let t = query_kept_there p c.self.invariant.0 c.args.id registered in
     omega (arith, below_queries p c.self.invariant.0 c.args.id t, c.self.invariant.1.watched)
 
 pub returns : goal.returns
 returns c =
     let p = c.self.inside.parts in
-    let registered = subst (λ (k : Kept). IsRegistered k c.args.id) (sym c.self.view_is) c.requires in
+    let registered = subst (λ (k : StoreModel). IsRegistered k c.args.id) (sym c.self.view_is) c.requires in
     let t = query_kept_there p c.self.invariant.0 c.args.id registered in
     let low : c.args.id.at < length p.watchers.items = omega
     (arith, below_queries p c.self.invariant.0 c.args.id t, c.self.invariant.1.watched) in

@@ -6,7 +6,7 @@ use Rattle.djq_forest.proofs.index.Index.find.Goals as goal
 
 pub loop-slot-init : goal.loop-slot-init
 loop-slot-init c = seeking c.args.self.now c.args.slots.now.tuples c.args.tuple.now c.bucket_in.result c.link_of-at.result
-    c.requires (c.bucket_in.ensures.class c.args.tuple.now c.hash_of.ensures) c.bucket_in.ensures.within
+    c.requires (c.bucket_in.ensures.bucket_number c.args.tuple.now c.hash_of.ensures) c.bucket_in.ensures.within
     c.link_of-at.ensures
 
 pub tuple-requires : goal.tuple-requires

@@ -32,7 +32,7 @@ put-requires-clause-within c =
 
 pub returns-clause-index : goal.returns-clause-index
 returns-clause-index c = rw c.put.ensures
-    (inserts c.args.self.now _ c.args.slots.now.tuples c.take_free-slot.result c.bucket_in-class.result
+    (inserts c.args.self.now _ c.args.slots.now.tuples c.take_free-slot.result c.bucket_in-bucket_number.result
     c.args.tuple.now c.requires.index
     (takes_free c.args.self.now c.args.slots.now.tuples c.take_free-slot.result c.requires.index c.requires.room
     c.take_free-slot.ensures.slot)
@@ -43,7 +43,7 @@ returns-clause-index c = rw c.put.ensures
       free = c.take_free-slot.ensures.free;
       used = c.take_free-slot.ensures.used;
     })
-    c.bucket_in-class.ensures.within (c.bucket_in-class.ensures.class c.args.tuple.now c.hash_of.ensures))
+    c.bucket_in-bucket_number.ensures.within (c.bucket_in-bucket_number.ensures.bucket_number c.args.tuple.now c.hash_of.ensures))
 
 pub returns-clause-free : goal.returns-clause-free
 returns-clause-free c = takes_free c.args.self.now c.args.slots.now.tuples c.take_free-slot.result c.requires.index

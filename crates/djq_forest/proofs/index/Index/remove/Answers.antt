@@ -6,9 +6,9 @@ use Rattle.djq_arena.proofs.Buckets.{unlisted_links}
 use Rattle.djq_forest.proofs.index.Index.remove.Goals as goal
 
 pub unlist-requires-clause-stands : goal.unlist-requires-clause-stands
-unlist-requires-clause-stands c = stands c.args.self.now c.args.slots.now.tuples c.args.slot c.bucket_in-class.result
-    c.tuple.result.now c.requires.index c.tuple.ensures c.bucket_in-class.ensures.within
-    (c.bucket_in-class.ensures.class c.tuple.result.now c.hash_of.ensures)
+unlist-requires-clause-stands c = stands c.args.self.now c.args.slots.now.tuples c.args.slot c.bucket_in-bucket_number.result
+    c.tuple.result.now c.requires.index c.tuple.ensures c.bucket_in-bucket_number.ensures.within
+    (c.bucket_in-bucket_number.ensures.bucket_number c.tuple.result.now c.hash_of.ensures)
 
 pub index_mut-requires : goal.index_mut-requires
 index_mut-requires c =
@@ -18,7 +18,7 @@ index_mut-requires c =
       arith,
       within,
       unlisted_links c.args.self.now.links.items c.unlist.new.links.items c.args.self.now.heads.items
-          c.unlist.new.heads.items c.bucket_in-class.result c.args.slot c.unlist.ensures.unlisted,
+          c.unlist.new.heads.items c.bucket_in-bucket_number.result c.args.slot c.unlist.ensures.unlisted,
       c.requires.index.long,
       c.unlist.new.links.ok.0,
     )
@@ -35,7 +35,7 @@ free-requires c = there_within c.args.slots.now.tuples c.args.slot
 
 pub returns-clause-index : goal.returns-clause-index
 returns-clause-index c = rw c.free.ensures
-    (removes c.args.self.now _ c.args.slots.now.tuples c.args.slot c.bucket_in-class.result c.tuple.result.now
+    (removes c.args.self.now _ c.args.slots.now.tuples c.args.slot c.bucket_in-bucket_number.result c.tuple.result.now
     c.requires.index c.tuple.ensures
     (record {
       more = c.unlist.new.links.items;
@@ -44,4 +44,4 @@ returns-clause-index c = rw c.free.ensures
       free = c.to-self.ensures;
       used = refl;
     })
-    c.bucket_in-class.ensures.within (c.bucket_in-class.ensures.class c.tuple.result.now c.hash_of.ensures))
+    c.bucket_in-bucket_number.ensures.within (c.bucket_in-bucket_number.ensures.bucket_number c.tuple.result.now c.hash_of.ensures))

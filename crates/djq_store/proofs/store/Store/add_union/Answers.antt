@@ -7,7 +7,7 @@ use Rattle.djq_store_spec.specs.Registering.{answer_steps}
 use Rattle.djq_live_query.specs.Live.{Live}
 use Rattle.djq_live_query.proofs.Catalogs.{are_kept}
 use Rattle.djq_store_spec.specs.Union.{RegistersUnion}
-use Rattle.djq_engine.specs.Kept.{Kept, SameCursors}
+use Rattle.djq_engine.specs.StoreModel.{StoreModel, SameCursors}
 use Rattle.djq_united.specs.United.{AreMembers}
 use Rattle.djq_store.specs.Places.{store_seen}
 use Rattle.djq_store.specs.Registering.{EnrolsUnion, EnrolsUnionTelling}
@@ -79,7 +79,7 @@ returns-in-Ok-fill_slot c =
     old.order.items old.sessions.items old.affected.items c.self.invariant.listed
     c.args.name c.args.members.now c.requires free c.in-Ok.places c.in-Ok.ensures in
     record {
-      registers = subst (λ (k : Kept). RegistersUnion k.store c.args.name c.args.members.now (Ok c.most_of-most.result)
+      registers = subst (λ (k : StoreModel). RegistersUnion k.store c.args.name c.args.members.now (Ok c.most_of-most.result)
           (store_seen old.engine c.fill_slot.new.unions.items c.push_reserved.new.self.items old.sessions.items
           old.affected.items).store) c.self.view_is
           (subst (λ (xs : List ℕ). RegistersUnion
@@ -98,7 +98,7 @@ returns-in-Ok-fill_slot c =
           (subst (λ (ps : List ℕ). c.most_of-most.result
           ≡ answer_steps (a_union c.args.name (map (λ l. l.query) (queries_at c.places.result.now ps))))
           c.as_slice.ensures (c.most_of-most.ensures c.args.name)))));
-      cursors = subst (λ (k : Kept). SameCursors k.cursors
+      cursors = subst (λ (k : StoreModel). SameCursors k.cursors
           (store_seen old.engine c.fill_slot.new.unions.items c.push_reserved.new.self.items old.sessions.items
           old.affected.items).cursors) c.self.view_is
           (joining_cursors old.engine c.laws.ensures head_types_are old.unions.items
@@ -106,7 +106,7 @@ returns-in-Ok-fill_slot c =
           old.sessions.items old.affected.items c.self.invariant.listed
           c.args.name c.args.members.now c.requires free c.in-Ok.places c.in-Ok.ensures c.fill_slot.new.unions.items
           c.in-Ok-fill_slot.slot _ c.in-Ok-fill_slot.ensures.ok c.new.ensures.is refl);
-      enrols = subst (λ (k : Kept). EnrolsUnion k c.args.name c.args.members.now (Ok c.most_of-most.result)
+      enrols = subst (λ (k : StoreModel). EnrolsUnion k c.args.name c.args.members.now (Ok c.most_of-most.result)
           (store_seen old.engine c.fill_slot.new.unions.items c.push_reserved.new.self.items old.sessions.items
           old.affected.items)) c.self.view_is
           (subst (λ (xs : List ℕ). EnrolsUnion
@@ -119,7 +119,7 @@ returns-in-Ok-fill_slot c =
           old.sessions.items old.affected.items c.self.invariant.listed
           c.args.name c.args.members.now c.requires free c.in-Ok.places c.in-Ok.ensures c.fill_slot.new.unions.items
           c.in-Ok-fill_slot.slot _ c.in-Ok-fill_slot.ensures.ok c.new.ensures.is refl c.most_of-most.result));
-      tellings = subst (λ (k : Kept). EnrolsUnionTelling k c.args.name (Ok c.most_of-most.result)
+      tellings = subst (λ (k : StoreModel). EnrolsUnionTelling k c.args.name (Ok c.most_of-most.result)
           (store_seen old.engine c.fill_slot.new.unions.items c.push_reserved.new.self.items old.sessions.items
           old.affected.items)) c.self.view_is
           (subst (λ (xs : List ℕ). EnrolsUnionTelling

@@ -2,7 +2,7 @@
 use Rattle.std.proofs.Common.{[], ◌∷◌, ◌≡◌, ◌∙◌, refl, sym, subst, false}
 use Rattle.djq_store_spec.specs.Rows.{DeletesRow}
 use Rattle.djq_store_spec.specs.Changes.{row_out, delete_outcome, tried}
-use Rattle.djq_engine.specs.Kept.{Kept, Outdates, IsUnwatched}
+use Rattle.djq_engine.specs.StoreModel.{StoreModel, Outdates, IsUnwatched}
 use Rattle.djq_engine.specs.Watching.{CountsUpdates, delete_times}
 use Rattle.djq_store.specs.Places.{store_kept_in}
 use Rattle.djq_store.specs.Watching.{TellsChange}
@@ -13,8 +13,8 @@ use Rattle.djq_store.proofs.RowCommands.{delete_grows}
 use Rattle.djq_store.proofs.EngineChanges.{staying_laws}
 use Rattle.djq_store.proofs.store.Store.del.Goals as goal
 
-pub follow_one-requires : goal.follow_one-requires
-follow_one-requires g c =
+pub update_unions_of-requires : goal.update_unions_of-requires
+update_unions_of-requires g c =
     let p = c.self.inside.parts in
     let e' = c.del-outcome.new.self in
     let r = c.del-outcome.result in
@@ -50,12 +50,12 @@ invariant_of-self g c =
     let is = c.delete_turn-turn.ensures ∙ delete_turns change r in
     let from = c.args.steps.now.listing in
     let mid = c.del-outcome.new.steps.listing in
-    let q = c.follow_one.new.parts in
-    let to = c.follow_one.new.listing in
+    let q = c.update_unions_of.new.parts in
+    let to = c.update_unions_of.new.listing in
     let comes = turn_comes p q e' (c.args.name.now ∷ []) outcome turn is from mid to c.self.invariant
     staying_laws did a.tells
-    (delete_known p.engine e' c.args.name.now c.args.row.now r a.deletes) c.follow_one.ensures.follows
-    c.follow_one.ensures.counted in
+    (delete_known p.engine e' c.args.name.now c.args.row.now r a.deletes) c.update_unions_of.ensures.follows
+    c.update_unions_of.ensures.counted in
     comes.whole
 
 pub returns : goal.returns
@@ -73,26 +73,26 @@ returns g c =
     let is = c.delete_turn-turn.ensures ∙ delete_turns change r in
     let from = c.args.steps.now.listing in
     let mid = c.del-outcome.new.steps.listing in
-    let q = c.follow_one.new.parts in
-    let to = c.follow_one.new.listing in
+    let q = c.update_unions_of.new.parts in
+    let to = c.update_unions_of.new.listing in
     let comes = turn_comes p q e' (c.args.name.now ∷ []) outcome turn is from mid to c.self.invariant
     staying_laws did a.tells
-    (delete_known p.engine e' c.args.name.now c.args.row.now r a.deletes) c.follow_one.ensures.follows
-    c.follow_one.ensures.counted in
+    (delete_known p.engine e' c.args.name.now c.args.row.now r a.deletes) c.update_unions_of.ensures.follows
+    c.update_unions_of.ensures.counted in
     record {
-      deletes = subst (λ (k : Kept). DeletesRow k.store c.args.name.now c.args.row.now r (store_kept_in q).store)
+      deletes = subst (λ (k : StoreModel). DeletesRow k.store c.args.name.now c.args.row.now r (store_kept_in q).store)
           c.self.view_is (store_deletes p q e' c.args.name.now c.args.row.now r a.deletes comes.store);
-      outdates = subst (λ (k : Kept). Outdates k
+      outdates = subst (λ (k : StoreModel). Outdates k
           (tried (delete_outcome (row_out (k.store).relations c.args.name.now c.args.row.now) r))
           (store_kept_in q)) c.self.view_is comes.outdates;
-      watches = subst (λ (k : Kept). (store_kept_in q).registered ≡ k.registered) c.self.view_is comes.registered;
-      tells = subst (λ (k : Kept). TellsChange k
+      watches = subst (λ (k : StoreModel). (store_kept_in q).registered ≡ k.registered) c.self.view_is comes.registered;
+      tells = subst (λ (k : StoreModel). TellsChange k
           (delete_outcome (row_out (k.store).relations c.args.name.now c.args.row.now) r)
           (store_kept_in q) from to) c.self.view_is comes.tells;
       unlisted = λ none. let quiet = subst IsUnwatched (sym c.self.view_is) none in
-          c.follow_one.ensures.unlisted (unions_unwatched p b c.self.invariant quiet)
+          c.update_unions_of.ensures.unlisted (unions_unwatched p b c.self.invariant quiet)
           ∙ a.unlisted (engine_unwatched p b c.self.invariant quiet);
-      updates = subst (λ (k : Kept). CountsUpdates (delete_times r) k
+      updates = subst (λ (k : StoreModel). CountsUpdates (delete_times r) k
           (row_out (k.store).relations c.args.name.now c.args.row.now) c.args.steps.now.update
           c.del-outcome.new.steps.update) c.self.view_is
           (counts_seen p.engine b p.unions.items p.order.items c.self.invariant.listed p.sessions.items

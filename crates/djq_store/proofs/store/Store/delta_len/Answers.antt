@@ -2,7 +2,7 @@
 use Rattle.std.proofs.Common.{◌≡◌, ◌-◌, ◌∙◌, List, length, sym, subst, ap}
 use Rattle.std.specs.Prelude.{Option, Some, IsSomeAnd, option_map, ⊤}
 use Rattle.djq_store_spec.specs.Delta.{Change}
-use Rattle.djq_engine.specs.Kept.{Kept, IsRegistered, told_at}
+use Rattle.djq_engine.specs.StoreModel.{StoreModel, IsRegistered, told_at}
 use Rattle.djq_store.specs.declared.joined.Joined.{Joined}
 use Rattle.djq_store.specs.Places.{joined_at}
 use Rattle.djq_store.proofs.Lookups.{engine_registered, joined_some}
@@ -14,13 +14,13 @@ delta_len-requires c =
     let p = c.self.inside.parts in
     engine_registered p.engine c.laws.ensures p.unions.items p.order.items p.sessions.items
     p.affected.items
-    c.self.invariant.listed c.args.id (subst (λ (k : Kept). IsRegistered k c.args.id) (sym c.self.view_is) c.requires)
+    c.self.invariant.listed c.args.id (subst (λ (k : StoreModel). IsRegistered k c.args.id) (sym c.self.view_is) c.requires)
     c.if-id-lt-QUERIES.true
 
 pub returns-then-id-lt-QUERIES : goal.returns-then-id-lt-QUERIES
 returns-then-id-lt-QUERIES c =
     let p = c.self.inside.parts in
-    subst (λ (k : Kept). c.delta_len.result
+    subst (λ (k : StoreModel). c.delta_len.result
     ≡ option_map (λ (changes : List Change). length changes) (told_at k c.args.id))
     c.self.view_is
     (c.delta_len.ensures ∙ ap (option_map (λ (changes : List Change). length changes))
@@ -34,7 +34,7 @@ joined_in-requires c =
     subst (λ (us : List (Option Joined)). IsSomeAnd (joined_at us (c.args.id.at - 256)) (λ j. ⊤))
     (sym c.as_slice.ensures.value)
     (joined_some p.engine c.laws.ensures p.unions.items p.order.items p.sessions.items p.affected.items
-    c.self.invariant.listed c.args.id (subst (λ (k : Kept). IsRegistered k c.args.id) (sym c.self.view_is) c.requires)
+    c.self.invariant.listed c.args.id (subst (λ (k : StoreModel). IsRegistered k c.args.id) (sym c.self.view_is) c.requires)
     c.if-id-lt-QUERIES.false)
 
 pub returns : goal.returns
@@ -43,7 +43,7 @@ returns c =
     let j = c.joined_in.result.now in
     let found = subst (λ (us : List (Option Joined)). joined_at us (c.args.id.at - 256) ≡ Some j)
     c.as_slice.ensures.value c.joined_in.ensures in
-    subst (λ (k : Kept). c.told_len.result
+    subst (λ (k : StoreModel). c.told_len.result
     ≡ option_map (λ (changes : List Change). length changes) (told_at k c.args.id))
     c.self.view_is
     (told_count p.engine c.laws.ensures p.unions.items p.order.items p.sessions.items p.affected.items

@@ -4,9 +4,9 @@ use Rattle.std.specs.Prelude.{None, Some, Ok, Err}
 use Rattle.djq_store_spec.specs.Changes.{tried}
 use Rattle.djq_store_spec.specs.Transaction.{DoesAll, lines_outcome}
 use Rattle.djq_database.proofs.Cells.{texts as texts_stay}
-use Rattle.djq_engine.specs.Kept.{Kept, Outdates, IsUnwatched}
+use Rattle.djq_engine.specs.StoreModel.{StoreModel, Outdates, IsUnwatched}
 use Rattle.djq_engine.specs.Watching.{CountsLines}
-use Rattle.djq_store.specs.declared.settling.Turn.TheVariants.{Lacked}
+use Rattle.djq_store.specs.declared.settling.UnionUpdate.TheVariants.{Lacked}
 use Rattle.djq_store.specs.Places.{store_kept_in}
 use Rattle.djq_store.specs.Settling.{named_by}
 use Rattle.djq_store.specs.Watching.{TellsChange}
@@ -18,8 +18,8 @@ use Rattle.djq_store.proofs.LineCommands.{made_known, lacked_known, rested_known
 use Rattle.djq_store.proofs.LineCommands.{rested_turns, lines_grow, store_does}
 use Rattle.djq_store.proofs.store.Store.done.Goals as goal
 
-pub follow-requires : goal.follow-requires
-follow-requires g c =
+pub update_unions-requires : goal.update_unions-requires
+update_unions-requires g c =
     let p = c.self.inside.parts in
     let e' = c.done-outcome.new.self in
     let lines = (c.args.held.now).lines in
@@ -58,12 +58,12 @@ invariant_of-self g c =
     let turn = c.lines_turn-turn.result in
     let is = c.lines_turn-turn.ensures ∙ made_turns rs lines n in
     let names = c.as_slice-relations.result.now in
-    let q = c.follow.new.parts in
-    let to = c.follow.new.listing in
+    let q = c.update_unions.new.parts in
+    let to = c.update_unions.new.listing in
     let known = made_known p.engine e' lines c.args.given n names a.spares.0 a.spares.1 a.does
     (c.as_slice-relations.ensures.value ∙ a.relations) in
     let comes = turn_comes p q e' names outcome turn is from mid to c.self.invariant staying_laws did a.tells known
-    c.follow.ensures.follows c.follow.ensures.counted in
+    c.update_unions.ensures.follows c.update_unions.ensures.counted in
     comes.whole
 
 pub returns-in-Ok : goal.returns-in-Ok
@@ -83,24 +83,24 @@ returns-in-Ok g c =
     let turn = c.lines_turn-turn.result in
     let is = c.lines_turn-turn.ensures ∙ made_turns rs lines n in
     let names = c.as_slice-relations.result.now in
-    let q = c.follow.new.parts in
-    let to = c.follow.new.listing in
+    let q = c.update_unions.new.parts in
+    let to = c.update_unions.new.listing in
     let known = made_known p.engine e' lines c.args.given n names a.spares.0 a.spares.1 a.does
     (c.as_slice-relations.ensures.value ∙ a.relations) in
     let comes = turn_comes p q e' names outcome turn is from mid to c.self.invariant staying_laws did a.tells known
-    c.follow.ensures.follows c.follow.ensures.counted in
+    c.update_unions.ensures.follows c.update_unions.ensures.counted in
     record {
-      does = subst (λ (k : Kept). DoesAll k.store lines c.args.given (Ok n) (store_kept_in q).store) c.self.view_is
+      does = subst (λ (k : StoreModel). DoesAll k.store lines c.args.given (Ok n) (store_kept_in q).store) c.self.view_is
           (store_does p q e' lines c.args.given (Ok n) a.does comes.store);
-      outdates = subst (λ (k : Kept). Outdates k (tried (lines_outcome (k.store).relations lines (Ok n))) (store_kept_in q))
+      outdates = subst (λ (k : StoreModel). Outdates k (tried (lines_outcome (k.store).relations lines (Ok n))) (store_kept_in q))
           c.self.view_is comes.outdates;
-      watches = subst (λ (k : Kept). (store_kept_in q).registered ≡ k.registered) c.self.view_is comes.registered;
-      tells = subst (λ (k : Kept). TellsChange k (lines_outcome (k.store).relations lines (Ok n)) (store_kept_in q) from to)
+      watches = subst (λ (k : StoreModel). (store_kept_in q).registered ≡ k.registered) c.self.view_is comes.registered;
+      tells = subst (λ (k : StoreModel). TellsChange k (lines_outcome (k.store).relations lines (Ok n)) (store_kept_in q) from to)
           c.self.view_is comes.tells;
       unlisted = λ none. let quiet = subst IsUnwatched (sym c.self.view_is) none in
-          c.follow.ensures.unlisted (unions_unwatched p b c.self.invariant quiet)
+          c.update_unions.ensures.unlisted (unions_unwatched p b c.self.invariant quiet)
           ∙ a.unlisted (engine_unwatched p b c.self.invariant quiet);
-      updates = subst (λ (k : Kept). CountsLines (Ok n) k lines c.args.steps.now.update c.done-outcome.new.steps.update)
+      updates = subst (λ (k : StoreModel). CountsLines (Ok n) k lines c.args.steps.now.update c.done-outcome.new.steps.update)
           c.self.view_is
           (counts_lines_seen p.engine b p.unions.items p.order.items c.self.invariant.listed p.sessions.items (Ok n) lines
           (store_kept_in p) c.args.steps.now.update c.done-outcome.new.steps.update refl refl a.updates);
@@ -163,16 +163,16 @@ returns-then-is_memory g c =
     c.self.invariant staying_laws did a.tells (lacked_known p.engine e' lines r lacks a.spares.1)
     c.follow_lacked.ensures (omega arith) in
     record {
-      does = subst (λ (k : Kept). DoesAll k.store lines c.args.given (Err r) (store_kept_in q).store) c.self.view_is
+      does = subst (λ (k : StoreModel). DoesAll k.store lines c.args.given (Err r) (store_kept_in q).store) c.self.view_is
           (store_does p q e' lines c.args.given (Err r) a.does comes.store);
-      outdates = subst (λ (k : Kept). Outdates k (tried (lines_outcome (k.store).relations lines (Err r))) (store_kept_in q))
+      outdates = subst (λ (k : StoreModel). Outdates k (tried (lines_outcome (k.store).relations lines (Err r))) (store_kept_in q))
           c.self.view_is comes.outdates;
-      watches = subst (λ (k : Kept). (store_kept_in q).registered ≡ k.registered) c.self.view_is comes.registered;
-      tells = subst (λ (k : Kept). TellsChange k (lines_outcome (k.store).relations lines (Err r)) (store_kept_in q) from mid)
+      watches = subst (λ (k : StoreModel). (store_kept_in q).registered ≡ k.registered) c.self.view_is comes.registered;
+      tells = subst (λ (k : StoreModel). TellsChange k (lines_outcome (k.store).relations lines (Err r)) (store_kept_in q) from mid)
           c.self.view_is comes.tells;
       unlisted = λ none. let quiet = subst IsUnwatched (sym c.self.view_is) none in
           a.unlisted (engine_unwatched p b c.self.invariant quiet);
-      updates = subst (λ (k : Kept). CountsLines (Err r) k lines c.args.steps.now.update c.done-outcome.new.steps.update)
+      updates = subst (λ (k : StoreModel). CountsLines (Err r) k lines c.args.steps.now.update c.done-outcome.new.steps.update)
           c.self.view_is
           (counts_lines_seen p.engine b p.unions.items p.order.items c.self.invariant.listed p.sessions.items (Err r) lines
           (store_kept_in p) c.args.steps.now.update c.done-outcome.new.steps.update refl refl a.updates);
@@ -217,16 +217,16 @@ returns-else-is_memory g c =
     let comes = turn_comes p q e' [] outcome None (rested_turns rs lines r rests) from mid mid c.self.invariant
     staying_laws did a.tells (rested_known p.engine e' [] lines r rests) refl (omega arith) in
     record {
-      does = subst (λ (k : Kept). DoesAll k.store lines c.args.given (Err r) (store_kept_in q).store) c.self.view_is
+      does = subst (λ (k : StoreModel). DoesAll k.store lines c.args.given (Err r) (store_kept_in q).store) c.self.view_is
           (store_does p q e' lines c.args.given (Err r) a.does comes.store);
-      outdates = subst (λ (k : Kept). Outdates k (tried (lines_outcome (k.store).relations lines (Err r))) (store_kept_in q))
+      outdates = subst (λ (k : StoreModel). Outdates k (tried (lines_outcome (k.store).relations lines (Err r))) (store_kept_in q))
           c.self.view_is comes.outdates;
-      watches = subst (λ (k : Kept). (store_kept_in q).registered ≡ k.registered) c.self.view_is comes.registered;
-      tells = subst (λ (k : Kept). TellsChange k (lines_outcome (k.store).relations lines (Err r)) (store_kept_in q) from mid)
+      watches = subst (λ (k : StoreModel). (store_kept_in q).registered ≡ k.registered) c.self.view_is comes.registered;
+      tells = subst (λ (k : StoreModel). TellsChange k (lines_outcome (k.store).relations lines (Err r)) (store_kept_in q) from mid)
           c.self.view_is comes.tells;
       unlisted = λ none. let quiet = subst IsUnwatched (sym c.self.view_is) none in
           a.unlisted (engine_unwatched p b c.self.invariant quiet);
-      updates = subst (λ (k : Kept). CountsLines (Err r) k lines c.args.steps.now.update c.done-outcome.new.steps.update)
+      updates = subst (λ (k : StoreModel). CountsLines (Err r) k lines c.args.steps.now.update c.done-outcome.new.steps.update)
           c.self.view_is
           (counts_lines_seen p.engine b p.unions.items p.order.items c.self.invariant.listed p.sessions.items (Err r) lines
           (store_kept_in p) c.args.steps.now.update c.done-outcome.new.steps.update refl refl a.updates);

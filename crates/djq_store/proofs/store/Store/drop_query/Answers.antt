@@ -5,7 +5,7 @@ use Rattle.djq_model.specs.Data.{Bytes}
 use Rattle.djq_protocol.specs.declared.answer.Refusal.{Refusal}
 use Rattle.djq_protocol.specs.declared.answer.Refusal.TheVariants.{NoQuery, InUse}
 use Rattle.djq_protocol.specs.declared.limits.TheConstants.{QUERIES}
-use Rattle.djq_engine.specs.Kept.{Kept, DropGives, DropsPlace}
+use Rattle.djq_engine.specs.StoreModel.{StoreModel, DropGives, DropsPlace}
 use Rattle.djq_engine.specs.Places.{places_without}
 use Rattle.djq_united.specs.Slots.{are_vacant}
 use Rattle.djq_store.specs.declared.joined.Joined.{Joined}
@@ -42,7 +42,7 @@ returns-then-joined-gt0 c =
     let some : 0 < f.union.watchers = subst (λ (j : Joined). 0 < j.watchers)
     (same_joined old.unions.items c.as_slice-in-Some.result.now c.in-Some.slot f.union c.joined_in-joined.result.now
     f.there c.joined_in-joined.ensures c.as_slice-in-Some.ensures.value) c.if-joined-gt0.true in
-    subst (λ (k : Kept). DropGives k name (Err InUse) k) c.self.view_is
+    subst (λ (k : StoreModel). DropGives k name (Err InUse) k) c.self.view_is
     (subst (λ (n : Bytes). DropGives
     (store_seen e old.unions.items old.order.items old.sessions.items old.affected.items) n
     (Err InUse) (store_seen e old.unions.items old.order.items old.sessions.items old.affected.items)) f.called
@@ -62,7 +62,7 @@ returns-then-not-is_idle c =
     ((same_joined old.unions.items c.as_slice-in-Some.result.now c.in-Some.slot f.union
     c.joined_in-joined.result.now f.there c.joined_in-joined.ensures c.as_slice-in-Some.ensures.value)))
     ∙ sym c.is_idle.ensures ∙ c.if-not-is_idle.true in
-    subst (λ (k : Kept). DropGives k name (Err InUse) k) c.self.view_is
+    subst (λ (k : StoreModel). DropGives k name (Err InUse) k) c.self.view_is
     (subst (λ (n : Bytes). DropGives
     (store_seen e old.unions.items old.order.items old.sessions.items old.affected.items) n
     (Err InUse) (store_seen e old.unions.items old.order.items old.sessions.items old.affected.items)) f.called
@@ -118,7 +118,7 @@ returns-in-Some c =
     c.joined_in-joined.result.now f.there c.joined_in-joined.ensures c.as_slice-in-Some.ensures.value)))
     ∙ sym c.is_idle.ensures ∙ c.if-not-is_idle.false in
     let us' = set old.unions.items c.in-Some.slot None in
-    subst (λ (k : Kept). DropGives k name (Ok tt)
+    subst (λ (k : StoreModel). DropGives k name (Ok tt)
     (store_seen e us' c.leave_out.new.places.items old.sessions.items c.leave_out-in-Some.new.places.items))
     c.self.view_is
     (subst (λ (xs : List ℕ). DropGives
@@ -144,7 +144,7 @@ returns-in_default-query_id c =
     let w = c.self.invariant.listed in
     let name = c.args.name.now in
     let none = no_union old.unions.items c.as_slice.result.now name c.as_slice.ensures.value c.in_default.ensures in
-    subst (λ (k : Kept). DropGives k name (Err NoQuery) k) c.self.view_is
+    subst (λ (k : StoreModel). DropGives k name (Err NoQuery) k) c.self.view_is
     (drop_unknown e b old.unions.items old.order.items old.sessions.items old.affected.items w c.self.invariant.counted
     name none (unknown_name e b name c.in_default-query_id.ensures))
 
@@ -160,7 +160,7 @@ returns-then-is_member c =
     in
     let m = member_slot old.unions.items c.as_slice-2.result.now c.in-Some-query_id.id.at c.as_slice-2.ensures.value
     (sym c.is_member.ensures ∙ c.if-is_member.true) in
-    subst (λ (k : Kept). DropGives k name (Err InUse) k) c.self.view_is
+    subst (λ (k : StoreModel). DropGives k name (Err InUse) k) c.self.view_is
     (drop_member e b old.unions.items old.order.items old.sessions.items old.affected.items w
     c.self.invariant.counted name none c.in-Some-query_id.id.at s.seat s.called m.slot m.union m.there m.among)
 
@@ -236,7 +236,7 @@ returns-then-is_ok c =
     c.self.invariant.counted name none c.in-Some-query_id.id.at s.seat s.called alone e'
     c.laws-2.ensures g p in
     let at = c.in-Some-query_id.id.at in
-    subst (λ (k : Kept). DropGives k name result
+    subst (λ (k : StoreModel). DropGives k name result
     (store_seen e' old.unions.items c.leave_out-then-is_ok.new.places.items old.sessions.items
     c.leave_out-then-is_ok-2.new.places.items)) c.self.view_is
     (subst (λ (xs : List ℕ). DropGives
@@ -272,7 +272,7 @@ returns-else-is_ok c =
     let g = subst (λ (y : Result ⊤ Refusal). DropGives e name y e') x.is c.drop_query-dropped.ensures.gives in
     let p = subst (λ (y : Result ⊤ Refusal). DropsPlace e name y e') x.is c.drop_query-dropped.ensures.places in
     let r = drop_rests e e' b c.laws-2.ensures staying_laws name x.refusal g p in
-    subst (λ (k : Kept). DropGives k name result
+    subst (λ (k : StoreModel). DropGives k name result
     (store_seen e' old.unions.items old.order.items old.sessions.items old.affected.items)) c.self.view_is
     (subst (λ (y : Result ⊤ Refusal). DropGives
     (store_seen e old.unions.items old.order.items old.sessions.items old.affected.items) name y

@@ -1,7 +1,7 @@
 -- A union has a member for each place that it keeps; where none has the name the engine's lines tell it.
 use Rattle.std.proofs.Common.{◌≡◌, ◌∙◌, List, sym, subst, ap, length}
 use Rattle.std.specs.Prelude.{Option, Some, Ok, Err, IsSomeAnd, ⊤}
-use Rattle.djq_engine.specs.Kept.{Kept}
+use Rattle.djq_engine.specs.StoreModel.{StoreModel}
 use Rattle.djq_store.specs.declared.explained.Explained.TheVariants.{Tree, Members}
 use Rattle.djq_store.specs.declared.joined.Joined.{Joined}
 use Rattle.djq_store.specs.Explaining.{ExplainGives}
@@ -26,7 +26,7 @@ returns-in-Some c =
     c.in-Some.ensures in
     let found = subst (λ (us : List (Option Joined)). joined_at us c.in-Some.slot ≡ Some c.joined_in-joined.result.now)
     c.as_slice-in-Some.ensures.value c.joined_in-joined.ensures in
-    subst (λ (k : Kept). ExplainGives k.store c.args.name.now (Ok (Members (length c.members.result.now))))
+    subst (λ (k : StoreModel). ExplainGives k.store c.args.name.now (Ok (Members (length c.members.result.now))))
     c.self.view_is
     (union_explained old.engine c.laws.ensures old.unions.items old.order.items old.sessions.items
     old.affected.items c.self.invariant.listed c.args.name.now c.in-Some.slot f (length c.members.result.now)
@@ -39,7 +39,7 @@ returns-in-Some c =
 pub returns-in-Ok : goal.returns-in-Ok
 returns-in-Ok c =
     let old = c.self.inside.parts in
-    subst (λ (k : Kept). ExplainGives k.store c.args.name.now (Ok (Tree c.in-Ok.lines))) c.self.view_is
+    subst (λ (k : StoreModel). ExplainGives k.store c.args.name.now (Ok (Tree c.in-Ok.lines))) c.self.view_is
     (lines_explained old.engine c.laws.ensures old.unions.items old.order.items old.sessions.items
     old.affected.items c.self.invariant.listed c.args.name.now
     (no_union old.unions.items c.as_slice.result.now c.args.name.now c.as_slice.ensures.value c.in_default.ensures)
@@ -48,7 +48,7 @@ returns-in-Ok c =
 pub returns-in-Err : goal.returns-in-Err
 returns-in-Err c =
     let old = c.self.inside.parts in
-    subst (λ (k : Kept). ExplainGives k.store c.args.name.now (Err c.in-Err.refusal)) c.self.view_is
+    subst (λ (k : StoreModel). ExplainGives k.store c.args.name.now (Err c.in-Err.refusal)) c.self.view_is
     (none_explained old.engine c.laws.ensures old.unions.items old.order.items old.sessions.items
     old.affected.items c.self.invariant.listed c.args.name.now
     (no_union old.unions.items c.as_slice.result.now c.args.name.now c.as_slice.ensures.value c.in_default.ensures)

@@ -4,7 +4,7 @@ use Rattle.std.specs.Prelude.{Option, Some, IsSomeAnd, ⊤}
 use Rattle.djq_model.specs.Listed.{a_union, listed_of}
 use Rattle.djq_store_spec.specs.Asking.{TellsWhether, has_steps}
 use Rattle.djq_store_spec.specs.Registering.{atoms_of}
-use Rattle.djq_engine.specs.Kept.{Kept}
+use Rattle.djq_engine.specs.StoreModel.{StoreModel}
 use Rattle.djq_united.specs.United.{AreMembers}
 use Rattle.djq_store.specs.Asking.{TellsMembership, asked_in}
 use Rattle.djq_store.specs.declared.joined.Joined.{Joined}
@@ -18,14 +18,14 @@ pub returns-in_default : goal.returns-in_default
 returns-in_default g c =
     let old = c.self.inside.parts in
     record {
-      tells = subst (λ (k : Kept). TellsWhether k.store c.args.name.now c.args.tuple.now c.has.result) c.self.view_is
+      tells = subst (λ (k : StoreModel). TellsWhether k.store c.args.name.now c.args.tuple.now c.has.result) c.self.view_is
           (query_tells old.engine c.laws.ensures old.unions.items old.order.items old.sessions.items
           old.affected.items c.self.invariant.listed
           c.args.name.now c.args.tuple.now c.has.result
           (no_union old.unions.items c.as_slice.result.now c.args.name.now c.as_slice.ensures.value
           c.in_default.ensures)
           c.has.ensures.tells);
-      counted = subst (λ (k : Kept). c.has.new.listing ≤ c.args.listing.now + has_steps (listed_of k.store.queries
+      counted = subst (λ (k : StoreModel). c.has.new.listing ≤ c.args.listing.now + has_steps (listed_of k.store.queries
           c.args.name.now))
           c.self.view_is
           (subst (λ (n : ℕ). c.has.new.listing ≤ c.args.listing.now + n)
@@ -70,7 +70,7 @@ returns g c =
     ∙ ap (λ (j : Joined). j.union.members)
     (same_slot old.unions.items c.in-Some.slot c.joined_in-joined.result.now f.union found f.there) in
     record {
-      tells = subst (λ (k : Kept). TellsWhether k.store c.args.name.now c.args.tuple.now c.some_has.result)
+      tells = subst (λ (k : StoreModel). TellsWhether k.store c.args.name.now c.args.tuple.now c.some_has.result)
           c.self.view_is
           (union_tells old.engine c.laws.ensures old.unions.items old.order.items old.sessions.items
           old.affected.items c.self.invariant.listed
@@ -78,7 +78,7 @@ returns g c =
           (subst (λ (ks : List ℕ). TellsMembership (old.engine.store).relations
           (a_union f.union.union.name (asked_in old.engine.places ks)) c.args.tuple.now c.some_has.result) same
           (c.some_has.ensures.tells f.union.union.name)));
-      counted = subst (λ (k : Kept). c.some_has.new.listing ≤ c.args.listing.now + has_steps
+      counted = subst (λ (k : StoreModel). c.some_has.new.listing ≤ c.args.listing.now + has_steps
           (listed_of k.store.queries c.args.name.now)) c.self.view_is
           (subst (λ (n : ℕ). c.some_has.new.listing ≤ c.args.listing.now + n)
           (ap (λ (ks : List ℕ). atoms_of (asked_in old.engine.places ks)) same

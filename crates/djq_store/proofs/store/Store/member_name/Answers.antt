@@ -2,7 +2,7 @@
 use Rattle.std.proofs.Common.{◌≡◌, ◌<◌, ◌∙◌, ℕ, List, length, get_or, sym, subst, ap, arith}
 use Rattle.std.specs.Prelude.{Option, Some, IsSomeAnd, map, slice_get, ⊤}
 use Rattle.djq_model.specs.Listed.{listed_name, listed_of, members_of}
-use Rattle.djq_engine.specs.Kept.{Kept, IsRegistered, registered_at}
+use Rattle.djq_engine.specs.StoreModel.{StoreModel, IsRegistered, registered_at}
 use Rattle.djq_engine.specs.Places.{id_at}
 use Rattle.djq_store.specs.declared.joined.Joined.{Joined}
 use Rattle.djq_store.specs.Explaining.{HasMember}
@@ -17,7 +17,7 @@ unreachable-requires c =
     no_member old.engine c.laws.ensures old.unions.items old.order.items old.sessions.items
     old.affected.items c.self.invariant.listed c.args.union.now c.args.nth
     (no_union old.unions.items c.as_slice.result.now c.args.union.now c.as_slice.ensures.value c.in_default.ensures)
-    (subst (λ (k : Kept). HasMember k.store c.args.union.now c.args.nth) (sym c.self.view_is) c.requires)
+    (subst (λ (k : StoreModel). HasMember k.store c.args.union.now c.args.nth) (sym c.self.view_is) c.requires)
 
 pub joined_in-joined-requires : goal.joined_in-joined-requires
 joined_in-joined-requires c =
@@ -40,7 +40,7 @@ bounds-members-nth c =
     (same_slot old.unions.items c.in-Some.slot c.joined_in-joined.result.now f.union found f.there) in
     let low = member_below old.engine c.laws.ensures old.unions.items old.order.items old.sessions.items
     old.affected.items c.self.invariant.listed c.args.union.now c.args.nth c.in-Some.slot f
-    (subst (λ (k : Kept). HasMember k.store c.args.union.now c.args.nth) (sym c.self.view_is) c.requires) in
+    (subst (λ (k : StoreModel). HasMember k.store c.args.union.now c.args.nth) (sym c.self.view_is) c.requires) in
     subst (λ (ks : List ℕ). c.args.nth < length ks) (sym same) low
 
 pub offset_bounds-members-nth : goal.offset_bounds-members-nth
@@ -55,7 +55,7 @@ offset_bounds-members-nth c =
     (same_slot old.unions.items c.in-Some.slot c.joined_in-joined.result.now f.union found f.there) in
     let low = member_below old.engine c.laws.ensures old.unions.items old.order.items old.sessions.items
     old.affected.items c.self.invariant.listed c.args.union.now c.args.nth c.in-Some.slot f
-    (subst (λ (k : Kept). HasMember k.store c.args.union.now c.args.nth) (sym c.self.view_is) c.requires) in
+    (subst (λ (k : StoreModel). HasMember k.store c.args.union.now c.args.nth) (sym c.self.view_is) c.requires) in
     let few = (c.self.invariant.listed.united c.in-Some.slot f.union f.there).members.have.few in omega
     (arith, low, few)
 
@@ -71,7 +71,7 @@ query_name-requires c =
     (same_slot old.unions.items c.in-Some.slot c.joined_in-joined.result.now f.union found f.there) in
     let low = member_below old.engine c.laws.ensures old.unions.items old.order.items old.sessions.items
     old.affected.items c.self.invariant.listed c.args.union.now c.args.nth c.in-Some.slot f
-    (subst (λ (k : Kept). HasMember k.store c.args.union.now c.args.nth) (sym c.self.view_is) c.requires) in
+    (subst (λ (k : StoreModel). HasMember k.store c.args.union.now c.args.nth) (sym c.self.view_is) c.requires) in
     subst (λ (ks : List ℕ). IsRegistered old.engine (id_at (get_or ks c.args.nth 0))) (sym same)
     (member_registered old.engine c.laws.ensures old.unions.items old.order.items old.sessions.items
     old.affected.items c.self.invariant.listed c.args.union.now c.args.nth c.in-Some.slot f low)
@@ -88,8 +88,8 @@ returns c =
     (same_slot old.unions.items c.in-Some.slot c.joined_in-joined.result.now f.union found f.there) in
     let low = member_below old.engine c.laws.ensures old.unions.items old.order.items old.sessions.items
     old.affected.items c.self.invariant.listed c.args.union.now c.args.nth c.in-Some.slot f
-    (subst (λ (k : Kept). HasMember k.store c.args.union.now c.args.nth) (sym c.self.view_is) c.requires) in
-    subst (λ (k : Kept). IsSomeAnd (listed_of k.store.queries c.args.union.now)
+    (subst (λ (k : StoreModel). HasMember k.store c.args.union.now c.args.nth) (sym c.self.view_is) c.requires) in
+    subst (λ (k : StoreModel). IsSomeAnd (listed_of k.store.queries c.args.union.now)
     (λ q. slice_get (map (λ m. m.name) (members_of q)) c.args.nth ≡ Some c.query_name.result)) c.self.view_is
     (member_named old.engine c.laws.ensures old.unions.items old.order.items old.sessions.items
     old.affected.items c.self.invariant.listed c.args.union.now c.args.nth c.in-Some.slot f c.query_name.result low

@@ -1,7 +1,7 @@
 -- A fresh cursor is the engine's where its place is below 256, and else its union can be asked for more.
 use Rattle.std.proofs.Common.{List, ◌-◌, sym, subst}
 use Rattle.djq_engine.specs.declared.cursor.CursorId.{CursorId}
-use Rattle.djq_engine.specs.Kept.{Kept, MoreGives, IsFresh}
+use Rattle.djq_engine.specs.StoreModel.{StoreModel, MoreGives, IsFresh}
 use Rattle.std.specs.Prelude.{Option, IsSomeAnd}
 use Rattle.djq_live_query.specs.Live.{Live}
 use Rattle.djq_united.specs.United.{AreKept}
@@ -17,7 +17,7 @@ more-more-requires g c =
     let old = c.self.inside.parts in
     fresh_in_engine old.engine c.laws.ensures old.unions.items old.order.items old.sessions.items
     old.affected.items c.self.invariant.listed c.args.id c.if-id-lt-QUERIES.true
-    (subst (λ (k : Kept). IsFresh k c.args.id) (sym c.self.view_is) c.requires)
+    (subst (λ (k : StoreModel). IsFresh k c.args.id) (sym c.self.view_is) c.requires)
 
 pub invariant_of-self : goal.invariant_of-self
 invariant_of-self g c =
@@ -37,7 +37,7 @@ returns-then-id-lt-QUERIES g c =
     c.more-more.ensures.gives in
     let rests = rests_with old.engine e' c.laws.ensures c.laws-then-id-lt-QUERIES.ensures
     staying_laws c.more-more.ensures.places same.0 in
-    subst (λ (k : Kept). MoreGives k c.args.id c.more-more.result
+    subst (λ (k : StoreModel). MoreGives k c.args.id c.more-more.result
     (store_seen e' old.unions.items old.order.items old.sessions.items old.affected.items) c.args.listing.now
     c.more-more.new.listing) c.self.view_is
     (more_over old.engine e' rests old.unions.items old.order.items old.sessions.items old.affected.items
@@ -51,7 +51,7 @@ more_at-requires-clause-fresh g c =
     (IsUnionFresh qs c.args.id.cursor)) (sym c.places-queries.ensures)
     (freshly old.engine c.laws.ensures old.unions.items old.order.items old.sessions.items
     old.affected.items c.self.invariant.listed c.args.id c.if-id-lt-QUERIES.false
-    (subst (λ (k : Kept). IsFresh k c.args.id) (sym c.self.view_is) c.requires))
+    (subst (λ (k : StoreModel). IsFresh k c.args.id) (sym c.self.view_is) c.requires))
 
 pub more_at-requires-clause-kept : goal.more_at-requires-clause-kept
 more_at-requires-clause-kept g c = (
@@ -90,7 +90,7 @@ returns g c =
     subst (λ (id : CursorId). MoreGives c.args.self.now id c.more_at.result
     (store_seen old.engine c.more_at.new.unions.items old.order.items old.sessions.items old.affected.items)
     c.args.listing.now c.more_at.new.listing) (id_is c.args.id c.if-id-lt-QUERIES.false)
-    (subst (λ (k : Kept). MoreGives k (cursor_of at c.args.id.cursor) c.more_at.result
+    (subst (λ (k : StoreModel). MoreGives k (cursor_of at c.args.id.cursor) c.more_at.result
     (store_seen old.engine c.more_at.new.unions.items old.order.items old.sessions.items old.affected.items)
     c.args.listing.now c.more_at.new.listing) c.self.view_is
     (more_union old.engine c.laws.ensures old.unions.items old.order.items old.sessions.items

@@ -1,7 +1,7 @@
 -- A held cursor is the engine's or stands in its union's slot, and reading it leaves all others as they were.
 use Rattle.std.proofs.Common.{List, ◌-◌, sym, subst}
 use Rattle.djq_engine.specs.declared.cursor.CursorId.{CursorId}
-use Rattle.djq_engine.specs.Kept.{Kept, IsHeld}
+use Rattle.djq_engine.specs.StoreModel.{StoreModel, IsHeld}
 use Rattle.std.specs.Prelude.{Option, IsSomeAnd}
 use Rattle.djq_live_query.specs.Live.{Live}
 use Rattle.djq_united.specs.United.{AreKept}
@@ -18,7 +18,7 @@ next-next-requires g c =
     let old = c.self.inside.parts in
     held_in_engine old.engine c.laws.ensures old.unions.items old.order.items old.sessions.items
     old.affected.items c.self.invariant.listed c.args.id c.if-id-lt-QUERIES.true
-    (subst (λ (k : Kept). IsHeld k c.args.id) (sym c.self.view_is) c.requires)
+    (subst (λ (k : StoreModel). IsHeld k c.args.id) (sym c.self.view_is) c.requires)
 
 pub invariant_of-self : goal.invariant_of-self
 invariant_of-self g c =
@@ -38,7 +38,7 @@ returns-then-id-lt-QUERIES g c =
     c.next-next.new.listing c.next-next.ensures.gives in
     let rests = rests_with old.engine e' c.laws.ensures c.laws-then-id-lt-QUERIES.ensures
     staying_laws c.next-next.ensures.places same.0 in
-    subst (λ (k : Kept). NextGives k c.args.id c.next-next.result c.next-next.new.answer
+    subst (λ (k : StoreModel). NextGives k c.args.id c.next-next.result c.next-next.new.answer
     (store_seen e' old.unions.items old.order.items old.sessions.items old.affected.items) c.args.listing.now
     c.next-next.new.listing) c.self.view_is
     (next_over old.engine e' rests old.unions.items old.order.items old.sessions.items old.affected.items
@@ -52,7 +52,7 @@ next_at-requires-clause-readable g c =
     (IsUnionReadable qs c.args.id.cursor)) (sym c.places-queries.ensures)
     (readable old.engine c.laws.ensures old.unions.items old.order.items old.sessions.items
     old.affected.items c.self.invariant.listed c.args.id c.if-id-lt-QUERIES.false
-    (subst (λ (k : Kept). IsHeld k c.args.id) (sym c.self.view_is) c.requires))
+    (subst (λ (k : StoreModel). IsHeld k c.args.id) (sym c.self.view_is) c.requires))
 
 pub next_at-requires-clause-kept : goal.next_at-requires-clause-kept
 next_at-requires-clause-kept g c = (
@@ -91,7 +91,7 @@ returns g c =
     subst (λ (id : CursorId). NextGives c.args.self.now id c.next_at.result c.next_at.new.answer
     (store_seen old.engine c.next_at.new.unions.items old.order.items old.sessions.items old.affected.items)
     c.args.listing.now c.next_at.new.listing) (id_is c.args.id c.if-id-lt-QUERIES.false)
-    (subst (λ (k : Kept). NextGives k (cursor_of at c.args.id.cursor) c.next_at.result c.next_at.new.answer
+    (subst (λ (k : StoreModel). NextGives k (cursor_of at c.args.id.cursor) c.next_at.result c.next_at.new.answer
     (store_seen old.engine c.next_at.new.unions.items old.order.items old.sessions.items old.affected.items)
     c.args.listing.now c.next_at.new.listing) c.self.view_is
     (next_union old.engine c.laws.ensures old.unions.items old.order.items old.sessions.items

@@ -1,6 +1,6 @@
 -- Where no union has the name the engine's cursor is the store's; else it comes to the union in the slot.
 use Rattle.std.proofs.Common.{sym, subst}
-use Rattle.djq_engine.specs.Kept.{Kept, CursorOpenGives}
+use Rattle.djq_engine.specs.StoreModel.{StoreModel, CursorOpenGives}
 use Rattle.djq_store.specs.Places.{store_kept_in, store_seen}
 use Rattle.djq_store.proofs.UnionSlots.{cursor_of}
 use Rattle.djq_store.proofs.UnionCursors.{open_union, open_lacks, opened_listed, opened_counted}
@@ -24,7 +24,7 @@ returns-in_default c =
     let rests = opened_rests old.engine e' c.laws.ensures c.laws-in_default.ensures
     staying_laws
     c.open-opened.ensures.places c.args.name.now c.open-opened.result c.open-opened.ensures.gives in
-    subst (λ (k : Kept). CursorOpenGives k c.args.name.now c.open-opened.result
+    subst (λ (k : StoreModel). CursorOpenGives k c.args.name.now c.open-opened.result
     (store_kept_in (record old { engine = e' })))
     c.self.view_is
     (open_over old.engine e' rests old.unions.items old.order.items old.sessions.items old.affected.items
@@ -57,7 +57,7 @@ returns c =
     let old = c.self.inside.parts in
     let f = found_union old.unions.items c.as_slice.result.now c.args.name.now c.in-Some.slot c.as_slice.ensures.value
     c.in-Some.ensures in
-    subst (λ (k : Kept). CursorOpenGives k c.args.name.now (Ok (cursor_of c.in-Some.slot c.in-Ok.cursor))
+    subst (λ (k : StoreModel). CursorOpenGives k c.args.name.now (Ok (cursor_of c.in-Some.slot c.in-Ok.cursor))
     (store_seen old.engine c.open_at.new.unions.items old.order.items old.sessions.items old.affected.items))
     c.self.view_is
     (open_union old.engine c.laws.ensures old.unions.items old.order.items old.sessions.items
@@ -69,7 +69,7 @@ returns-in_default-open_at c =
     let old = c.self.inside.parts in
     let f = found_union old.unions.items c.as_slice.result.now c.args.name.now c.in-Some.slot c.as_slice.ensures.value
     c.in-Some.ensures in
-    subst (λ (k : Kept). CursorOpenGives k c.args.name.now (Err NoMemory)
+    subst (λ (k : StoreModel). CursorOpenGives k c.args.name.now (Err NoMemory)
     (store_seen old.engine c.open_at.new.unions.items old.order.items old.sessions.items old.affected.items))
     c.self.view_is
     (open_lacks old.engine c.laws.ensures old.unions.items old.order.items old.sessions.items

@@ -6,7 +6,7 @@ use Rattle.djq_protocol.specs.declared.answer.Refusal.TheVariants.{Taken, Limit}
 use Rattle.djq_protocol.specs.declared.rest.QueryOutcome.{QueryOutcome}
 use Rattle.djq_protocol.specs.declared.limits.TheConstants.{QUERIES}
 use Rattle.djq_store_spec.specs.Registering.{RegistersQuery}
-use Rattle.djq_engine.specs.Kept.{Kept, SameCursors}
+use Rattle.djq_engine.specs.StoreModel.{StoreModel, SameCursors}
 use Rattle.djq_engine.specs.Watching.{Enrols, EnrolsTelling}
 use Rattle.djq_store.specs.Places.{store_seen, cursors_in}
 use Rattle.djq_store.specs.Whole.{IsListed}
@@ -25,7 +25,7 @@ returns-then-is_some-clause-registers g c =
     let w = c.self.invariant.listed in
     let f = sought_some old.unions.items c.as_slice.result.now c.args.query.name c.as_slice.ensures.value
     c.find_union.result c.find_union.ensures (sym c.is_some.ensures ∙ c.if-is_some.true) in
-    subst (λ (k : Kept). RegistersQuery k.store c.args.query (Err Taken) k.store) c.self.view_is
+    subst (λ (k : StoreModel). RegistersQuery k.store c.args.query (Err Taken) k.store) c.self.view_is
     (refused e c.laws.ensures old.unions.items old.order.items old.sessions.items old.affected.items w
     c.args.query Taken (taken_refusal e c.laws.ensures old.unions.items old.order.items
     old.sessions.items old.affected.items w c.args.query f.0 f.1))
@@ -40,7 +40,7 @@ returns-then-len-ge-QUERIES-clause-registers g c =
     let full : QUERIES ≤ length old.order.items = omega (arith, c.if-len-ge-QUERIES.true, c.len.ensures) in
     subst (λ (x : Refusal). RegistersQuery c.args.self.now.store c.args.query (Err x) c.args.self.now.store)
     (sym c.unwrap_or.ensures)
-    (subst (λ (k : Kept). RegistersQuery k.store c.args.query (Err (unwrap_or c.query_fault-fault.result Limit))
+    (subst (λ (k : StoreModel). RegistersQuery k.store c.args.query (Err (unwrap_or c.query_fault-fault.result Limit))
     k.store) c.self.view_is
     (refused e c.laws.ensures old.unions.items old.order.items old.sessions.items old.affected.items w
     c.args.query (unwrap_or c.query_fault-fault.result Limit)
@@ -98,7 +98,7 @@ returns-in-Some met c =
     c.query-outcome.ensures.enrols in
     let t = subst (λ (x : Result QueryOutcome Refusal). EnrolsTelling e q x e') o.is c.query-outcome.ensures.tellings in
     record {
-      registers = subst (λ (k : Kept). RegistersQuery k.store q result
+      registers = subst (λ (k : StoreModel). RegistersQuery k.store q result
           (store_seen e' old.unions.items c.push_reserved.new.self.items (set old.sessions.items c.in-Some.id.at 0)
           old.affected.items).store) c.self.view_is
           (subst (λ (xs : List ℕ). RegistersQuery
@@ -113,10 +113,10 @@ returns-in-Some met c =
           (registered_registers e e' r old.unions.items old.order.items old.sessions.items old.affected.items w q none
           less
           o.most g en c.in-Some.id c.in-Some.ensures)));
-      cursors = subst (λ (k : Kept). SameCursors k.cursors (cursors_in e' old.unions.items)) c.self.view_is
+      cursors = subst (λ (k : StoreModel). SameCursors k.cursors (cursors_in e' old.unions.items)) c.self.view_is
           (cursors_over e e' r old.unions.items old.order.items old.sessions.items old.affected.items w
           c.query-outcome.ensures.cursors);
-      enrols = subst (λ (k : Kept). Enrols k.registered q result
+      enrols = subst (λ (k : StoreModel). Enrols k.registered q result
           (store_seen e' old.unions.items c.push_reserved.new.self.items (set old.sessions.items c.in-Some.id.at 0)
           old.affected.items).registered) c.self.view_is
           (subst (λ (xs : List ℕ). Enrols
@@ -130,7 +130,7 @@ returns-in-Some met c =
           old.affected.items).registered) (sym o.is)
           (registered_enrols e e' r old.unions.items old.order.items old.sessions.items old.affected.items w q none less
           o.most g en c.in-Some.id c.in-Some.ensures c.self.invariant.counted.long)));
-      tellings = subst (λ (k : Kept). EnrolsTelling k q result
+      tellings = subst (λ (k : StoreModel). EnrolsTelling k q result
           (store_seen e' old.unions.items c.push_reserved.new.self.items (set old.sessions.items c.in-Some.id.at 0)
           old.affected.items)) c.self.view_is
           (subst (λ (xs : List ℕ). EnrolsTelling
@@ -185,19 +185,19 @@ returns-else-is_registered met c =
     c.query-outcome.ensures.places q result c.query-outcome.ensures.registers in
     let not_registered = sym c.is_registered.ensures ∙ c.if-is_registered.false in
     record {
-      registers = subst (λ (k : Kept). RegistersQuery k.store q result
+      registers = subst (λ (k : StoreModel). RegistersQuery k.store q result
           (store_seen e' old.unions.items old.order.items old.sessions.items old.affected.items).store) c.self.view_is
           (unregistered e e' r old.unions.items old.order.items old.sessions.items old.affected.items w q none less
           old.sessions.items old.affected.items result not_registered c.query-outcome.ensures.registers);
-      cursors = subst (λ (k : Kept). SameCursors k.cursors (cursors_in e' old.unions.items)) c.self.view_is
+      cursors = subst (λ (k : StoreModel). SameCursors k.cursors (cursors_in e' old.unions.items)) c.self.view_is
           (cursors_over e e' r old.unions.items old.order.items old.sessions.items old.affected.items w
           c.query-outcome.ensures.cursors);
-      enrols = subst (λ (k : Kept). Enrols k.registered q result
+      enrols = subst (λ (k : StoreModel). Enrols k.registered q result
           (store_seen e' old.unions.items old.order.items old.sessions.items old.affected.items).registered)
           c.self.view_is
           (unregistered_enrols e e' r old.unions.items old.order.items old.sessions.items old.affected.items w q none
           less old.sessions.items old.affected.items result not_registered);
-      tellings = subst (λ (k : Kept). EnrolsTelling k q result
+      tellings = subst (λ (k : StoreModel). EnrolsTelling k q result
           (store_seen e' old.unions.items old.order.items old.sessions.items old.affected.items)) c.self.view_is
           (unregistered_tells e e' r old.unions.items old.order.items old.sessions.items old.affected.items w q none
           less old.sessions.items old.affected.items result not_registered c.query-outcome.ensures.tellings);

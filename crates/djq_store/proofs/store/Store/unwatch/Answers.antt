@@ -3,7 +3,7 @@ use Rattle.std.proofs.Common.{◌≡◌, ◌-◌, ◌<◌, ◌≤◌, ℕ, set, 
 use Rattle.std.proofs.Math.Nat.{add-sub_of_le}
 use Rattle.std.specs.Prelude.{IsSomeAnd}
 use Rattle.djq_protocol.specs.declared.limits.TheConstants.{SESSIONS}
-use Rattle.djq_engine.specs.Kept.{Kept, registered_at, with_watchers}
+use Rattle.djq_engine.specs.StoreModel.{StoreModel, registered_at, with_watchers}
 use Rattle.djq_engine.specs.Places.{id_at}
 use Rattle.djq_store.specs.Places.{store_kept_in, store_seen}
 use Rattle.djq_store.specs.Whole.{IsListed, IsCounted}
@@ -17,7 +17,7 @@ unwatch-requires c =
     let old = c.self.inside.parts in
     let has = registered_has old.engine c.laws.ensures old.unions.items old.order.items
     c.self.invariant.listed old.sessions.items c.args.id (λ r. 0 < r.watchers)
-    (subst (λ (k : Kept). IsSomeAnd (registered_at k.registered c.args.id) (λ r. 0 < r.watchers))
+    (subst (λ (k : StoreModel). IsSomeAnd (registered_at k.registered c.args.id) (λ r. 0 < r.watchers))
     (sym c.self.view_is) c.requires) in
     some_watch old.engine c.laws.ensures old.unions.items old.order.items old.sessions.items
     old.affected.items c.self.invariant.listed c.self.invariant.counted c.args.id c.if-id-lt-QUERIES.true has.0
@@ -28,7 +28,7 @@ invariant_of-self c =
     let old = c.self.inside.parts in
     let has = registered_has old.engine c.laws.ensures old.unions.items old.order.items
     c.self.invariant.listed old.sessions.items c.args.id (λ r. 0 < r.watchers)
-    (subst (λ (k : Kept). IsSomeAnd (registered_at k.registered c.args.id) (λ r. 0 < r.watchers))
+    (subst (λ (k : StoreModel). IsSomeAnd (registered_at k.registered c.args.id) (λ r. 0 < r.watchers))
     (sym c.self.view_is) c.requires) in
     let m = c.index_mut.result.now in
     let read = read_here old.engine c.laws.ensures old.unions.items old.order.items old.sessions.items
@@ -40,11 +40,11 @@ invariant_of-self c =
     let some : 0 < m = omega (arith, has.1, are) in
     let few : m - 1 ≤ SESSIONS = omega (arith, are, c.self.invariant.counted.few c.args.id.at) in
     record {
-      listed = subst (λ (k : Kept). IsListed k old.unions.items old.order.items) (sym c.unwatch.ensures)
+      listed = subst (λ (k : StoreModel). IsListed k old.unions.items old.order.items) (sym c.unwatch.ensures)
           (query_listed old.engine c.laws.ensures old.unions.items old.order.items old.sessions.items
           old.affected.items c.self.invariant.listed c.self.invariant.counted c.args.id c.if-id-lt-QUERIES.true has.0
           (λ n. n - 1) (m - 1) (ap (λ k. k - 1) read) few (λ k. omega (arith, some, read)));
-      counted = subst (λ (k : Kept). IsCounted k old.unions.items (set old.sessions.items c.args.id.at (m - 1)))
+      counted = subst (λ (k : StoreModel). IsCounted k old.unions.items (set old.sessions.items c.args.id.at (m - 1)))
           (sym c.unwatch.ensures)
           (query_counted old.engine c.laws.ensures old.unions.items old.order.items old.sessions.items
           old.affected.items c.self.invariant.listed c.self.invariant.counted c.args.id c.if-id-lt-QUERIES.true has.0
@@ -57,7 +57,7 @@ returns-then-id-lt-QUERIES c =
     let old = c.self.inside.parts in
     let has = registered_has old.engine c.laws.ensures old.unions.items old.order.items
     c.self.invariant.listed old.sessions.items c.args.id (λ r. 0 < r.watchers)
-    (subst (λ (k : Kept). IsSomeAnd (registered_at k.registered c.args.id) (λ r. 0 < r.watchers))
+    (subst (λ (k : StoreModel). IsSomeAnd (registered_at k.registered c.args.id) (λ r. 0 < r.watchers))
     (sym c.self.view_is) c.requires) in
     let m = c.index_mut.result.now in
     let read = read_here old.engine c.laws.ensures old.unions.items old.order.items old.sessions.items
@@ -68,10 +68,10 @@ returns-then-id-lt-QUERIES c =
     c.index_mut.ensures.value in
     let some : 0 < m = omega (arith, has.1, are) in
     let few : m - 1 ≤ SESSIONS = omega (arith, are, c.self.invariant.counted.few c.args.id.at) in
-    subst (λ (k : Kept). store_seen c.unwatch.new.self old.unions.items old.order.items
+    subst (λ (k : StoreModel). store_seen c.unwatch.new.self old.unions.items old.order.items
     (set old.sessions.items c.args.id.at (m - 1)) old.affected.items
     ≡ record k { registered = with_watchers c.args.id (λ n. n - 1) k.registered }) c.self.view_is
-    (subst (λ (x : Kept). store_seen x old.unions.items old.order.items (set old.sessions.items c.args.id.at (m - 1))
+    (subst (λ (x : StoreModel). store_seen x old.unions.items old.order.items (set old.sessions.items c.args.id.at (m - 1))
     old.affected.items ≡ record (store_kept_in old)
     { registered = with_watchers c.args.id (λ n. n - 1) (store_kept_in old).registered }) (sym c.unwatch.ensures)
     (query_seen old.engine c.laws.ensures old.unions.items old.order.items old.sessions.items
@@ -83,7 +83,7 @@ overflow_sub-index_mut c =
     let old = c.self.inside.parts in
     let has = registered_has old.engine c.laws.ensures old.unions.items old.order.items
     c.self.invariant.listed old.sessions.items c.args.id (λ r. 0 < r.watchers)
-    (subst (λ (k : Kept). IsSomeAnd (registered_at k.registered c.args.id) (λ r. 0 < r.watchers))
+    (subst (λ (k : StoreModel). IsSomeAnd (registered_at k.registered c.args.id) (λ r. 0 < r.watchers))
     (sym c.self.view_is) c.requires) in
     let m = c.index_mut.result.now in
     let read = read_here old.engine c.laws.ensures old.unions.items old.order.items old.sessions.items
@@ -99,7 +99,7 @@ unwatch_union-requires-clause-some c =
     let old = c.self.inside.parts in
     let has = registered_has old.engine c.laws.ensures old.unions.items old.order.items
     c.self.invariant.listed old.sessions.items c.args.id (λ r. 0 < r.watchers)
-    (subst (λ (k : Kept). IsSomeAnd (registered_at k.registered c.args.id) (λ r. 0 < r.watchers))
+    (subst (λ (k : StoreModel). IsSomeAnd (registered_at k.registered c.args.id) (λ r. 0 < r.watchers))
     (sym c.self.view_is) c.requires) in
     union_has old.engine c.laws.ensures old.unions.items old.order.items old.sessions.items
     c.self.invariant.listed c.args.id c.if-id-lt-QUERIES.false has.0 (λ n. 0 < n) has.1
@@ -108,7 +108,7 @@ pub returns : goal.returns
 returns c =
     let old = c.self.inside.parts in
     let new = c.unwatch_union.new.parts in
-    subst (λ (k : Kept). store_kept_in new
+    subst (λ (k : StoreModel). store_kept_in new
     ≡ record k { registered = with_watchers c.args.id (λ n. n - 1) k.registered })
     c.self.view_is
     (subst (λ (n : ℕ). store_kept_in new

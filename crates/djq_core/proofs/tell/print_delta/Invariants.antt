@@ -1,6 +1,0 @@
-use Rattle.djq_engine.specs.Kept.{told_at}
-use Rattle.djq_core.proofs.Printing.{PrintsSoFar}
-use Rattle.djq_core.proofs.tell.print_delta.Given as goal
-
-abbrev pub invariant-loop-nth : goal.invariant-loop-nth
-invariant-loop-nth l = PrintsSoFar (told_at l.fn.engine l.fn.id) l.query l.count l.nth l.fn.text.items l.text.items

@@ -1,5 +1,0 @@
-use Rattle.djq_core.proofs.ChangeReplies.{UnwatchedTo}
-use Rattle.djq_core.proofs.tell.some_watched.Given as goal
-
-abbrev pub invariant-loop-nth : goal.invariant-loop-nth
-invariant-loop-nth l = UnwatchedTo l.fn.engine l.nth

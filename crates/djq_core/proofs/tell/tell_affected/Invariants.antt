@@ -1,5 +1,0 @@
-use Rattle.djq_core.proofs.Deltas.{AffectedSoFar}
-use Rattle.djq_core.proofs.tell.tell_affected.Given as goal
-
-abbrev pub invariant-loop-nth : goal.invariant-loop-nth
-invariant-loop-nth l = AffectedSoFar l.fn.engine l.fn.sessions l.nth l.engine l.sessions

@@ -1,6 +1,0 @@
-use Rattle.djq_core.proofs.Deltas.{TellsSoFar}
-use Rattle.djq_core.proofs.tell.tell_query.Given as goal
-
-abbrev pub invariant-loop-at : goal.invariant-loop-at
-invariant-loop-at l = TellsSoFar l.query l.whole l.text.items l.fn.engine l.fn.sessions l.at l.engine
-    l.sessions
